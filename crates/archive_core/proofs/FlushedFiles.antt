@@ -21,7 +21,7 @@ use Rattle.durable_write.specs.Held.{Filed, IsFiled, IsListed, filed_at, samples
 use Rattle.durable_write.specs.Plan.{of_row}
 use Rattle.durable_write.specs.Revival.{AreUnlisted}
 use Rattle.durable_write.proofs.Listed.{found, rise_filter, rise_put_all}
-use Rattle.durable_write.proofs.PutFile.{later, sooner}
+use Rattle.durable_write.proofs.PutFile.{sooner}
 use Rattle.durable_write.proofs.Revival.{listed_stays, one_of_place}
 use Rattle.durable_write.proofs.Steps.{of_files}
 use Rattle.tier_store.proofs.Revived.{row_within, row_put_all, split, cut}

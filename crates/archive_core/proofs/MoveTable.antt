@@ -50,7 +50,6 @@ use Rattle.act_model.specs.Changes.{no_doubt}
 use Rattle.act_model.specs.Outcome.{runs}
 use Rattle.act_model.specs.Reply.{Reply, reply_of}
 use Rattle.act_model.specs.Step.{store_of}
-use Rattle.act_model.specs.declared.answers.MoveBegun.{MoveBegun}
 use Rattle.act_model.proofs.MoveActs.{move_begin_sound}
 use Rattle.archive_core.specs.Ends.{AskEnds, is_spent, is_answered}
 use Rattle.archive_core.specs.Moving.{BeginsThere}

@@ -1,6 +1,6 @@
 -- A variable gets a new name: as the machine has it, in memory, and as an act.
-use Rattle.std.proofs.Common.{◌≡◌, ◌≢◌, ◌<◌, List, [], ◌∷◌, ◌++◌, length, take, Bool, true, false, Option, Some, None, Err, refl, sym, ◌∙◌, ap, subst, arith, Result, ℕ}
-use Rattle.std.specs.Prelude.{◌-◌, ◌&&◌, IsTrue, IfSome, slice_get, slice_set}
+use Rattle.std.proofs.Common.{◌≡◌, ◌≢◌, ◌<◌, List, [], ◌∷◌, ◌++◌, length, take, Bool, true, false, Option, Some, None, Err, refl, sym, ◌∙◌, ap, subst, Result, ℕ}
+use Rattle.std.specs.Prelude.{◌-◌, slice_get, slice_set}
 use Rattle.std.proofs.lemmas.Option.{same_Some, slice_get_within}
 use Rattle.event_types.specs.declared.about.About.{About}
 use Rattle.event_types.specs.declared.about.State.{State}

@@ -23,7 +23,7 @@ use Rattle.tier_store.specs.Stores.{Stores}
 use Rattle.tier_store.specs.declared.limbo.Retired.{Retired}
 use Rattle.tier_store.proofs.Handing.{name_left}
 use Rattle.tier_store.proofs.Staying.{among_is, is_among, stay_cases, stay_from}
-use Rattle.act_model.specs.Changes.{made, retired, Retires}
+use Rattle.act_model.specs.Changes.{made, Retires}
 use Rattle.act_model.specs.Limbo.{FileState, unlisted}
 use Rattle.act_model.specs.Machine.{Machine, Change, Unlists}
 use Rattle.act_model.specs.OpenPiece.{name_of}

@@ -29,7 +29,7 @@ use Rattle.act_model.specs.Changes.{of_row}
 use Rattle.act_model.specs.Crash.{kept_of}
 use Rattle.act_model.specs.Limbo.{FileState, files_of, put, revived}
 use Rattle.act_model.specs.Machine.{Machine, Appends}
-use Rattle.act_model.specs.Rows.{RowState, Store, Short, deep, durable, holds}
+use Rattle.act_model.specs.Rows.{RowState, Store, Short, deep, durable}
 use Rattle.act_model.specs.Sound.{LimboSound, MayMake}
 use Rattle.archive_core.proofs.Making.{batch_behind, kept_to, taken_durable}
 use Rattle.archive_core.proofs.PutFirst.{StartBy, put_first}

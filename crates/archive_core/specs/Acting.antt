@@ -4,7 +4,7 @@ use Rattle.disk_model.specs.declared.disk.DiskErr.{DiskErr}
 use Rattle.durable_write.specs.Ends.{End}
 use Rattle.tier_store.specs.Change.{OnlySettles}
 use Rattle.tier_store.specs.Pinned.{LeavesFronts}
-use Rattle.tier_store.specs.Seen.{IsSettled, granularities}
+use Rattle.tier_store.specs.Seen.{granularities}
 use Rattle.act_model.specs.Machine.{Machine, Change}
 use Rattle.act_model.specs.Reply.{Reply}
 use Rattle.act_model.specs.Step.{Step, refuse_by, change_by}

@@ -85,4 +85,5 @@ set_by (Some doubt.Published) = None
 -- Where the doubted change sets a row's state, and the row has it, what is kept of the row is cleared. All else stays.
 pub record IsCleared (rows : List Row) (d : Option Doubt) (old new : List RowMemory) : Type 0 where
   pub other : ((row : ℕ) (to : State) → set_by d ≡ Some (row, to) → HasState rows row to → ⊥) → new ≡ old
-  pub own : (row : ℕ) (to : State) → set_by d ≡ Some (row, to) → HasState rows row to → (memory : RowMemory) → slice_get old row ≡ Some memory → new ≡ slice_set old row (cleared memory)
+  pub own : (row : ℕ) (to : State) → set_by d ≡ Some (row, to) → HasState rows row to
+      → (memory : RowMemory) → slice_get old row ≡ Some memory → new ≡ slice_set old row (cleared memory)

@@ -49,7 +49,10 @@ next_in kept (Some i) = of (slice_get kept i)
 -- what is kept of a row as it is opened, where this is kept of the rows before it: it takes what is later than all that is listed of it, and
 -- than all that its base has
 abbrev pub memory_of : List ManifestState → List RowMemory → Row → RowMemory
-memory_of manifests before row = record { next = max (max (max (end_at manifests 2 row.id) (end_at manifests 1 row.id)) (end_at manifests 0 row.id)) (next_in before row.base); scan = sampling_by row.about.method }
+memory_of manifests before row = record {
+  next = max (max (max (end_at manifests 2 row.id) (end_at manifests 1 row.id)) (end_at manifests 0 row.id)) (next_in before row.base);
+  scan = sampling_by row.about.method;
+}
 
 -- so it is kept of one row after another
 abbrev pub memories : List ManifestState → List RowMemory → List Row → List RowMemory

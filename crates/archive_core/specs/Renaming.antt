@@ -45,7 +45,8 @@ pub record CanRename (p : Parts) (newname : List ℕ) (row : ℕ) : Type 0 where
 -- no row has the name, or the row that has it has this state and isn't paused, which is told with this change number
 abbrev pub IsUnpaused : List Row → List ℕ → ℕ → Unnamed → Type 0
 IsUnpaused rows name change unnamed.NoSuchVariable = IsFound rows name None
-IsUnpaused rows name change (unnamed.NotPaused state number) = (row : ℕ) × IsFound rows name (Some row) × HasState rows row state × (state ≢ Paused) × (number ≡ change)
+IsUnpaused rows name change (unnamed.NotPaused state number) =
+    (row : ℕ) × IsFound rows name (Some row) × HasState rows row state × (state ≢ Paused) × (number ≡ change)
 IsUnpaused rows name change _ = ⊥
 
 -- the moment of the last durable sample of the variable of this row, where what is held stands
@@ -54,12 +55,15 @@ IsLastDurable p row durable = (held : Stores) → IsKnown p.at.catalogue p.at.ma
 
 -- the row has a tail; the last accepted sample is at this moment, and the last durable one at the other
 abbrev pub HasTail : Parts → ℕ → Unnamed → Type 0
-HasTail p row (unnamed.NotDurable last durable) = (is_empty (tail_at p.tails row).samples ≡ false) × IfSome (slice_get p.kept row) (λ memory. last ≡ memory.next - 1) × IsLastDurable p row durable
+HasTail p row (unnamed.NotDurable last durable) =
+    (is_empty (tail_at p.tails row).samples ≡ false) × IfSome (slice_get p.kept row) (λ memory. last ≡ memory.next - 1) × IsLastDurable p row durable
 HasTail p row _ = ⊥
 
 -- Why the variable of this name gets no new one: it isn't paused; or its row is paused and the new name is refused, or not, and the row has a
 -- tail.
 pub data IsUnnamed (p : Parts) (name newname : List ℕ) (change : ℕ) : Unnamed → Type 0 where
   is_unpaused : {e : Unnamed} → IsUnpaused p.at.catalogue.rows name change e → IsUnnamed p name newname change e
-  is_taken : (row : ℕ) (e : RegisterErr) → IsFound p.at.catalogue.rows name (Some row) → HasState p.at.catalogue.rows row Paused → Refuses p.at.catalogue.rows newname e → IsUnnamed p name newname change (taken_as e)
-  has_tail : {e : Unnamed} (row : ℕ) → IsFound p.at.catalogue.rows name (Some row) → HasState p.at.catalogue.rows row Paused → ((other : RegisterErr) → Refuses p.at.catalogue.rows newname other → ⊥) → HasTail p row e → IsUnnamed p name newname change e
+  is_taken : (row : ℕ) (e : RegisterErr) → IsFound p.at.catalogue.rows name (Some row) → HasState p.at.catalogue.rows row Paused
+      → Refuses p.at.catalogue.rows newname e → IsUnnamed p name newname change (taken_as e)
+  has_tail : {e : Unnamed} (row : ℕ) → IsFound p.at.catalogue.rows name (Some row) → HasState p.at.catalogue.rows row Paused
+      → ((other : RegisterErr) → Refuses p.at.catalogue.rows newname other → ⊥) → HasTail p row e → IsUnnamed p name newname change e

@@ -93,13 +93,14 @@ pub record IsPartOf (count : ℕ) (part : RowSamples) : Type 0 where
   pub here : part.row < count
   pub some : is_empty part.samples ≡ false
 
--- A doubted row's memory is there already, also that of a row under a new name. A doubted state is another than the row has. A doubted batch is of rows that are there. Of a row whose
--- doubted copies may be listed, or whose doubted parts may have left, no move runs.
+-- A doubted row's memory is there already, also that of a row under a new name. A doubted state is another than the row has. A doubted batch is
+-- of rows that are there. Of a row whose doubted copies may be listed, or whose doubted parts may have left, no move runs.
 abbrev pub IsReady : List RowMemory → List RowState → FinMap nat_cmp MoveState → Option Change → Type 0
 IsReady kept rows moves None = Unit {0}
 IsReady kept rows moves (Some (AddsRow name about)) = slice_get kept (length rows) ≡ Some (fresh_memory about)
 IsReady kept rows moves (Some (SetsState i state)) = (r : RowState) × (slice_get rows i ≡ Some r) × (r.state ≢ state)
-IsReady kept rows moves (Some (Renames i name)) = (r : RowState) × (slice_get rows i ≡ Some r) × (slice_get kept (length rows) ≡ Some (renamed_memory r.about r.next))
+IsReady kept rows moves (Some (Renames i name)) =
+    (r : RowState) × (slice_get rows i ≡ Some r) × (slice_get kept (length rows) ≡ Some (renamed_memory r.about r.next))
 IsReady kept rows moves (Some (Appends batch)) = AllByRecursion (IsPartOf (length rows)) batch
 IsReady kept rows moves (Some (Publishes i store copied)) = HasRunning moves i → ⊥
 IsReady kept rows moves (Some (Unlists i store to)) = HasRunning moves i → ⊥

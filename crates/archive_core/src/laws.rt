@@ -89,7 +89,8 @@ pub fn turns_lose_no_more<D: Disk>()
 pub fn changes_are_the_machines()
     ensures register { (catalogue : CatalogueState) (ms : List ManifestState) (name : List ℕ) (about : About) (old new : Stores) (m : Machine) → IsKnown catalogue ms old → Registers name about old new → HoldsDurable old m → HoldsDurable new (made [] (AddsRow name about) m) }
     ensures switch { (row : ℕ) (from to : State) (old new : Stores) (m : Machine) → Switches row from to old new → HoldsDurable old m → HoldsDurable new (made [] (SetsState row to) m) }
-    ensures rename { (catalogue : CatalogueState) (ms : List ManifestState) (row : ℕ) (name : List ℕ) (old new : Stores) (m : Machine) → IsKnown catalogue ms old → Renaming row name old new → HoldsDurable old m → HoldsDurable new (made [] (Renames row name) m) }
+    ensures rename { (catalogue : CatalogueState) (ms : List ManifestState) (row : ℕ) (name : List ℕ) (old new : Stores) (m : Machine)
+        → IsKnown catalogue ms old → Renaming row name old new → HoldsDurable old m → HoldsDurable new (made [] (Renames row name) m) }
     ensures flush { (limit : ℕ) (old new : Stores) (m : Machine) → IsSound m → ((row : ℕ) → files_of row Short m.limbo ≡ []) → (m.told ≡ true → IsTrue old.stands) → Flushes (batch_of limit m) old new → HoldsDurable old m → HoldsDurable new (made [] (Appends (batch_of limit m)) m) }
 {}
 

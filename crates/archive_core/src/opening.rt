@@ -1,6 +1,6 @@
 // An archive is opened on stores, and gives them back.
 ghost use Rattle.std.specs.FinMap as map;
-ghost use Rattle.std.specs.Prelude.{◌≡◌, ◌≤◌, ◌+◌, ◌==◌, ◌^◌, ◌-◌, [], ℕ, length, map, filter, min, IfOk, IfErr};
+ghost use Rattle.std.specs.Prelude.{◌≡◌, ◌≤◌, ◌+◌, ◌==◌, ◌^◌, ◌-◌, [], ℕ, length, filter, min, IfOk, IfErr};
 ghost use Rattle.pv_catalog.specs.Rows.{AreRows};
 ghost use Rattle.tier_store.specs.Change.{Has};
 ghost use Rattle.tier_store.specs.Beginning.{AllNested};

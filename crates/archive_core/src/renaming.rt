@@ -68,14 +68,11 @@ fn paused_row(catalogue: &Catalogue, name: &[u8], change: u64) -> Result<u32, Un
     let Some(row) = catalogue.find(name) else {
         return Err(Unnamed::NoSuchVariable);
     };
-    match catalogue.row(row) {
-        Some(found) if found.state == State::Paused => Ok(row),
-        Some(found) => Err(Unnamed::NotPaused {
-            state: found.state,
-            change,
-        }),
-        None => Err(Unnamed::NoSuchVariable),
+    let state = catalogue.rows()[row as usize].state;
+    if state == State::Paused {
+        return Ok(row);
     }
+    Err(Unnamed::NotPaused { state, change })
 }
 
 // What is answered where a variable got a new name, or none.
@@ -173,7 +170,8 @@ impl<D: Disk> Archive<D> {
     /// stands in doubt is settled first. `DiskFault` comes only where the disk's count of faults rose in the call.
     pub fn rename(&mut self, name: &[u8], newname: &PvName) -> Answer<D::Reader>
         requires stands { (m : Machine) × Stands D.tells (parts D.Disk self.old) m }
-        ensures { (who : ℕ) → Acted D.tells who (RenameAct name.now newname.now) (parts D.Disk self.old) (reply_of D.Reader.tells D.Reader.bytes D.Reader.faults result) (parts D.Disk self.new) }
+        ensures { (who : ℕ) → Acted D.tells who (RenameAct name.now newname.now) (parts D.Disk self.old)
+            (reply_of D.Reader.tells D.Reader.bytes D.Reader.faults result) (parts D.Disk self.new) }
     {
         renamed(self.rename_name(name, newname))
     }

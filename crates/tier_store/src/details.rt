@@ -1,5 +1,5 @@
 // What is told of a variable.
-ghost use Rattle.std.specs.Prelude.{◌≡◌, ◌≤◌, ◌<◌, ◌++◌, List, Ok, Some, None, length, slice_get, map, IfOk, IsErrOf, IsTrue};
+ghost use Rattle.std.specs.Prelude.{◌≡◌, ◌≤◌, ◌<◌, List, Ok, Some, None, length, slice_get, IfOk, IsErrOf, IsTrue};
 ghost use Rattle.act_model.specs.Details.{last_time};
 ghost use Rattle.act_model.specs.declared.acts.Answer.TheVariants.{NoSuchVariable};
 ghost use Rattle.disk_model.specs.Files.{Rose};
@@ -42,7 +42,8 @@ impl<D: Disk> TierStore<D> {
         requires three { length self.old.manifests.items ≡ 3 }
         requires has { (held : Stores) × Has D.tells (seen D.Disk self.old) held }
 
-        ensures tally { IsTrue D.tells → (held : Stores) (samples : List Sample) → Has D.tells (seen D.Disk self.old) held → IsTrue held.stands → IsTally samples tally → IfOk result (IsTally (over samples (samples_in row held))) }
+        ensures tally { IsTrue D.tells → (held : Stores) (samples : List Sample) → Has D.tells (seen D.Disk self.old) held → IsTrue held.stands
+            → IsTally samples tally → IfOk result (IsTally (over samples (samples_in row held))) }
         ensures listed { IfOk result (Adds tally (entries_in row self.old.manifests.items)) }
         ensures ends { IfOk result (λ t. behind t.last ≡ end_of_files (behind tally.last) (entries_in row self.old.manifests.items)) }
         ensures same { (self.new.catalogue ≡ self.old.catalogue) × (self.new.manifests ≡ self.old.manifests) × (self.new.pinned ≡ self.old.pinned) × (self.new.limbo ≡ self.old.limbo) }
@@ -65,11 +66,15 @@ impl<D: Disk> TierStore<D> {
         requires three { length self.old.manifests.items ≡ 3 }
         requires has { (held : Stores) × Has D.tells (seen D.Disk self.old) held }
 
-        ensures tally { IsTrue D.tells → (held : Stores) → Has D.tells (seen D.Disk self.old) held → IsTrue held.stands → IfOk result (IsTally (whole_in row held)) }
-        ensures listed { let entries = entries_of_line row self.old.catalogue.rows self.old.manifests.items in RiseFrom 0 entries → IfOk result (λ t. t.count ≡ listed_count entries) }
+        ensures tally { IsTrue D.tells → (held : Stores) → Has D.tells (seen D.Disk self.old) held → IsTrue held.stands
+            → IfOk result (IsTally (whole_in row held)) }
+        ensures listed { let entries = entries_of_line row self.old.catalogue.rows self.old.manifests.items in
+            RiseFrom 0 entries → IfOk result (λ t. t.count ≡ listed_count entries) }
         ensures ends { IfOk result (λ t. behind t.last ≡ end_of_files 0 (entries_of_line row self.old.catalogue.rows self.old.manifests.items)) }
-        ensures same { (self.new.catalogue ≡ self.old.catalogue) × (self.new.manifests ≡ self.old.manifests) × (self.new.pinned ≡ self.old.pinned) × (self.new.limbo ≡ self.old.limbo) }
-        ensures reads { IsTrue D.tells → ReadsDisk (D.files self.old.disk) (D.files self.new.disk) (D.opened self.old.disk) (D.opened self.new.disk) (D.past self.old.disk) (D.past self.new.disk) }
+        ensures same { (self.new.catalogue ≡ self.old.catalogue) × (self.new.manifests ≡ self.old.manifests)
+            × (self.new.pinned ≡ self.old.pinned) × (self.new.limbo ≡ self.old.limbo) }
+        ensures reads { IsTrue D.tells → ReadsDisk (D.files self.old.disk) (D.files self.new.disk) (D.opened self.old.disk)
+            (D.opened self.new.disk) (D.past self.old.disk) (D.past self.new.disk) }
         ensures faults { D.faults self.old.disk ≤ D.faults self.new.disk }
         ensures cause { IsErrOf result DiskErr.Fault → Rose (D.faults self.old.disk) (D.faults self.new.disk) }
     {
@@ -94,8 +99,10 @@ impl<D: Disk> TierStore<D> {
         requires row { row < length self.old.catalogue.rows }
         requires has { (held : Stores) × Has D.tells (seen D.Disk self.old) held }
 
-        ensures tally { IsTrue D.tells → (held : Stores) → Has D.tells (seen D.Disk self.old) held → IsTrue held.stands → IfOk result (IsTally (whole_in row held)) }
-        ensures listed { let entries = entries_of_line row self.old.catalogue.rows self.old.manifests.items in RiseFrom 0 entries → IfOk result (λ t. t.count ≡ listed_count entries) }
+        ensures tally { IsTrue D.tells → (held : Stores) → Has D.tells (seen D.Disk self.old) held → IsTrue held.stands
+            → IfOk result (IsTally (whole_in row held)) }
+        ensures listed { let entries = entries_of_line row self.old.catalogue.rows self.old.manifests.items in
+            RiseFrom 0 entries → IfOk result (λ t. t.count ≡ listed_count entries) }
         ensures ends { IfOk result (λ t. behind t.last ≡ end_of_files 0 (entries_of_line row self.old.catalogue.rows self.old.manifests.items)) }
         ensures kept { (held : Stores) → Has D.tells (seen D.Disk self.old) held → Has D.tells (seen D.Disk self.new) held }
         ensures same { (self.new.catalogue ≡ self.old.catalogue) × (self.new.manifests ≡ self.old.manifests) × (self.new.pinned ≡ self.old.pinned) × (self.new.limbo ≡ self.old.limbo) }
@@ -121,7 +128,8 @@ impl<D: Disk> TierStore<D> {
     pub fn last_of(&self, row: u32) -> Option<u64>
         requires row { row < length self.now.catalogue.rows }
         requires known { (held : Stores) × IsKnown self.now.catalogue self.now.manifests.items held }
-        ensures last { (held : Stores) → IsKnown self.now.catalogue self.now.manifests.items held → IsTrue held.stands → result ≡ last_time (whole_in row held) }
+        ensures last { (held : Stores) → IsKnown self.now.catalogue self.now.manifests.items held → IsTrue held.stands
+            → result ≡ last_time (whole_in row held) }
         ensures listed { behind result ≡ end_of_files 0 (entries_of_line row self.now.catalogue.rows self.now.manifests.items) }
     {
         let rows = self.catalogue.rows();

@@ -70,8 +70,10 @@ pub fn a_flush_adds_the_batch()
 /// A variable keeps what is held of it under its new name, and each row that was there keeps its whole.
 pub fn a_rename_keeps_the_whole()
     ensures new { (catalogue : CatalogueState) (ms : List ManifestState) (row : ℕ) (name : List ℕ) (old made : Stores)
-        → IsKnown catalogue ms old → IsTrue old.stands → AreRows old.rows → AreRows made.rows → Renames row name old made → whole_in (length old.rows) made ≡ whole_in row old }
-    ensures others { (row : ℕ) (name : List ℕ) (old made : Stores) → AreRows old.rows → Renames row name old made → (i : ℕ) → i < length old.rows → whole_in i made ≡ whole_in i old }
+        → IsKnown catalogue ms old → IsTrue old.stands → AreRows old.rows → AreRows made.rows → Renames row name old made
+        → whole_in (length old.rows) made ≡ whole_in row old }
+    ensures others { (row : ℕ) (name : List ℕ) (old made : Stores) → AreRows old.rows → Renames row name old made
+        → (i : ℕ) → i < length old.rows → whole_in i made ≡ whole_in i old }
 {}
 
 /// A flush puts behind what store 1 lists of a row those samples of the batch that are later than all that it lists and has in limbo of the

@@ -1,4 +1,4 @@
-use Rattle.std.proofs.Common.{◌≡◌, ◌+◌, List, length, take, subst, arith}
+use Rattle.std.proofs.Common.{◌≡◌, List, take, subst, arith}
 use Rattle.std.proofs.lemmas.List.{take_all}
 use Rattle.store_manifest.specs.declared.entry.Entry.{Entry}
 use Rattle.tier_store.specs.Counting.{behind}

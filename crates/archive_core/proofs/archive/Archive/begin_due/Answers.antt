@@ -1,4 +1,4 @@
-use Rattle.std.proofs.Common.{ℕ, Err, None, arith, refl, sym, ap, rules, ◌∙◌}
+use Rattle.std.proofs.Common.{ℕ, Err, None, arith, refl, ap, ◌∙◌}
 use Rattle.std.proofs.lemmas.Result.{err_from_is_err_and}
 use Rattle.disk_model.specs.declared.disk.DiskErr.{DiskErr}
 use Rattle.durable_write.specs.Ends.{end_of_disk}

@@ -1,4 +1,4 @@
-use Rattle.std.proofs.Common.{◌≡◌, ◌∙◌, ◌-◌, ◌≤◌, ℕ, ap, subst, sym}
+use Rattle.std.proofs.Common.{◌∙◌, ◌-◌, ◌≤◌, ℕ, ap, subst, sym}
 use Rattle.std.specs.Prelude.{Ok, Err}
 use Rattle.disk_model.specs.declared.disk.DiskErr.{DiskErr}
 use Rattle.tier_store.specs.Seen.{seen}

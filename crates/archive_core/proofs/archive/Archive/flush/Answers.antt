@@ -1,6 +1,5 @@
-use Rattle.std.proofs.Common.{ℕ, Ok, Err, Result, sym, ◌∙◌, ap, subst}
+use Rattle.std.proofs.Common.{ℕ, Err, Result, sym, ◌∙◌, ap, subst}
 use Rattle.disk_model.specs.declared.disk.DiskErr.{DiskErr}
-use Rattle.disk_model.specs.declared.disk.DiskErr.TheVariants.{Fault, Memory}
 use Rattle.act_model.specs.declared.acts.Act.TheVariants.{Flush}
 use Rattle.act_model.specs.declared.acts.Answer.TheVariants.{Flushed}
 use Rattle.archive_core.specs.Acting.{Acted}

@@ -2,12 +2,10 @@ use Rattle.tier_store.specs.Pinned.{seen_all}
 use Rattle.std.proofs.Common.{ℕ, Err, Result, refl, sym, ◌∙◌, ap, subst}
 use Rattle.std.proofs.lemmas.Result.{err_from_is_err_and}
 use Rattle.disk_model.specs.declared.disk.DiskErr.{DiskErr}
-use Rattle.disk_model.specs.declared.disk.DiskErr.TheVariants.{Fault, Memory}
 use Rattle.act_model.specs.Flush.{Flushes}
 use Rattle.act_model.specs.declared.acts.Act.TheVariants.{Flush}
-use Rattle.archive_core.specs.Ends.{disk_reply}
-use Rattle.archive_core.specs.Parts.{Parts, parts}
-use Rattle.archive_core.proofs.Acting.{Went, cut}
+use Rattle.archive_core.specs.Parts.{parts}
+use Rattle.archive_core.proofs.Acting.{cut}
 use Rattle.archive_core.proofs.Flushed.{FlushEnds, flush_ends, flush_so, flushes_act}
 use Rattle.archive_core.proofs.archive.Archive.flush_tails.Goals as goal
 

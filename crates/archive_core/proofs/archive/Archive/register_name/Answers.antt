@@ -5,14 +5,13 @@ use Rattle.disk_model.specs.declared.disk.DiskErr.{DiskErr}
 use Rattle.pv_catalog.specs.Catalogue.{CatalogueState, Refuses}
 use Rattle.pv_catalog.specs.declared.error.RegisterErr.{RegisterErr}
 use Rattle.pv_catalog.specs.declared.error.RegisterErr.TheVariants.{Disk}
-use Rattle.act_model.specs.Machine.{Machine, AddsRow}
+use Rattle.act_model.specs.Machine.{AddsRow}
 use Rattle.act_model.specs.Register.{Registers}
 use Rattle.act_model.specs.declared.acts.Act.TheVariants.{Register}
 use Rattle.act_model.specs.declared.acts.Answer.TheVariants.{Registered}
 use Rattle.archive_core.specs.Acting.{Changed}
 use Rattle.archive_core.specs.Ends.{register_reply}
 use Rattle.archive_core.specs.Parts.{parts}
-use Rattle.archive_core.specs.Stands.{Rests, Stands}
 use Rattle.archive_core.proofs.Acting.{cut, done_then, failed_then, refused_first, refused_then}
 use Rattle.archive_core.proofs.Registered.{IsFree, RegisterEnds, free_as, refused_as, registered_so, registers_act}
 use Rattle.archive_core.proofs.archive.Archive.register_name.Goals.{After-settle, After-add_row}

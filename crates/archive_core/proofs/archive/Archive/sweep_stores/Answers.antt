@@ -1,10 +1,10 @@
-use Rattle.std.proofs.Common.{◌≡◌, List, Err, Result, refl, ap, subst, sym, ◌∙◌}
+use Rattle.std.proofs.Common.{List, Err, Result, refl, ap, subst, sym, ◌∙◌}
 use Rattle.std.proofs.lemmas.Result.{err_from_is_err_and}
 use Rattle.disk_model.specs.declared.disk.DiskErr.{DiskErr}
 use Rattle.disk_model.specs.declared.disk.DiskErr.TheVariants.{Memory}
 use Rattle.tier_store.specs.Moving.{LeavesLater}
-use Rattle.tier_store.specs.Pinned.{seen_all, SeenAll, beside, Shows}
-use Rattle.tier_store.specs.Seen.{seen, IsSettled}
+use Rattle.tier_store.specs.Pinned.{seen_all, beside, Shows}
+use Rattle.tier_store.specs.Seen.{seen}
 use Rattle.tier_store.specs.declared.limbo.Retired.{Retired}
 use Rattle.tier_store.specs.declared.removing.Swept.{Swept}
 use Rattle.act_model.specs.Sweep.{Sweeps}

@@ -1,7 +1,6 @@
-use Rattle.std.proofs.Common.{◌≡◌, ◌<◌, ℕ, List, [], Some, length}
+use Rattle.std.proofs.Common.{◌≡◌, ◌<◌, ℕ, [], Some, length}
 use Rattle.std.specs.List.{flat_map}
 use Rattle.pv_catalog.specs.Lines.{line_known, lines}
-use Rattle.store_manifest.specs.declared.entry.Entry.{Entry}
 use Rattle.tier_store.specs.Counting.{behind}
 use Rattle.tier_store.specs.Tallying.{end_of_files, entries_in, entries_of_line}
 use Rattle.tier_store.proofs.store.TierStore.last_of.Given as goal
