@@ -1,4 +1,4 @@
-#!/usr/bin/env python3
+#!/usr/bin/python3
 """Asks a service of `archappl`, feeds it, and manages it: as a module of Python, and by words.
 
     import archappl
@@ -95,7 +95,7 @@ class FeedRefused(ArchiverError):
 
     def __init__(self, told):
         word = told.last.split()[-1]
-        super().__init__(f"{told.last}: {LINES.get(word, 'a line is bad')}")
+        super().__init__(f"{told.last}: {LINES.get(word, 'the message is damaged')}")
         self.told = told
 
 

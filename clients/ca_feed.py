@@ -1,4 +1,4 @@
-#!/usr/bin/env python3
+#!/usr/bin/python3
 """Brings variables of Channel Access into a service of `archappl`.
 
 Usage: clients/ca_feed.py [--server HOST:FEEDPORT:HTTPPORT] [--file NAMES] [NAME ..]

@@ -4,8 +4,11 @@ A value holds until the next one, so lines are steps. Variables of one unit (EGU
 Samples of a severity other than 0 are marked. Of a waveform the mean of its elements is drawn; texts aren't.
 """
 
-import matplotlib
-import numpy
+try:
+    import matplotlib
+    import numpy
+except ImportError as missing:
+    raise ImportError(f"{missing} (apt-get install python3-numpy python3-matplotlib)") from None
 
 import thinning
 from thinning import numbers

@@ -9,7 +9,10 @@ import struct
 from dataclasses import dataclass, field
 from datetime import date
 
-import numpy
+try:
+    import numpy
+except ImportError as missing:
+    raise ImportError(f"{missing} (apt-get install python3-numpy)") from None
 
 import pb_columns
 
