@@ -320,7 +320,7 @@ def raw(server, pv, start, end, progress=None, op=None):
 def pieces(server, pv, start, end):
     """The same samples as pieces of at most 65,536, in order; the first one may have none.
 
-    A service cuts an answer off after five minutes. Where samples came until then, the ones behind them are asked for.
+    Where an answer is cut off, as of one who reads too slowly, and samples came until then, the ones behind them are asked for.
     """
     progress = Progress(pv)
     begun = last = None
