@@ -670,21 +670,29 @@ def run_rename(options):
 
 
 def run_archive(options):
-    """Registers variables."""
+    """Registers variables, and writes each with the number of its row."""
     each = Each(options.pv)
     each.do(lambda pv: print(pv, archive(options.server, pv, options.type, options.scan)))
     return each.status
 
 
 def run_flush(options):
-    """Makes all durable."""
+    """Makes all samples durable, and writes how many weren't before."""
     print(flush(options.server))
+
+
+def server_of_word(word):
+    """The service that a word names."""
+    try:
+        return Server.of(word)
+    except ValueError as error:
+        raise argparse.ArgumentTypeError(str(error)) from None
 
 
 def add_server(parser):
     """The word that names the service."""
     usual = os.environ.get("ARCHAPPL_SERVER") or USUAL
-    parser.add_argument("--server", type=Server.of, default=usual, metavar="HOST:FEEDPORT:HTTPPORT",
+    parser.add_argument("--server", type=server_of_word, default=usual, metavar="HOST:FEEDPORT:HTTPPORT",
                         help=f"the service; without it what ARCHAPPL_SERVER has, or {USUAL}")
 
 
@@ -694,8 +702,9 @@ def parser_of_words():
     add_server(parser)
     commands = parser.add_subparsers(dest="word", required=True)
 
-    def command(word, run, *, interval=False, text=False):
-        found = commands.add_parser(word, help=run.__doc__.split("\n")[0], description=run.__doc__.split("\n")[0])
+    def command(word, run, what=None, *, interval=False, text=False):
+        what = what or run.__doc__.split("\n")[0]
+        found = commands.add_parser(word, help=what, description=what)
         found.set_defaults(run=run)
         if interval:
             found.add_argument("--from", dest="start", default="1h", help=sample_text.FORMS)
@@ -716,7 +725,7 @@ def add_words(command):
     plot_words = command("plot", run_plot, interval=True)
     plot_words.add_argument("--out", required=True, help="the picture's file; its ending says which kind")
     watch_words = command("watch", run_watch, text=True)
-    watch_words.add_argument("--every", type=float, default=1.0, help="how many seconds to wait between two requests")
+    watch_words.add_argument("--every", type=float, default=1.0, metavar="SECONDS", help="how many seconds to wait between two requests")
     archive_words = command("archive", run_archive)
     archive_words.add_argument("--type", required=True, choices=pb_stream.TYPES, metavar="TYPE", help="as SCALAR_INT")
     archive_words.add_argument("--scan", metavar="SECONDS", help="sample at this period, and not at each change")
@@ -724,7 +733,9 @@ def add_words(command):
     rename_words.add_argument("--resume", action="store_true", help="take samples under the new name at once")
     rename_words.add_argument("old", help="the variable's name")
     rename_words.add_argument("new", help="the one that it gets")
-    each = [command(word, run_each) for word in ("status", "pause", "resume")]
+    each = [command("status", run_each, "Writes of each variable whether it is archived."),
+            command("pause", run_each, "Takes no more samples of variables."),
+            command("resume", run_each, "Takes samples of variables again that were paused.")]
     for found in (get_words, plot_words, watch_words, archive_words, command("details", run_details), *each):
         found.add_argument("pv", nargs="+", help="names of variables")
     feed_words = command("feed", run_feed)
