@@ -1,18 +1,20 @@
--- Rows go on over their bases, whatever a change, an offer or a tick makes of them.
-use Rattle.std.proofs.Common.{◌≡◌, ℕ, ◌<◌, ◌≤◌, List, [], length, Some, None, max, Bool, true, ap, sym, ◌∙◌, arith, subst, append-nil}
-use Rattle.std.specs.Prelude.{slice_get}
+-- Rows go on over their bases, whatever a change, an offer or a tick makes of them; and where their own lists followed the wholes of these,
+-- they do.
+use Rattle.std.proofs.Common.{◌≡◌, ℕ, ◌<◌, ◌≤◌, List, [], length, Some, None, max, Bool, true, ap, sym, ◌∙◌, arith, subst, append-nil, append_assoc}
+use Rattle.std.specs.Prelude.{◌++◌, slice_get}
 use Rattle.std.proofs.lemmas.Option.{same_Some, slice_get_within}
 use Rattle.series_model.specs.declared.sample.Sample.{Sample}
-use Rattle.series_model.specs.Series.{end_of, IsRising, over}
-use Rattle.series_model.proofs.RisingLists.{RisesFrom-lower}
+use Rattle.series_model.specs.Series.{end_of, IsRising, RisesFrom, over}
+use Rattle.series_model.proofs.RisingLists.{RisesFrom-append, RisesFrom-lower}
 use Rattle.series_model.proofs.OverLemmas.{over_rising, end_of-over}
 use Rattle.event_types.specs.declared.about.State.TheVariants.{Paused, Retired}
 use Rattle.act_model.specs.Rows.{RowState, accepted, durable}
-use Rattle.act_model.specs.Whole.{past, whole}
+use Rattle.act_model.specs.Whole.{past, whole, FollowsBase, AllFollow}
 use Rattle.act_model.specs.Sound.{RowSound, IsOver, BasesSound}
-use Rattle.act_model.proofs.Wholes.{StandsBefore, Beside, whole_is, old_whole, whole_goes}
+use Rattle.act_model.proofs.Wholes.{StandsBefore, Beside, together, whole_is, old_whole, past_stays, whole_goes}
 
--- a row goes on over its base: as much of its own list as it had, or more, up to where admission takes the next
+-- a row goes on over its base: as much of its own list as it had, or more, up to where admission takes the next; what is more, where samples
+-- are told, begins where admission stood
 pub record RowOver (told : Bool) (row new : RowState) : Type 0 where
   pub base : new.base ≡ row.base
   pub about : new.about ≡ row.about
@@ -21,6 +23,7 @@ pub record RowOver (told : Bool) (row new : RowState) : Type 0 where
   pub next : row.next ≤ new.next
   pub goes : IsRising (accepted row) → end_of (accepted row) ≤ row.next → IsRising (accepted new) × (end_of (accepted new) ≤ new.next)
   pub exact : told ≡ true → (e : ℕ) → row.next ≡ max e (end_of (accepted row)) → new.next ≡ max e (end_of (accepted new))
+  pub more : told ≡ true → (xs : List Sample) × (accepted new ≡ accepted row ++ xs) × RisesFrom row.next xs
 
 -- where a row comes from: from one that was there, or it is the one that was added, over none or over one that was paused
 pub data Comes (told : Bool) (rows news : List RowState) (i : ℕ) (new : RowState) : Type 0 where
@@ -179,3 +182,37 @@ module _ (told : Bool) (rows news : List RowState) (each_row : (i : ℕ) (row : 
         end = λ i new there. end_new i new there (back i new there);
         exact = λ t i new there. exact_new t i new there (back i new there);
       }
+
+  -- WHAT FOLLOWS ITS BASE
+
+  module _ (t : told ≡ true) (f : AllFollow accepted rows) where
+    -- what a row has now rises behind the whole of its base
+    rises_behind : (i : ℕ) (row : RowState) (here : slice_get rows i ≡ Some row) → IsRising (past accepted rows row.base ++ accepted (forth i row here).0)
+    rises_behind i row here =
+        let p = past accepted rows row.base in
+        let w = whole accepted rows i in
+        let was : FollowsBase accepted rows i row = f i row here in
+        let x = (forth i row here).2.more t in
+        let low : end_of w ≤ row.next = s.end i row here in
+        let all : IsRising (w ++ x.0) = RisesFrom-append 0 w x.0 was.1 (RisesFrom-lower (end_of w) row.next x.0 x.2 low) in
+        subst (λ xs. IsRising xs) (ap (λ xs. xs ++ x.0) was.0 ∙ (append_assoc p (accepted row) x.0 ∙ ap (λ xs. p ++ xs) (sym x.1))) all
+
+    follows_there : (i : ℕ) (row : RowState) (here : slice_get rows i ≡ Some row) → (whole accepted news i ≡ past accepted rows row.base ++ accepted (forth i row here).0) × IsRising (whole accepted news i)
+    unfolding beside
+    follows_there i row here =
+        together (whole accepted news i) (past accepted rows row.base) (accepted (forth i row here).0) (whole_goes accepted accepted rows news before_it beside i row here) (rises_behind i row here)
+
+    follows_new : (i : ℕ) (new : RowState) → slice_get news i ≡ Some new → Comes told rows news i new → FollowsBase accepted news i new
+    follows_new i new there (goes_on row here on) =
+        let y = follows_there i row here in
+        let p : past accepted news new.base ≡ past accepted rows row.base = ap (λ o. past accepted news o) on.base ∙ past_stays accepted accepted rows news before_it beside i row here in
+        (y.0 ∙ (ap (λ r. past accepted rows row.base ++ accepted r) (same_there i row here new there) ∙ ap (λ xs. xs ++ accepted new) (sym p)), y.1)
+    follows_new i new there (over_none base empty next) =
+        let none = none_whole i new there base empty in
+        (none ∙ sym (ap (λ o. past accepted news o ++ accepted new) base ∙ empty), subst (λ xs. IsRising xs) (sym none) tt)
+    follows_new i new there (over_row k row now place here now_here on paused gone none base about empty next) =
+        let same = over_whole i k new there (lower i k row place here) base empty in
+        (same ∙ sym (ap (λ o. past accepted news o ++ accepted new) base ∙ (ap (λ xs. whole accepted news k ++ xs) empty ∙ append-nil (whole accepted news k))), subst (λ xs. IsRising xs) (sym same) (follows_there k row here).1)
+
+    pub follows_go : AllFollow accepted news
+    follows_go i new there = follows_new i new there (back i new there)

@@ -16,6 +16,7 @@ use Rattle.act_model.specs.Limbo.{FileState, put, files_of, Covered, IsOfPart, F
 use Rattle.pv_name.specs.Key.{key_of}
 use Rattle.event_types.specs.declared.about.State.{State}
 use Rattle.event_types.specs.declared.about.State.TheVariants.{Retired}
+use Rattle.act_model.specs.Whole.{AllFollow}
 use Rattle.act_model.specs.Machine.{Machine, MoveState, Change, AddsRow, SetsState, Renames, Appends, Publishes, Unlists, held_bytes}
 use Rattle.act_model.specs.Changes.{each, changed, changed_rows, added, at, flushed, of_row, Retires, IsRetired, without_held, published, retired}
 use Rattle.act_model.specs.Sound.{RowSound, LinesSound, IsCopied, CopiesOf, MoveSound, is_copying, IsStill, MayMake, MayRename, MayUnlist, EndedMove, LimboSound, IsSoundOf, IsSound}
@@ -25,7 +26,7 @@ use Rattle.act_model.proofs.ChangeLaws.{RowGoes, Ground, RowMay, at_row}
 use Rattle.act_model.proofs.Places.{places_made}
 use Rattle.act_model.proofs.Rows.{more_rows, each_forward, append_forward, Came, from_row, is_new, came, of_place, of_filter, of_append, of_all, fewer_of_place, all_filter, there_is_row}
 use Rattle.act_model.proofs.PinnedPieces.{pins_made}
-use Rattle.act_model.proofs.Bases.{RowOver, Comes, goes_on, over_none, over_row, bases_go}
+use Rattle.act_model.proofs.Bases.{RowOver, Comes, goes_on, over_none, over_row, bases_go, follows_go}
 use Rattle.act_model.proofs.MadeLaws.{ground, row_may, goes, IsFresh, fresh, fresh_over, added_fresh, fresh_sound, fresh_lines, goes_lines, goes_size, each_size, append_size, added_size}
 
 -- LISTS
@@ -220,6 +221,7 @@ goes_over true row new g =
       next = (let next = g.next in omega arith);
       goes = λ rises low. (rw same rises, rw (same, g.next) low);
       exact = λ t e is. g.next ∙ (is ∙ ap (λ w. max e (end_of w)) (sym same));
+      more = λ t. ([], same ∙ sym (append-nil (accepted row)), tt);
     }
 goes_over false row new g =
     let same : durable new ≡ durable row = g.untold refl in
@@ -233,6 +235,7 @@ goes_over false row new g =
       next = (let next = g.next in omega arith);
       goes = λ rises low. by_tail rises low g.tail;
       exact = λ t. absurd cc;
+      more = λ t. absurd cc;
     }
   where
     by_tail : IsRising (accepted row) → end_of (accepted row) ≤ row.next → (new.tail ≡ row.tail) ⊎ ((n : ℕ) × (new.tail ≡ since n row.tail)) → IsRising (accepted new) × (end_of (accepted new) ≤ new.next)
@@ -253,26 +256,26 @@ retires_own told limbo k name row = let own : (k == k) ≡ true = grind (arith, 
 
 -- THE MACHINE WITH A CHANGE
 
-module _ (m : Machine) (into : List FileState) (change : Change) (s : IsSound m) (may : MayMake m.rule m.told m.rows m.limbo change) (retires : Retires m change into) where
-  abbrev new_rows : List RowState
-  new_rows = changed_rows m.told m.limbo change m.rows
+module _ (m : Machine) (change : Change) (s : IsSound m) (may : MayMake m.rule m.told m.rows m.limbo change) where
+  abbrev then_rows : List RowState
+  then_rows = changed_rows m.told m.limbo change m.rows
 
   row_goes : (i : ℕ) (row : RowState) → slice_get m.rows i ≡ Some row → RowGoes m.told row (changed m.told m.limbo change i row)
   row_goes i row here = goes m.rule m.told m.rows m.limbo change s.each_row s.each_file may i row here
 
   -- each row goes on over its base
-  forth : (i : ℕ) (row : RowState) → slice_get m.rows i ≡ Some row → (new : RowState) × (slice_get new_rows i ≡ Some new) × RowOver m.told row new
+  forth : (i : ℕ) (row : RowState) → slice_get m.rows i ≡ Some row → (new : RowState) × (slice_get then_rows i ≡ Some new) × RowOver m.told row new
   forth i row here =
       let f = changed m.told m.limbo change in
       let plain : 0 + i ≡ i = omega arith in
       let there : slice_get (each f 0 m.rows) i ≡ Some (f i row) = each_forward f 0 m.rows i row here ∙ ap (λ n. Some (f n row)) plain in
       (f i row, append_forward (each f 0 m.rows) (added change m.rows) i (f i row) there, goes_over m.told row (f i row) (row_goes i row here))
 
-  back : (i : ℕ) (new : RowState) → slice_get new_rows i ≡ Some new → Comes m.told m.rows new_rows i new
+  back : (i : ℕ) (new : RowState) → slice_get then_rows i ≡ Some new → Comes m.told m.rows then_rows i new
   unfolding forth
   back i new there = by_row (came m.told m.limbo change m.rows i new there)
     where
-      by_fresh : i ≡ length m.rows → IsFresh change m.rows new → Comes m.told m.rows new_rows i new
+      by_fresh : i ≡ length m.rows → IsFresh change m.rows new → Comes m.told m.rows then_rows i new
       by_fresh place (fresh name about by is) = over_none (ap (λ (r : RowState). r.base) is) (ap (λ (r : RowState). accepted r) is) (ap (λ (r : RowState). r.next) is)
       by_fresh place (fresh_over k name old by here is) =
           let may_rename : MayRename m.rows k name = subst (λ c. MayMake m.rule m.told m.rows m.limbo c) by may in
@@ -282,9 +285,16 @@ module _ (m : Machine) (into : List FileState) (change : Change) (s : IsSound m)
           over_row k old x.0 place here x.1 x.2 (may_rename.paused old here) gone (no_tail m.told old x.0 g (may_rename.none old here)) (ap (λ (r : RowState). r.base) is) (g.about ∙ sym (ap (λ (r : RowState). r.about) is)) (ap (λ (r : RowState). accepted r) is)
           (ap (λ (r : RowState). r.next) is ∙ sym g.next)
 
-      by_row : Came m.told m.limbo change m.rows i new → Comes m.told m.rows new_rows i new
+      by_row : Came m.told m.limbo change m.rows i new → Comes m.told m.rows then_rows i new
       by_row (from_row row here is) = goes_on row here (subst (λ r. RowOver m.told row r) (sym is) (goes_over m.told row (changed m.told m.limbo change i row) (row_goes i row here)))
       by_row (is_new j place here) = let one = added_fresh change m.rows j new here in by_fresh (let first : j ≡ 0 = one.1 in omega arith) one.0
+
+  pub made_follows : m.told ≡ true → AllFollow accepted m.rows → AllFollow accepted then_rows
+  made_follows = follows_go m.told m.rows then_rows s.each_row s.bases forth back
+
+module _ (m : Machine) (into : List FileState) (change : Change) (s : IsSound m) (may : MayMake m.rule m.told m.rows m.limbo change) (retires : Retires m change into) where
+  abbrev new_rows : List RowState
+  new_rows = changed_rows m.told m.limbo change m.rows
 
   longer : length m.rows ≤ length new_rows
   longer = let more : length new_rows ≡ length m.rows + length (added change m.rows) = more_rows m.told m.limbo change m.rows in omega arith
@@ -300,7 +310,7 @@ module _ (m : Machine) (into : List FileState) (change : Change) (s : IsSound m)
       by_row : (new : RowState) → Came m.told m.limbo change m.rows f.row new → m.told ≡ true → end_of f.samples ≤ end_of (deep new f.store)
       by_row new (from_row row here is) t =
           let low : end_of f.samples ≤ end_of (deep row f.store) = l.covered row here t in
-          let g : RowGoes m.told row new = rw is (row_goes f.row row here) in
+          let g : RowGoes m.told row new = rw is (row_goes m change s may f.row row here) in
           let up : end_of (deep row f.store) ≤ end_of (deep new f.store) = base f.store row new l.moves g t in
           omega arith
       by_row new (is_new j is there) t = absurd (past_end m.rows f.row j l.here is)
@@ -400,13 +410,13 @@ module _ (m : Machine) (into : List FileState) (change : Change) (s : IsSound m)
           few = (let few = few_rows m.rule m.told m.rows m.limbo change s.few may in let more : length new_rows ≡ length m.rows + length (added change m.rows) = more_rows m.told m.limbo change m.rows in omega arith);
           keys = λ i j a b here there same. by_keys i j a b (came m.told m.limbo change m.rows i a here) (came m.told m.limbo change m.rows j b there) same;
           each_row = λ i new there. by_sound i new (came m.told m.limbo change m.rows i new there);
-          bases = bases_go m.told m.rows new_rows s.each_row s.bases forth back;
+          bases = bases_go m.told m.rows new_rows s.each_row s.bases (forth m change s may) (back m change s may);
           lines = λ i new there. by_lines i new (came m.told m.limbo change m.rows i new there);
           intake =
               let one : held_bytes new_rows ≡ held_bytes (each (changed m.told m.limbo change) 0 m.rows) + held_bytes (added change m.rows) = append_size (each (changed m.told m.limbo change) 0 m.rows) (added change m.rows) in
               let none = added_size change m.rows in
               let less : held_bytes (each (changed m.told m.limbo change) 0 m.rows) ≤ held_bytes m.rows =
-              each_size (changed m.told m.limbo change) 0 m.rows (λ i row here. let plain : i ≡ 0 + i = omega arith in subst (λ n. size_of (changed m.told m.limbo change n row).tail ≤ size_of row.tail) plain (goes_size m.told row (changed m.told m.limbo change i row) (row_goes i row here))) in
+              each_size (changed m.told m.limbo change) 0 m.rows (λ i row here. let plain : i ≡ 0 + i = omega arith in subst (λ n. size_of (changed m.told m.limbo change n row).tail ≤ size_of row.tail) plain (goes_size m.told row (changed m.told m.limbo change i row) (row_goes m change s may i row here))) in
               let before : held_bytes m.rows ≤ 67108864 = s.intake in omega arith;
           doubted = λ c is. absurd cc;
           each_move = move_goes;
@@ -418,15 +428,15 @@ module _ (m : Machine) (into : List FileState) (change : Change) (s : IsSound m)
         }
       where
         by_sound : (i : ℕ) (new : RowState) → Came m.told m.limbo change m.rows i new → RowSound m.told new
-        by_sound i new (from_row row here is) = rw is (row_goes i row here).sound
+        by_sound i new (from_row row here is) = rw is (row_goes m change s may i row here).sound
         by_sound i new (is_new j is here) = fresh_sound m.told change m.rows new (added_fresh change m.rows j new here).0
 
         by_lines : (i : ℕ) (new : RowState) → Came m.told m.limbo change m.rows i new → LinesSound new
-        by_lines i new (from_row row here is) = rw is (goes_lines m.told row (changed m.told m.limbo change i row) (row_goes i row here) (s.lines i row here))
+        by_lines i new (from_row row here is) = rw is (goes_lines m.told row (changed m.told m.limbo change i row) (row_goes m change s may i row here) (s.lines i row here))
         by_lines i new (is_new j is here) = fresh_lines change m.rows new (added_fresh change m.rows j new here).0
 
         name_of : (i : ℕ) (new row : RowState) → slice_get m.rows i ≡ Some row → new ≡ changed m.told m.limbo change i row → key_of new.name ≡ key_of row.name
-        name_of i new row here is = ap (λ (r : RowState). key_of r.name) is ∙ ap key_of (row_goes i row here).name
+        name_of i new row here is = ap (λ (r : RowState). key_of r.name) is ∙ ap key_of (row_goes m change s may i row here).name
 
         by_keys : (i j : ℕ) (a b : RowState) → Came m.told m.limbo change m.rows i a → Came m.told m.limbo change m.rows j b → key_of a.name ≡ key_of b.name → i ≡ j
         by_keys i j a b (from_row row here is) (from_row other there is') same = s.keys i j row other here there (sym (name_of i a row here is) ∙ (same ∙ name_of j b other there is'))

@@ -1,5 +1,5 @@
--- What a crash leaves of a sound machine opens as a sound one, in which all that is durable is accepted.
-use Rattle.std.proofs.Common.{◌≡◌, ℕ, ◌+◌, ◌≤◌, List, [], ◌∷◌, length, Some, None, zero, suc, Bool, refl, ap, sym, ◌∙◌, arith, append-nil, subst}
+-- What a crash leaves of a sound machine opens as a sound one, in which all that is durable is accepted, and own lists follow as they did.
+use Rattle.std.proofs.Common.{◌≡◌, ℕ, ◌+◌, ◌≤◌, List, [], ◌∷◌, ◌++◌, length, get_or, Some, None, zero, suc, Bool, refl, ap, sym, ◌∙◌, arith, append-nil, subst}
 use Rattle.std.specs.Prelude.{slice_get, map}
 use Rattle.std.proofs.lemmas.List.{length-map}
 use Rattle.std.specs.Ordering.{nat_cmp}
@@ -9,7 +9,8 @@ use Rattle.act_model.specs.declared.acts.Act.{Act}
 use Rattle.series_model.specs.Series.{end_of, IsRising, over}
 use Rattle.series_model.proofs.OverLemmas.{over_rising, end_of-over}
 use Rattle.act_model.specs.Rows.{RowState, durable, accepted, size_of}
-use Rattle.act_model.specs.Whole.{past, whole}
+use Rattle.series_model.specs.declared.sample.Sample.{Sample}
+use Rattle.act_model.specs.Whole.{known, wholes, past, whole, AllFollow}
 use Rattle.act_model.specs.Rule.{Rule}
 use Rattle.act_model.specs.Machine.{Machine, PinState, MoveState, Change, AddsRow, SetsState, Renames, Appends, Publishes, Unlists, held_bytes}
 use Rattle.act_model.specs.Changes.{each, changed_rows, Retires}
@@ -18,7 +19,7 @@ use Rattle.act_model.specs.Sound.{RowSound, IsOver, BasesSound, LinesSound, MayM
 use Rattle.act_model.specs.Crash.{kept_of, kept, LeftBetween, as_it_is, with_doubt, LeftWithin, before_it, settled_there, with_change}
 use Rattle.act_model.specs.NextLife.{listed_row, with_next, opened_rows, opened}
 use Rattle.act_model.proofs.Rows.{each_get, each_forward, length-each}
-use Rattle.act_model.proofs.Wholes.{StandsBefore, Beside, old_whole, whole_goes}
+use Rattle.act_model.proofs.Wholes.{whole_is}
 use Rattle.act_model.proofs.Bases.{before_of}
 use Rattle.act_model.proofs.MadeSound.{made_sound}
 use Rattle.act_model.proofs.StepLaws.{settled_sound}
@@ -85,6 +86,12 @@ left_rows act old left s (before_it is) = (old.told, between_rows old left s is)
 left_rows act old left s (settled_there settles) = settled_told left (settled_sound settles s)
 left_rows act old left s (with_change {mid} one settles free is) = let sound : IsSound mid = settled_sound settles s in (mid.told, made_rows mid one sound (may_by act mid one sound free is))
 
+pub between_bases : (old left : Machine) → IsSound old → LeftBetween old left → (told : Bool) × BasesSound told left.rows
+between_bases old left s is = (old.told, (between_rows old left s is).bases)
+
+pub left_bases : (act : Act) (old left : Machine) → IsSound old → LeftWithin (refuse_by act) (change_by act) old left → (told : Bool) × BasesSound told left.rows
+left_bases act old left s is = let rows = left_rows act old left s is in (rows.0, rows.1.bases)
+
 -- WHAT OPENS
 
 -- the rows as they are listed
@@ -131,42 +138,47 @@ no_bytes f k (row ∷ rows) none =
 
 -- THE WHOLE OF WHAT OPENS
 
+wholes_listed : (rows : List RowState) (before : List (List Sample)) → wholes durable before (lists rows) ≡ wholes durable before rows
+wholes_listed [] before = refl
+wholes_listed (row ∷ rows) before = wholes_listed rows (before ++ over (known before row.base) (durable row) ∷ [])
+
+wholes_durable : (all rows : List RowState) (k : ℕ) (before : List (List Sample)) → wholes durable before (each (with_next all) k (lists rows)) ≡ wholes durable before rows
+wholes_durable all [] k before = refl
+wholes_durable all (row ∷ rows) k before = wholes_durable all rows (k + 1) (before ++ over (known before row.base) (durable row) ∷ [])
+
+wholes_opened : (all rows : List RowState) (k : ℕ) (before : List (List Sample)) → wholes accepted before (each (with_next all) k (lists rows)) ≡ wholes durable before rows
+wholes_opened all [] k before = refl
+wholes_opened all (row ∷ rows) k before =
+    ap (λ own. wholes accepted (before ++ over (known before row.base) own ∷ []) (each (with_next all) (k + 1) (lists rows))) (append-nil (durable row))
+    ∙ wholes_opened all rows (k + 1) (before ++ over (known before row.base) (durable row) ∷ [])
+
+-- what is durable of each row that opens is what was left of it
+pub durable_opened : (rule : Rule) (told : Bool) (doors faults : ℕ) (left : Machine) (i : ℕ) → whole durable (opened rule told doors faults (kept left)).rows i ≡ whole durable left.rows i
+durable_opened rule told doors faults left i = ap (λ ws. get_or ws i []) (wholes_durable (lists left.rows) left.rows 0 [])
+
+-- own lists follow the wholes of bases as they did in what was left
+pub opened_follow : (rule : Rule) (told : Bool) (doors faults : ℕ) (left : Machine) → AllFollow durable left.rows → AllFollow accepted (opened rule told doors faults (kept left)).rows
+opened_follow rule told doors faults left f i new there =
+    let news = opened_rows (map kept_of left.rows) in
+    let same = wholes_opened (lists left.rows) left.rows 0 [] in
+    let x = back left.rows i new there in
+    let was = f i x.0 x.1 in
+    let w : whole accepted news i ≡ whole durable left.rows i = ap (λ ws. get_or ws i []) same in
+    let p : past accepted news new.base ≡ past durable left.rows x.0.base = ap (λ ws. known ws new.base) same ∙ ap (λ (r : RowState). past durable left.rows r.base) x.2 in
+    let own : accepted new ≡ durable x.0 = ap (λ r. accepted r) x.2 ∙ append-nil (durable x.0) in
+    (w ∙ (was.0 ∙ sym (ap (λ xs. xs ++ accepted new) p ∙ ap (λ xs. past durable left.rows x.0.base ++ xs) own)), subst (λ xs. IsRising xs) (sym w) was.1)
+
 module _ (told : Bool) (rows : List RowState) (s : RowsSound told rows) where
-  before_rows : (i : ℕ) (row : RowState) (b : ℕ) → slice_get rows i ≡ Some row → row.base ≡ Some b → StandsBefore rows i b
-  before_rows = before_of told rows s.bases
-
-  before_lists : (i : ℕ) (row : RowState) (b : ℕ) → slice_get (lists rows) i ≡ Some row → row.base ≡ Some b → StandsBefore (lists rows) i b
-  before_lists i row b here is =
-      let x = list_back rows i row here in
-      let o = before_rows i x.0 b x.1 (ap (λ (r : RowState). r.base) (sym x.2) ∙ is) in
-      record { base = listed_row (kept_of o.base); here = list_forth rows b o.base o.here; below = o.below }
-
-  beside_lists : (i : ℕ) (row : RowState) → slice_get (lists rows) i ≡ Some row → Beside durable accepted (lists rows) (opened_rows (map kept_of rows)) i row
-  beside_lists i row here =
-      let x = list_back rows i row here in
-      record {
-        new = lives rows i x.0;
-        there = forth rows i x.0 x.1;
-        base = ap (λ (r : RowState). r.base) (sym x.2);
-        still = λ j above there is. append-nil (durable x.0) ∙ ap (λ r. durable r) (sym x.2);
-      }
-
   -- the whole of a row that opens is that of the listed row
-  opened_whole : (i : ℕ) (row : RowState) → slice_get rows i ≡ Some row → whole accepted (opened_rows (map kept_of rows)) i ≡ whole durable (lists rows) i
-  unfolding beside_lists
-  opened_whole i row here =
-      let there = list_forth rows i row here in
-      let x = list_back rows i (listed_row (kept_of row)) there in
-      let same : accepted (lives rows i x.0) ≡ durable (listed_row (kept_of row)) = append-nil (durable x.0) ∙ ap (λ r. durable r) (sym x.2) in
-      whole_goes durable accepted (lists rows) (opened_rows (map kept_of rows)) before_lists beside_lists i (listed_row (kept_of row)) there
-      ∙ (ap (λ w. over (past durable (lists rows) row.base) w) same ∙ sym (old_whole durable accepted (lists rows) (opened_rows (map kept_of rows)) before_lists beside_lists i (listed_row (kept_of row)) there))
+  opened_whole : (i : ℕ) → whole accepted (opened_rows (map kept_of rows)) i ≡ whole durable (lists rows) i
+  opened_whole i = ap (λ ws. get_or ws i []) (wholes_opened (lists rows) rows 0 [] ∙ sym (wholes_listed rows []))
 
   -- it ends no earlier than the row's own list
   own_end : (i : ℕ) (row : RowState) → slice_get rows i ≡ Some row → end_of (durable row) ≤ end_of (whole durable (lists rows) i)
   own_end i row here =
       let own = s.each_row i row here in
       let rises : IsRising (durable row) = over_rising (over row.long row.medium) row.short (over_rising row.long row.medium own.long own.medium) own.short in
-      let is = ap end_of (old_whole durable accepted (lists rows) (opened_rows (map kept_of rows)) before_lists beside_lists i (listed_row (kept_of row)) (list_forth rows i row here)) ∙ end_of-over (past durable (lists rows) row.base) (durable row) rises in
+      let is = ap end_of (whole_is durable (lists rows) i (listed_row (kept_of row)) (list_forth rows i row here) (λ b is. (before_of told rows s.bases i row b here is).below)) ∙ end_of-over (past durable (lists rows) row.base) (durable row) rises in
       omega arith
 
   opened_sound_row : (now : Bool) (i : ℕ) (row : RowState) → slice_get rows i ≡ Some row → RowSound now (lives rows i row)
@@ -179,10 +191,10 @@ module _ (told : Bool) (rows : List RowState) (s : RowsSound told rows) where
         one = λ i j b a c here there is is'. let x = back rows i a here in let y = back rows j c there in
             s.bases.one i j b x.0 y.0 x.1 y.1 (ap (λ (r : RowState). r.base) (sym x.2) ∙ is) (ap (λ (r : RowState). r.base) (sym y.2) ∙ is');
         end = λ i new there. let x = back rows i new there in
-            let same = ap end_of (opened_whole i x.0 x.1) in
+            let same = ap end_of (opened_whole i) in
             let next : new.next ≡ end_of (whole durable (lists rows) i) = ap (λ (r : RowState). r.next) x.2 in
             omega arith;
-        exact = λ t i new there. let x = back rows i new there in ap (λ (r : RowState). r.next) x.2 ∙ sym (ap end_of (opened_whole i x.0 x.1));
+        exact = λ t i new there. let x = back rows i new there in ap (λ (r : RowState). r.next) x.2 ∙ sym (ap end_of (opened_whole i));
       }
     where
       over_opened : (i : ℕ) (new : RowState) (b : ℕ) → new.base ≡ Some b → (row : RowState) × (slice_get rows i ≡ Some row) × (new ≡ lives rows i row) → IsOver (opened_rows (map kept_of rows)) i new b

@@ -1,4 +1,4 @@
--- What never falls: what is durable and what is accepted of each row; and what never changes.
+-- What never falls: what is durable and what is accepted of each row, which goes on to follow its base; and what never changes.
 use Rattle.std.proofs.Common.{◌≡◌, ℕ, ◌+◌, List, [], ◌∷◌, ◌++◌, Option, Some, None, true, refl, ap, sym, ◌∙◌, arith, subst, append_assoc, append-nil}
 use Rattle.std.specs.Prelude.{slice_get}
 use Rattle.std.specs.Ordering.{nat_cmp}
@@ -8,6 +8,7 @@ use Rattle.series_model.specs.Archive.{IsPrefix}
 use Rattle.series_model.specs.Series.{since, end_of}
 use Rattle.act_model.specs.Reply.{Reply}
 use Rattle.act_model.specs.Rows.{RowState, durable, accepted}
+use Rattle.act_model.specs.Whole.{AllFollow}
 use Rattle.act_model.specs.Machine.{Machine, MoveState, Change}
 use Rattle.act_model.specs.Changes.{made, changed, changed_rows, added, each, Settles, no_doubt, as_not_made, as_made}
 use Rattle.act_model.specs.Outcome.{Same, Acts, refused_at_once, refused, runs, faults_first, faults_between, faults_within, faults_removing, wants_memory, wants_memory_settled}
@@ -17,6 +18,7 @@ use Rattle.act_model.specs.Growth.{RowOn, RowsOn, Onward}
 use Rattle.act_model.proofs.ChangeLaws.{RowGoes}
 use Rattle.act_model.proofs.Rows.{Came, from_row, is_new, came}
 pub use Rattle.act_model.proofs.Rows.{each_forward, append_forward}
+use Rattle.act_model.proofs.MadeSound.{made_follows}
 use Rattle.act_model.proofs.MadeLaws.{goes, IsFresh, fresh, fresh_over, added_fresh}
 use Rattle.act_model.proofs.StepLaws.{settled_sound}
 
@@ -49,14 +51,14 @@ each_on f rows on = λ i row here. let plain : 0 + i ≡ i = omega arith in (f i
 -- THE MACHINE
 
 pub onward_refl : (m : Machine) → Onward m m
-onward_refl m = record { told = refl; rule = refl; rows = λ t. rows_refl m.rows }
+onward_refl m = record { told = refl; rule = refl; rows = λ t. rows_refl m.rows; follow = λ t f. f }
 
 pub onward_trans : (a b c : Machine) → Onward a b → Onward b c → Onward a c
-onward_trans a b c p q = record { told = q.told ∙ p.told; rule = q.rule ∙ p.rule; rows = λ t. rows_trans a.rows b.rows c.rows (p.rows t) (q.rows (p.told ∙ t)) }
+onward_trans a b c p q = record { told = q.told ∙ p.told; rule = q.rule ∙ p.rule; rows = λ t. rows_trans a.rows b.rows c.rows (p.rows t) (q.rows (p.told ∙ t)); follow = λ t f. q.follow (p.told ∙ t) (p.follow t f) }
 
 -- where the rows stay, and what never changes
 pub onward_same : (old new : Machine) → new.told ≡ old.told → new.rule ≡ old.rule → new.rows ≡ old.rows → Onward old new
-onward_same old new a b c = record { told = a; rule = b; rows = λ t. subst (λ w. RowsOn old.rows w) (sym c) (rows_refl old.rows) }
+onward_same old new a b c = record { told = a; rule = b; rows = λ t. subst (λ w. RowsOn old.rows w) (sym c) (rows_refl old.rows); follow = λ t f. subst (λ w. AllFollow accepted w) (sym c) f }
 
 pub onward_counts : (old new : Machine) → Same old new → Onward old new
 onward_counts old new same = onward_same old new (ap (λ (m : Machine). m.told) same) (ap (λ (m : Machine). m.rule) same) (ap (λ (m : Machine). m.rows) same)
@@ -71,6 +73,7 @@ onward_made m into change s may =
           let plain : 0 + i ≡ i = omega arith in
           let there : slice_get (each (changed m.told m.limbo change) 0 m.rows) i ≡ Some (changed m.told m.limbo change i row) = each_forward (changed m.told m.limbo change) 0 m.rows i row here ∙ ap (λ n. Some (changed m.told m.limbo change n row)) plain in
           (changed m.told m.limbo change i row, append_forward (each (changed m.told m.limbo change) 0 m.rows) (added change m.rows) i (changed m.told m.limbo change i row) there, record { name = g.name; about = g.about; base = g.base; retired = λ is. (g.stays_retired is, g.same t); durable_on = g.more t; accepted_on = ([], g.same t ∙ sym (append-nil (accepted row))) });
+      follow = made_follows m change s may;
     }
 
 pub onward_settled : {old mid : Machine} → IsSound old → Settles old mid → Onward old mid

@@ -20,8 +20,9 @@ use Rattle.event_types.specs.declared.about.Method.{Method}
 use Rattle.event_types.specs.declared.about.Method.TheVariants.{Monitor, Scan}
 use Rattle.act_model.specs.declared.acts.Answer.TheVariants.{Dropped, IntakeFull, CatalogueFull, Kept, Held, TickKept, TickNone, NotDue, NoRow}
 use Rattle.act_model.specs.Reply.{Reply}
-use Rattle.act_model.specs.Rows.{RowState, durable, size_of, is_empty, standing, number_of, period_of, is_running, is_paused}
+use Rattle.act_model.specs.Rows.{RowState, accepted, durable, size_of, is_empty, standing, number_of, period_of, is_running, is_paused}
 use Rattle.pv_name.specs.Key.{key_of}
+use Rattle.act_model.specs.Whole.{AllFollow}
 use Rattle.act_model.specs.Machine.{Machine, MoveState, Change, AddsRow, SetsState, Renames, Appends, find_row, with_key, place, same_bytes, held_bytes}
 use Rattle.act_model.specs.Changes.{with_rows, each, at, of_row}
 use Rattle.act_model.specs.Outcome.{Outcome, all_go}
@@ -33,7 +34,7 @@ use Rattle.act_model.specs.Tick.{TickStep, ticked, ticked_due, moved_on}
 use Rattle.act_model.specs.Flush.{FlushStep, Flushes, batch_of, batch_from}
 use Rattle.act_model.specs.Sound.{RowSound, LinesSound, IsHeld, IsLive, MayMake, MayAdd, MayRename, EndedMove, IsSound}
 use Rattle.act_model.specs.Event.{IsEvent}
-use Rattle.act_model.proofs.TailLaws.{Gain, no_gain, one_gain, RowTail, same_tail, tails_sound, at_bytes}
+use Rattle.act_model.proofs.TailLaws.{Gain, no_gain, one_gain, RowTail, same_tail, tails_sound, tails_follow, at_bytes}
 use Rattle.act_model.proofs.ChangeLaws.{at_row}
 use Rattle.act_model.proofs.StepLaws.{Acts-sound, Ends-sound, own_change}
 
@@ -286,13 +287,11 @@ moved_tail told row new period now t =
     by_due true = tt
     by_due false = t.lines.held
 
--- one row of a sound machine changes so, and takes no more room than there is
-at_sound : (m : Machine) (i : ℕ) (f : RowState → RowState) (row : RowState) → IsSound m → slice_get m.rows i ≡ Some row → RowTail m.told row (f row) → held_bytes (each (at i f) 0 m.rows) ≤ 67108864 → IsSound (with_rows m (at i f))
-at_sound m i f row s here tail bytes =
-    tails_sound m (at i f) s
-    (λ j other there. at_row i j f other (λ r. RowTail m.told other r) (same_tail m.told other (s.each_row j other there) (s.lines j other there))
-    (λ is. let same : row ≡ other = by_some (sym here ∙ (ap (λ n. slice_get m.rows n) (sym is) ∙ there)) in subst (λ r. RowTail m.told r (f r)) same tail))
-    bytes
+-- one row of a sound machine changes so, and the others stay
+at_tails : (m : Machine) (i : ℕ) (f : RowState → RowState) (row : RowState) → IsSound m → slice_get m.rows i ≡ Some row → RowTail m.told row (f row) → (j : ℕ) (other : RowState) → slice_get m.rows j ≡ Some other → RowTail m.told other (at i f j other)
+at_tails m i f row s here tail j other there =
+    at_row i j f other (λ r. RowTail m.told other r) (same_tail m.told other (s.each_row j other there) (s.lines j other there))
+    (λ is. let same : row ≡ other = by_some (sym here ∙ (ap (λ n. slice_get m.rows n) (sym is) ∙ there)) in subst (λ r. RowTail m.told r (f r)) same tail)
   where
     by_some : {a b : RowState} → Some a ≡ Some b → a ≡ b
     by_some is = cc
@@ -304,7 +303,11 @@ pub data RowAct (m : Machine) : Outcome → Type 0 where
 
 pub act_sound : (m : Machine) (end : Outcome) → IsSound m → RowAct m end → IsSound end.after
 act_sound m end s (stays_act answer) = s
-act_sound m end s (row_act answer i f row here tail bytes) = at_sound m i f row s here tail bytes
+act_sound m end s (row_act answer i f row here tail bytes) = tails_sound m (at i f) s (at_tails m i f row s here tail) bytes
+
+pub act_follows : (m : Machine) (end : Outcome) → IsSound m → RowAct m end → m.told ≡ true → AllFollow accepted m.rows → AllFollow accepted end.after.rows
+act_follows m end s (stays_act answer) t f = f
+act_follows m end s (row_act answer i f row here tail bytes) t follows = tails_follow m (at i f) s (at_tails m i f row s here tail) bytes t follows
 
 append_bytes : (xs : List Sample) (s : Sample) → size_of (xs ++ s ∷ []) ≡ size_of xs + (length s.line + 1)
 append_bytes [] s = omega arith

@@ -28,13 +28,14 @@ use Rattle.act_model.specs.OpenPiece.{Opens, refused_open, no_piece, opens, faul
 use Rattle.act_model.specs.Unpin.{Unpins, refused_unpin, unpins}
 use Rattle.act_model.specs.Step.{Step, MayAsk, store_of, change_by, refuse_by}
 use Rattle.act_model.specs.Sound.{MayMake, IsSound}
-use Rattle.act_model.specs.Crash.{LeftWithin, Between}
+use Rattle.act_model.specs.Crash.{LeftBetween, as_it_is, with_doubt, LeftWithin, before_it, settled_there, with_change, Between}
 use Rattle.act_model.proofs.TailLaws.{Gain, no_gain, one_gain, RowTail}
-use Rattle.act_model.proofs.RowActs.{RowAct, stays_act, row_act, offered_act, ticked_act, register_may, state_live, sets_may, rename_may, renames_may, flush_may}
+use Rattle.act_model.proofs.RowActs.{RowAct, stays_act, row_act, act_follows, offered_act, ticked_act, register_may, state_live, sets_may, rename_may, renames_may, flush_may}
+use Rattle.act_model.proofs.StepLaws.{settled_sound}
 use Rattle.act_model.proofs.MoveActs.{publish_may, unlist_may, step_may}
 use Rattle.act_model.proofs.ChangeLaws.{at_row}
 use Rattle.act_model.specs.Growth.{RowOn, Onward}
-use Rattle.act_model.proofs.Onward.{row_refl, each_on, onward_refl, onward_trans, onward_same, onward_counts, onward_made, Acts-onward, left_within}
+use Rattle.act_model.proofs.Onward.{row_refl, each_on, onward_refl, onward_trans, onward_same, onward_counts, onward_made, onward_settled, Acts-onward, left_within}
 
 made_counts : (mid new : Machine) (into : _) (change : Change) → IsSound mid → MayMake mid.rule mid.told mid.rows mid.limbo change → Same (made into change mid) new → Onward mid new
 made_counts mid new into change s may same = onward_trans mid (made into change mid) new (onward_made mid into change s may) (onward_counts (made into change mid) new same)
@@ -51,14 +52,15 @@ tail_on told row new t =
     by_gain is (no_gain tail next) = rw (t.short, t.medium, t.long, tail) refl
     by_gain is (one_gain s up late tail next) = absurd (let down : is_running row.state ≡ false = ap is_running is in cc)
 
-act_onward : (m : Machine) (end : Outcome) → RowAct m end → Onward m end.after
-act_onward m end (stays_act answer) = onward_refl m
-act_onward m end (row_act answer i f row here tail bytes) =
+act_onward : (m : Machine) (end : Outcome) → IsSound m → RowAct m end → Onward m end.after
+act_onward m end s (stays_act answer) = onward_refl m
+act_onward m end s (row_act answer i f row here tail bytes) =
     record {
       told = refl;
       rule = refl;
       rows = λ t. each_on (at i f) m.rows (λ j other there. at_row i j f other (λ r. RowOn other r) (row_refl other)
           (λ is. let same : row ≡ other = by_some (sym here ∙ (ap (λ n. slice_get m.rows n) (sym is) ∙ there)) in subst (λ r. RowOn r (f r)) same (tail_on m.told row (f row) tail)));
+      follow = act_follows m end s (row_act answer i f row here tail bytes);
     }
   where
     by_some : {a b : RowState} → Some a ≡ Some b → a ≡ b
@@ -109,8 +111,8 @@ step_onward who (Resume name) old new reply s ask step = state_onward not_paused
 step_onward who (Rename name newname) old new reply s ask step =
     Acts-onward (rename_refused (changed_within name old) step.0 name newname) (IsRenamed name newname) (λ m. renames_of newname (find_row m name)) all_go
     (λ mid answer new s free ran. made_counts mid new [] (Renames ran.1.0 newname) s (rename_may (changed_within name old) step.0 name newname mid free ran.1.0 ran.1.1) ran.1.2) s step.1
-step_onward who (Offer name ty t line now) old new reply s ask step = ends_onward _ old new reply (act_onward old _ (offered_act old name ty (record { t = t; line = line }) now s ask)) step
-step_onward who (Tick row now) old new reply s ask step = ends_onward _ old new reply (act_onward old _ (ticked_act old row now s)) step
+step_onward who (Offer name ty t line now) old new reply s ask step = ends_onward _ old new reply (act_onward old _ s (offered_act old name ty (record { t = t; line = line }) now s ask)) step
+step_onward who (Tick row now) old new reply s ask step = ends_onward _ old new reply (act_onward old _ s (ticked_act old row now s)) step
 step_onward who (Flush limit) old new reply s ask step = Acts-onward (λ m. None) (Flushes limit) (λ m. Some (Appends (batch_of limit m))) all_go (λ mid answer new s free ran. made_counts mid new [] (Appends (batch_of limit mid)) s (flush_may limit mid) ran.1) s step
 step_onward who (MoveBegin store now) old new reply s ask step = Acts-onward (λ m. None) (Begins (store_of store) now) (λ m. None) all_go (λ mid answer new s free ran. begins_onward ran) s step
 step_onward who (MoveStep n) old new reply s ask step = Acts-onward (λ m. no_move (get m.moves n)) (GoesOn n) (λ m. change_of m (get m.moves n)) (ends_move n) (λ mid answer new s free ran. goes_onward s ran) s step
@@ -146,6 +148,18 @@ may_by (Names from most) mid one s free is = absurd cc
 may_by (Details name) mid one s free is = absurd cc
 may_by Doors mid one s free is = absurd cc
 may_by DoorDone mid one s free is = absurd cc
+
+-- rows go on to what a crash leaves, as to any later state
+pub left_on_between : (old left : Machine) → IsSound old → LeftBetween old left → Onward old left
+left_on_between old left s as_it_is = onward_refl old
+left_on_between old left s (with_doubt change is) = onward_made old [] change s (s.doubted change is).0
+
+pub left_on : (act : Act) (old left : Machine) → IsSound old → LeftWithin (refuse_by act) (change_by act) old left → Onward old left
+left_on act old left s (before_it is) = left_on_between old left s is
+left_on act old left s (settled_there settles) = onward_settled s settles
+left_on act old left s (with_change {mid} one settles free is) =
+    let sound : IsSound mid = settled_sound settles s in
+    onward_trans old mid (made [] one mid) (onward_settled s settles) (onward_made mid [] one sound (may_by act mid one sound free is))
 
 -- what a crash within an act leaves extends what was durable before it, and is extended by what was accepted
 pub crash_within : (act : Act) (old left : Machine) → old.told ≡ true → IsSound old → LeftWithin (refuse_by act) (change_by act) old left → (i : ℕ) (row : RowState) → slice_get left.rows i ≡ Some row → Between old.rows i row

@@ -10,11 +10,12 @@ use Rattle.event_types.specs.declared.about.State.TheVariants.{Paused}
 use Rattle.act_model.specs.Rows.{RowState, Store, Short, Medium, Long, next_store, deep, tier, durable, accepted, is_running, size_of, window, is_empty}
 use Rattle.act_model.specs.Limbo.{FileState, tier_at}
 use Rattle.pv_name.specs.Key.{key_of}
+use Rattle.act_model.specs.Whole.{AllFollow}
 use Rattle.act_model.specs.Machine.{Machine, Change, AddsRow, SetsState, Renames, Appends, Publishes, Unlists, held_bytes}
 use Rattle.act_model.specs.Changes.{each, at, with_rows, of_row}
 use Rattle.act_model.specs.Sound.{RowSound, LinesSound, CopiesOf, MayMake, MayAdd, LimboSound, IsUnlisted, PieceSound, IsSound}
 use Rattle.act_model.proofs.Rows.{length-each, each_get, each_forward, of_all, there_is_row}
-use Rattle.act_model.proofs.Bases.{RowOver, goes_on, bases_go}
+use Rattle.act_model.proofs.Bases.{RowOver, Comes, goes_on, bases_go, follows_go}
 
 -- a row's tail stays, or the tail of a running row has one sample more, behind all that was accepted
 pub data Gain (row new : RowState) : Type 0 where
@@ -76,6 +77,7 @@ tail_over told row new sound t = by_gain t.gain
           next = omega arith;
           goes = λ rises low. (rw same rises, rw (same, next) low);
           exact = λ known e is. next ∙ (is ∙ ap (λ w. max e (end_of w)) (sym same));
+          more = λ known. ([], same ∙ sym (append-nil (accepted row)), tt);
         }
     by_gain (one_gain s up late tail next) =
         let p = end_of (durable row) in
@@ -100,6 +102,7 @@ tail_over told row new sound t = by_gain t.gain
               let ends : end_of (accepted row ++ s ∷ []) ≡ s.t + 1 = end_from-append 0 (accepted row) (s ∷ []) in
               let all : end_of (accepted new) ≡ s.t + 1 = ap end_of whole ∙ ends in
               omega arith;
+          more = λ known. (s ∷ [], whole, (late, tt));
         }
 
 module _ (m : Machine) (f : ℕ → RowState → RowState) (s : IsSound m)
@@ -157,13 +160,19 @@ module _ (m : Machine) (f : ℕ → RowState → RowState) (s : IsSound m)
       let plain : 0 + i ≡ i = omega arith in
       (f i row, each_forward f 0 m.rows i row here ∙ ap (λ n. Some (f n row)) plain, tail_over m.told row (f i row) (s.each_row i row here) (tails i row here))
 
+  back : (i : ℕ) (new : RowState) → slice_get new_rows i ≡ Some new → Comes m.told m.rows new_rows i new
+  back i new there = let o = from i new there in goes_on o.row o.here (tail_over m.told o.row new (s.each_row i o.row o.here) o.tail)
+
+  pub tails_follow : m.told ≡ true → AllFollow accepted m.rows → AllFollow accepted new_rows
+  tails_follow = follows_go m.told m.rows new_rows s.each_row s.bases forth back
+
   pub tails_sound : IsSound (with_rows m f)
   tails_sound =
       record {
         few = (let few : length m.rows ≤ 65536 = s.few in let same = length-each f 0 m.rows in omega arith);
         keys = λ i j a b here there same. let o = from i a here in let p = from j b there in s.keys i j o.row p.row o.here p.here (ap key_of (sym o.tail.name) ∙ (same ∙ ap key_of p.tail.name));
         each_row = λ i new there. (from i new there).tail.sound;
-        bases = bases_go m.told m.rows new_rows s.each_row s.bases forth (λ i new there. let o = from i new there in goes_on o.row o.here (tail_over m.told o.row new (s.each_row i o.row o.here) o.tail));
+        bases = bases_go m.told m.rows new_rows s.each_row s.bases forth back;
         lines = λ i new there. (from i new there).tail.lines;
         intake = bytes;
         doubted = λ c is. let old = s.doubted c is in (tail_may c old.0, old.1);

@@ -1,13 +1,15 @@
 -- The whole list of a row: its own over the whole of its base. Bases stay as they are, so the whole of each row changes as its own does.
-use Rattle.std.proofs.Common.{◌≡◌, ℕ, ◌+◌, ◌<◌, List, [], ◌∷◌, ◌++◌, length, get_or, Option, Some, None, zero, suc, refl, ap, sym, ◌∙◌, arith}
+-- Where an own list follows the whole of its base, it is all in the whole.
+use Rattle.std.proofs.Common.{◌≡◌, ℕ, ◌+◌, ◌<◌, List, [], ◌∷◌, ◌++◌, length, get_or, Option, Some, None, zero, suc, refl, ap, sym, ◌∙◌, arith, subst}
 use Rattle.std.specs.Prelude.{slice_get}
-use Rattle.std.proofs.lemmas.List.{length-append, get_or_append_left, get_or_push}
+use Rattle.std.proofs.lemmas.List.{length-append, get_or_append_left, get_or_push, get_or_past}
 use Rattle.std.proofs.lemmas.Option.{same_Some}
 use Rattle.std.proofs.lemmas.Bool.Decides.{nat_tests}
 use Rattle.series_model.specs.declared.sample.Sample.{Sample}
-use Rattle.series_model.specs.Series.{over}
+use Rattle.series_model.specs.Series.{IsRising, RisesFrom, end_of, over}
+use Rattle.series_model.proofs.RisingLists.{RisesFrom-append, RisesFrom-rest, since_all}
 use Rattle.act_model.specs.Rows.{RowState}
-use Rattle.act_model.specs.Whole.{known, wholes, past, whole}
+use Rattle.act_model.specs.Whole.{known, wholes, past, whole, FollowsBase, AllFollow}
 
 -- ONE LIST OF ROWS
 
@@ -15,6 +17,12 @@ use Rattle.act_model.specs.Whole.{known, wholes, past, whole}
 pub over_nothing : (xs : List Sample) → over [] xs ≡ xs
 over_nothing [] = refl
 over_nothing (x ∷ xs) = grind (arith, nat_tests, over_nothing xs)
+
+-- where one list and then another rise, the second over the first is both
+pub together : (w front own : List Sample) → w ≡ over front own → IsRising (front ++ own) → (w ≡ front ++ own) × IsRising w
+together w front own is rises =
+    let same : w ≡ front ++ own = is ∙ ap (λ xs. front ++ xs) (since_all (end_of front) (end_of front) own (RisesFrom-rest 0 front own rises) (omega arith)) in
+    (same, subst (λ xs. IsRising xs) (sym same) rises)
 
 module _ (own : RowState → List Sample) where
   -- what is known stays so as rows follow
@@ -57,6 +65,19 @@ module _ (own : RowState → List Sample) where
       let plain : i ≡ 0 + i = omega arith in
       ap (λ n. get_or (wholes own [] rows) n []) plain ∙ row_whole rows [] i row here (λ b is. (let l : b < i = low b is in omega arith))
 
+  -- a row that isn't there has nothing
+  none_there : (rows : List RowState) (before : List (List Sample)) (i : ℕ) → slice_get rows i ≡ None → get_or (wholes own before rows) (length before + i) [] ≡ []
+  none_there [] before i none = get_or_past before (length before + i) [] (omega arith)
+  none_there (x ∷ rows) before zero none = absurd cc
+  none_there (x ∷ rows) before (suc i) none =
+      let one : List Sample = over (known before x.base) (own x) in
+      let longer : length (before ++ one ∷ []) ≡ length before + 1 = length-append before (one ∷ []) in
+      let next : length before + suc i ≡ length (before ++ one ∷ []) + i = omega arith in
+      ap (λ n. get_or (wholes own (before ++ one ∷ []) rows) n []) next ∙ none_there rows (before ++ one ∷ []) i none
+
+  pub whole_none : (rows : List RowState) (i : ℕ) → slice_get rows i ≡ None → whole own rows i ≡ []
+  whole_none rows i none = let plain : i ≡ 0 + i = omega arith in ap (λ n. get_or (wholes own [] rows) n []) plain ∙ none_there rows [] i none
+
 -- TWO LISTS OF ROWS
 
 -- the row's base is there before it
@@ -64,6 +85,22 @@ pub record StandsBefore (rows : List RowState) (i b : ℕ) : Type 0 where
   pub base : RowState
   pub here : slice_get rows b ≡ Some base
   pub below : b < i
+
+-- where each own list rises from the end of the whole of its base, it follows that
+module _ (own : RowState → List Sample) (rows : List RowState) (lies : (i : ℕ) (row : RowState) (b : ℕ) → slice_get rows i ≡ Some row → row.base ≡ Some b → StandsBefore rows i b)
+    (from_end : (i : ℕ) (row : RowState) → slice_get rows i ≡ Some row → RisesFrom (end_of (past own rows row.base)) (own row)) where
+  follows_below : (n i : ℕ) (row : RowState) → i < n → slice_get rows i ≡ Some row → FollowsBase own rows i row
+  follows_below zero i row low here = absurd (omega arith)
+  follows_below (suc n) i row low here =
+      together (whole own rows i) (past own rows row.base) (own row) (whole_is own rows i row here (λ b is. (lies i row b here is).below))
+      (RisesFrom-append 0 (past own rows row.base) (own row) (by_base row.base refl (λ b base lower there. (follows_below n b base lower there).1)) (from_end i row here))
+    where
+      by_base : (o : Option ℕ) → row.base ≡ o → ((b : ℕ) (base : RowState) → b < n → slice_get rows b ≡ Some base → IsRising (whole own rows b)) → IsRising (past own rows o)
+      by_base None is more = tt
+      by_base (Some b) is more = let o = lies i row b here is in let lower : b < i = o.below in more b o.base (omega arith) o.here
+
+  pub all_follow : AllFollow own rows
+  all_follow i row here = follows_below (suc i) i row (omega arith) here
 
 -- A row is there among the others too, over the same base; where it is a base, its own list stays.
 pub record Beside (own own' : RowState → List Sample) (rows news : List RowState) (i : ℕ) (row : RowState) : Type 0 where

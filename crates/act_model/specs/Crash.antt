@@ -1,15 +1,16 @@
 -- What a crash leaves of an archive: its rows with what their stores list, as they are or with one change made. What was accepted and not
--- yet durable is gone. `LeftBetween` is of a crash between acts, `LeftWithin` of one at any moment within an act, and `Between` and
--- `LiesBetween` compare what is left with what was there.
+-- yet durable is gone. `LeftBetween` is of a crash between acts, `LeftWithin` of one at any moment within an act, and `Between`,
+-- `LiesBetween` and, of whole rows, `WholesBetween` compare what is left with what was there.
 use Rattle.std.specs.Prelude.{◌≡◌, ℕ, List, [], map, Option, Some, None, slice_get}
 use Rattle.series_model.specs.declared.sample.Sample.{Sample}
-use Rattle.series_model.specs.Archive.{IsPrefix}
+use Rattle.series_model.specs.Archive.{Extends, IsPrefix}
 use Rattle.event_types.specs.declared.about.About.{About}
 use Rattle.event_types.specs.declared.about.State.{State}
 use Rattle.act_model.specs.Reply.{Reply}
 use Rattle.act_model.specs.Rows.{RowState, durable, accepted}
 use Rattle.act_model.specs.Machine.{Machine, Change}
 use Rattle.act_model.specs.Changes.{made, Settles}
+use Rattle.act_model.specs.Whole.{AllFollow, whole}
 
 -- a row as a disk keeps it
 pub record DurableRow : Type 0 where
@@ -51,3 +52,12 @@ pub data Between (rows : List RowState) (i : ℕ) (left : RowState) : Type 0 whe
 pub record LiesBetween (start end : Machine) (i : ℕ) (left : RowState) : Type 0 where
   pub extends : (row : RowState) → slice_get start.rows i ≡ Some row → (left.base ≡ row.base) × IsPrefix (durable row) (durable left)
   pub extended : (row : RowState) → slice_get end.rows i ≡ Some row → (left.base ≡ row.base) × IsPrefix (durable left) (accepted row)
+
+-- The wholes of what is left, beside those at the start and at the end of a run: each holds what was durable of it at the start, and is the
+-- front of what is accepted at the end, but for rows that have nothing of their own in what is left. Where each own list followed its base's
+-- whole at the start, it does in what is left and at the end.
+pub record WholesBetween (start left end : Machine) : Type 0 where
+  pub extend : Extends (whole durable left.rows) (whole durable start.rows)
+  pub extended : (i : ℕ) (row : RowState) → slice_get left.rows i ≡ Some row → (durable row ≡ [] → ⊥)
+      → IsPrefix (whole durable left.rows i) (whole accepted end.rows i)
+  pub follow : AllFollow accepted start.rows → AllFollow durable left.rows × AllFollow accepted end.rows

@@ -1,12 +1,13 @@
 -- How an archive changes over time. With every act it goes onward (`Onward`): no row goes or becomes another variable's, and of each row
--- what is durable and what is accepted only grow; a row that is retired stays as it is. So the whole of each row grows too. A move changes
--- neither list (`RowsLike`). Over a crash and the next opening rows last (`RowsLast`): each is there, for the same variable and over the
--- same base, with no less that is durable.
+-- what is durable and what is accepted only grow; a row that is retired stays as it is. So the whole of each row grows too, and where each
+-- own list followed its base's whole, it still does. A move changes neither list (`RowsLike`). Over a crash and the next opening rows last
+-- (`RowsLast`): each is there, for the same variable and over the same base, with no less that is durable.
 use Rattle.std.specs.Prelude.{◌≡◌, ℕ, List, true, Some, slice_get}
 use Rattle.series_model.specs.Archive.{IsPrefix}
 use Rattle.event_types.specs.declared.about.State.TheVariants.{Retired}
 use Rattle.act_model.specs.Rows.{RowState, durable, accepted}
 use Rattle.act_model.specs.Machine.{Machine}
+use Rattle.act_model.specs.Whole.{AllFollow}
 
 -- the same variable's row, with no less durable and no less accepted
 pub record RowOn (row new : RowState) : Type 0 where
@@ -21,11 +22,12 @@ pub record RowOn (row new : RowState) : Type 0 where
 abbrev pub RowsOn : List RowState → List RowState → Type 0
 RowsOn rows news = (i : ℕ) (row : RowState) → slice_get rows i ≡ Some row → (new : RowState) × (slice_get news i ≡ Some new) × RowOn row new
 
--- the same disk under the same rule, and rows that go on
+-- the same disk under the same rule, and rows that go on and follow their bases as before
 pub record Onward (old new : Machine) : Type 0 where
   pub told : new.told ≡ old.told
   pub rule : new.rule ≡ old.rule
   pub rows : old.told ≡ true → RowsOn old.rows new.rows
+  pub follow : old.told ≡ true → AllFollow accepted old.rows → AllFollow accepted new.rows
 
 -- the same is durable, and the same is accepted
 pub record RowLike (row new : RowState) : Type 0 where

@@ -1,11 +1,11 @@
 -- What holds of an archive, whatever is asked of it and by whomever, and wherever it stops. Each law is proved over all states, acts and
 -- histories; the functions in `src/laws.rt` have them as their clauses.
-use Rattle.std.specs.Prelude.{◌≡◌, ◌≢◌, ◌⊎◌, ℕ, ◌≤◌, List, [], ◌∷◌, ◌++◌, length, true, Some, slice_get, Bool, None}
+use Rattle.std.specs.Prelude.{◌≡◌, ◌≢◌, ◌⊎◌, ◌↔◌, ℕ, ◌≤◌, List, [], ◌∷◌, ◌++◌, length, true, Some, slice_get, Bool, None}
 use Rattle.std.specs.FinMap.{get}
 use Rattle.series_model.specs.declared.sample.Query.{Query}
 use Rattle.series_model.specs.declared.sample.Sample.{Sample}
-use Rattle.series_model.specs.Archive.{IsPrefix}
-use Rattle.series_model.specs.Series.{IsRising, end_of, over}
+use Rattle.series_model.specs.Archive.{Extends, IsPrefix}
+use Rattle.series_model.specs.Series.{IsRising, RisesFrom, end_of, over}
 use Rattle.event_types.specs.declared.about.About.{About}
 use Rattle.disk_model.specs.Files.{Name}
 use Rattle.act_model.specs.declared.acts.Act.{Act}
@@ -15,14 +15,14 @@ use Rattle.act_model.specs.declared.details.Details.{Details as Told}
 use Rattle.act_model.specs.Reply.{Reply, Opened}
 use Rattle.act_model.specs.Rows.{RowState, durable, accepted}
 use Rattle.act_model.specs.Rule.{Rule}
-use Rattle.act_model.specs.Whole.{whole}
+use Rattle.act_model.specs.Whole.{AllFollow, past, whole}
 use Rattle.act_model.specs.Machine.{Machine, PinState, MoveState, find_row}
 use Rattle.act_model.specs.MoveStep.{GoesOn}
 use Rattle.act_model.specs.Step.{Step, MayAsk, refuse_by, change_by}
 use Rattle.act_model.specs.Answers.{is_answer_to}
 use Rattle.act_model.specs.Sound.{IsSound}
 use Rattle.act_model.specs.Growth.{Onward, RowsLike, RowsLast}
-use Rattle.act_model.specs.Crash.{kept_of, kept, LeftBetween, LeftWithin, Between, LiesBetween}
+use Rattle.act_model.specs.Crash.{kept_of, kept, LeftBetween, LeftWithin, Between, LiesBetween, WholesBetween}
 use Rattle.act_model.specs.NextLife.{opened}
 use Rattle.act_model.specs.History.{Entry, Done, Runs, own, mine, StepsAt, CutAt}
 use Rattle.act_model.specs.Lives.{Stops, Lives}
@@ -78,8 +78,13 @@ WholeIsOverBase =
 abbrev pub WholeGrows : Type 0
 WholeGrows =
     (entries : List Entry) (old new : Machine) → old.told ≡ true → IsSound old → Runs old entries new
-    → (i : ℕ) (row : RowState) → slice_get old.rows i ≡ Some row
-    → IsPrefix (whole accepted old.rows i) (whole accepted new.rows i) × IsPrefix (whole durable old.rows i) (whole durable new.rows i)
+    → Extends (whole accepted new.rows) (whole accepted old.rows) × Extends (whole durable new.rows) (whole durable old.rows)
+
+-- each own list follows the whole of its base exactly where it rises from the end of that
+abbrev pub FollowsFromEnd : Type 0
+FollowsFromEnd =
+    (own : RowState → List Sample) (m : Machine) → IsSound m
+    → AllFollow own m.rows ↔ ((i : ℕ) (row : RowState) → slice_get m.rows i ≡ Some row → RisesFrom (end_of (past own m.rows row.base)) (own row))
 
 -- one flush of 64 MiB or more leaves nothing in the intake
 abbrev pub FlushLeavesNone : Type 0
@@ -148,6 +153,14 @@ LeftInRun =
     → LeftWithin (refuse_by act) (change_by act) mid left
     → (i : ℕ) (row : RowState) → slice_get left.rows i ≡ Some row → (durable row ≡ [] → ⊥) → LiesBetween start end i row
 
+-- so it is of the wholes
+abbrev pub WholesLeftInRun : Type 0
+WholesLeftInRun =
+    (before_it after_it : List Entry) (act : Act) (start mid end left : Machine) → start.told ≡ true → IsSound start
+    → Runs start before_it mid → Runs mid after_it end
+    → LeftWithin (refuse_by act) (change_by act) mid left
+    → WholesBetween start left end
+
 -- LIVES
 
 -- what a crash between acts leaves opens as a sound state
@@ -169,14 +182,27 @@ OpensWithRows =
     → slice_get left.rows i ≡ Some row
     → (new : RowState) × (slice_get (opened rule told doors faults (kept left)).rows i ≡ Some new) × (kept_of new ≡ kept_of row) × (accepted new ≡ durable row)
 
+-- where each own list followed its base's whole in what was left, it does in what opens
+abbrev pub OpensFollowing : Type 0
+OpensFollowing =
+    (rule : Rule) (told : Bool) (doors faults : ℕ) (left : Machine) → AllFollow durable left.rows
+    → AllFollow accepted (opened rule told doors faults (kept left)).rows
+
 -- lives one after another end in a sound state
 abbrev pub LivesKeepSound : Type 0
 LivesKeepSound = (start now : Machine) → IsSound start → Lives start now → IsSound now
 
--- what was durable of a row in one life is there in all later ones, for the same variable
+-- what was durable of a row in one life is there in all later ones, for the same variable; so it is of its whole
 abbrev pub LivesLoseNothing : Type 0
 LivesLoseNothing =
-    (start now : Machine) → start.told ≡ true → IsSound start → Lives start now → RowsLast start.rows now.rows
+    (start now : Machine) → start.told ≡ true → IsSound start → Lives start now
+    → RowsLast start.rows now.rows × Extends (whole durable now.rows) (whole durable start.rows)
+
+-- where each own list followed its base's whole in one life, it does in all later ones: so it always does where the first had no row
+abbrev pub LivesFollow : Type 0
+LivesFollow =
+    (start now : Machine) → start.told ≡ true → IsSound start → Lives start now → AllFollow accepted start.rows
+    → AllFollow accepted now.rows
 
 -- what a life leaves of a row was accepted in it, and holds all that was durable in it
 abbrev pub LivesLeaveAccepted : Type 0

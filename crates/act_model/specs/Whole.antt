@@ -4,7 +4,7 @@
 -- its row.
 use Rattle.std.specs.Prelude.{◌≡◌, ℕ, List, [], ◌∷◌, ◌++◌, Option, Some, None, get_or, slice_get}
 use Rattle.series_model.specs.declared.sample.Sample.{Sample}
-use Rattle.series_model.specs.Series.{over}
+use Rattle.series_model.specs.Series.{IsRising, over}
 use Rattle.act_model.specs.Rows.{RowState}
 
 -- the list with this number among those that are known, nothing where there is none
@@ -24,6 +24,14 @@ past own rows base = known (wholes own [] rows) base
 -- The whole of the row with this number, by what counts as a row's own: `accepted` or `durable`.
 abbrev pub whole : (RowState → List Sample) → List RowState → ℕ → List Sample
 whole own rows i = past own rows (Some i)
+
+-- The row's own list follows the whole of its base: that and the own list, one behind the other, are the whole of the row, and it rises.
+abbrev pub FollowsBase : (RowState → List Sample) → List RowState → ℕ → RowState → Type 0
+FollowsBase own rows i row = (whole own rows i ≡ past own rows row.base ++ own row) × IsRising (whole own rows i)
+
+-- so it is of each row: nothing of an own list is left out
+abbrev pub AllFollow : (RowState → List Sample) → List RowState → Type 0
+AllFollow own rows = (i : ℕ) (row : RowState) → slice_get rows i ≡ Some row → FollowsBase own rows i row
 
 -- The row k is a part of the whole of the row i: it is that row, or its base, or that one's base, and so on.
 pub data IsPartOf (rows : List RowState) (k : ℕ) : ℕ → Type 0 where

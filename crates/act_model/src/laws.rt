@@ -1,5 +1,5 @@
 //! What holds of an archive whatever is asked of it. Each law is a clause of a function that does nothing.
-ghost use Rattle.act_model.specs.Laws.{StepKeepsSound, RunKeepsSound, AnswersAreOfActs, DurableIsAccepted, StepGoesOnward, RunGoesOnward, WholeIsOneList, WholeIsOverBase, WholeGrows, FlushLeavesNone, MoveKeepsLists, BegunIsNew, RetiredIsWhole, NoneIsDamaged, OthersOpenNone, DetailsAreOfRow, EndsAsACrashMayLeave, LeftBetweenActs, LeftWithinAct, LeftInRun, OpensBetweenActs, OpensWithinAct, OpensWithRows, LivesKeepSound, LivesLoseNothing, LivesLeaveAccepted, PinAnswers, PinStandsUntilUnpinned, PinStandsBesideOthers, PieceOpensAsPinned, PieceIsRead, RunsJoin, EntriesAreSteps, OwnActsAreSteps, OwnActsJoin};
+ghost use Rattle.act_model.specs.Laws.{StepKeepsSound, RunKeepsSound, AnswersAreOfActs, DurableIsAccepted, StepGoesOnward, RunGoesOnward, WholeIsOneList, WholeIsOverBase, WholeGrows, FollowsFromEnd, FlushLeavesNone, MoveKeepsLists, BegunIsNew, RetiredIsWhole, NoneIsDamaged, OthersOpenNone, DetailsAreOfRow, EndsAsACrashMayLeave, LeftBetweenActs, LeftWithinAct, LeftInRun, WholesLeftInRun, OpensBetweenActs, OpensWithinAct, OpensWithRows, OpensFollowing, LivesKeepSound, LivesLoseNothing, LivesFollow, LivesLeaveAccepted, PinAnswers, PinStandsUntilUnpinned, PinStandsBesideOthers, PieceOpensAsPinned, PieceIsRead, RunsJoin, EntriesAreSteps, OwnActsAreSteps, OwnActsJoin};
 
 /// Whatever is asked and answered, by whomever, the state stays sound, and each act has an answer of its own.
 pub fn soundness_stays()
@@ -8,18 +8,20 @@ pub fn soundness_stays()
     ensures answers { AnswersAreOfActs }
 {}
 
-/// What is durable of a variable is a front of what is accepted, and both only grow.
+/// What is durable of a variable is a front of what is accepted, and both only grow. Own lists go on to follow the wholes of their bases.
 pub fn lists_grow()
     ensures front { DurableIsAccepted }
     ensures step { StepGoesOnward }
     ensures run { RunGoesOnward }
 {}
 
-/// What a variable has under its name and under the names before it is one list, which rises and only grows.
+/// What a variable has under its name and under the names before it is one list, which rises and only grows. The own list of a row follows
+/// what is before it exactly where it rises from the end of that.
 pub fn wholes_grow()
     ensures list { WholeIsOneList }
     ensures over_base { WholeIsOverBase }
     ensures run { WholeGrows }
+    ensures follows { FollowsFromEnd }
 {}
 
 /// One flush of at least 64 MiB leaves nothing in the intake.
@@ -45,25 +47,29 @@ pub fn details_are_of_rows()
 {}
 
 /// What a crash leaves of a variable extends what was durable and is extended by what is accepted: of a crash between acts, within an
-/// act, and within any act of a run. What an act leaves that comes to its end is among what a crash within it may leave.
+/// act, and within any act of a run, there of the whole too. What an act leaves that comes to its end is among what a crash within it may leave.
 pub fn crashes_lose_no_more()
     ensures whole { EndsAsACrashMayLeave }
     ensures between { LeftBetweenActs }
     ensures within { LeftWithinAct }
     ensures run { LeftInRun }
+    ensures wholes { WholesLeftInRun }
 {}
 
-/// What a crash leaves opens as a sound state, in which just what is durable is accepted.
+/// What a crash leaves opens as a sound state, in which just what is durable is accepted, and own lists follow as they did.
 pub fn next_lives_are_sound()
     ensures between { OpensBetweenActs }
     ensures within { OpensWithinAct }
     ensures rows { OpensWithRows }
+    ensures follows { OpensFollowing }
 {}
 
-/// Over any number of crashes and openings nothing that was durable is lost, and nothing comes that was not accepted.
+/// Over any number of crashes and openings nothing that was durable is lost, nothing comes that was not accepted, and own lists follow the
+/// wholes of their bases as they did: so they always do in an archive that began without rows.
 pub fn lives_lose_nothing()
     ensures sound { LivesKeepSound }
     ensures durable { LivesLoseNothing }
+    ensures follows { LivesFollow }
     ensures accepted { LivesLeaveAccepted }
 {}
 
