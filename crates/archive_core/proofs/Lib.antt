@@ -65,3 +65,4 @@ pub mod MoveParts
 pub mod TellingDamage
 pub mod CopyTaken
 pub mod RunOfActs
+mod OpensFollowing

@@ -17,8 +17,7 @@ use Rattle.archive_actors.specs.Steps.{SharedStep, kept, all_kept}
 use Rattle.archive_actors.specs.declared.shared.Shared.{Shared}
 use Rattle.turn_rooms.specs.declared.room.Entry.{Entry as RoomEntry}
 use Rattle.turn_rooms.specs.Histories.{Legal, LegalFrom, end_of}
-use Rattle.act_model.specs.Changes.{made}
-use Rattle.act_model.specs.Crash.{LeftBetween, as_it_is, with_doubt, LeftWithin, Between, of_row_there, of_no_row, before_it, settled_there, with_change}
+use Rattle.act_model.specs.Crash.{LeftWithin, Between, of_row_there, of_no_row, before_it}
 use Rattle.act_model.specs.Growth.{Onward}
 use Rattle.act_model.specs.History.{Entry, Runs}
 use Rattle.act_model.specs.Machine.{Machine}
@@ -26,27 +25,15 @@ use Rattle.act_model.specs.Rows.{RowState, accepted, durable}
 use Rattle.act_model.specs.Sound.{IsSound}
 use Rattle.act_model.specs.Step.{Step, MayAsk, change_by, refuse_by}
 use Rattle.act_model.proofs.Histories.{runs_append, runs_onward, runs_sound}
-use Rattle.act_model.proofs.Onward.{onward_made, onward_refl, onward_settled, onward_trans, prefix_trans}
-use Rattle.act_model.proofs.StepLaws.{settled_sound}
-use Rattle.act_model.proofs.StepOnward.{crash_within, may_by}
+use Rattle.act_model.proofs.Onward.{prefix_trans}
+use Rattle.act_model.proofs.StepOnward.{crash_within, left_on}
+use Rattle.act_model.proofs.WholeLaws.{wholes_between, wholes_on}
 use Rattle.archive_core.specs.Ends.{HoldsMachine, LeavesByAct, LeavesWithin}
 use Rattle.archive_core.specs.Leaving.{Leaves}
 use Rattle.archive_core.specs.Parts.{Parts}
 use Rattle.archive_core.specs.Running.{HoldsBetween, LeftIn, MakesAll, RunsOn, asked}
 use Rattle.archive_core.specs.Stands.{Stands}
 use Rattle.archive_core.proofs.Crashes.{crash_leaves}
-
--- rows go on to what a crash leaves, as to any later state
-on_between : (old left : Machine) → IsSound old → LeftBetween old left → Onward old left
-on_between old left s as_it_is = onward_refl old
-on_between old left s (with_doubt change is) = onward_made old [] change s (s.doubted change is).0
-
-on_within : (act : Act) (old left : Machine) → IsSound old → LeftWithin (refuse_by act) (change_by act) old left → Onward old left
-on_within act old left s (before_it is) = on_between old left s is
-on_within act old left s (settled_there settles) = onward_settled s settles
-on_within act old left s (with_change {mid} one settles free is) =
-    let sound : IsSound mid = settled_sound settles s in
-    onward_trans old mid (made [] one mid) (onward_settled s settles) (onward_made mid [] one sound (may_by act mid one sound free is))
 
 -- what a crash within an act leaves lies between the start of a run to it and the end of a run from it
 holds_within : (gs : List Granularity) (start mid end left : Machine) (act : Act) (image : Files) (xs ys : List Entry) → start.told ≡ true → IsSound start → Runs start xs mid → Runs mid ys end
@@ -56,7 +43,7 @@ holds_within gs start mid end left act image xs ys t s before after is own holds
     let first_on : Onward start mid = runs_onward xs start mid s before in
     let later : Onward mid end = runs_onward ys mid end sound after in
     let told : mid.told ≡ true = first_on.told ∙ t in
-    let further : Onward mid left = on_within act mid left sound is in
+    let further : Onward mid left = left_on act mid left sound is in
     record {
       left = left;
       along = record { front = xs; back = ys; split = refl; at = mid; to = before; is = own };
@@ -67,6 +54,7 @@ holds_within gs start mid end left act image xs ys t s before after is own holds
           let two = further.rows told i one.0 one.1 in
           (two.0, two.1, two.2.base ∙ one.2.base, prefix_trans (durable first) (durable one.0) (durable two.0) one.2.durable_on two.2.durable_on);
       extended = λ i row here some. by_row told later i row some (crash_within act mid left told sound is i row here);
+      wholes = wholes_between xs ys act start mid end left t s before after is;
     }
   where
     by_row : mid.told ≡ true → Onward mid end → (i : ℕ) (row : RowState) → (durable row ≡ [] → ⊥) → Between mid.rows i row → (last : RowState) × (slice_get end.rows i ≡ Some last) × (last.base ≡ row.base) × IsPrefix (durable row) (accepted last)
@@ -79,8 +67,8 @@ in_more at [] e left is = before_it is
 in_more at (x ∷ back) e left is = is
 
 -- what lies between two states lies before any later one
-holds_on : (gs : List Granularity) (start mid end : Machine) (done : List Entry) (e : Entry) (image : Files) → mid.told ≡ true → Onward mid end → HoldsBetween gs start done mid image → HoldsBetween gs start (done ++ e ∷ []) end image
-holds_on gs start mid end done e image told later h = record {
+holds_on : (gs : List Granularity) (start mid end : Machine) (done : List Entry) (e : Entry) (image : Files) → mid.told ≡ true → IsSound mid → Onward mid end → HoldsBetween gs start done mid image → HoldsBetween gs start (done ++ e ∷ []) end image
+holds_on gs start mid end done e image told sound later h = record {
   left = h.left;
   along = (let w = h.along in record {
     front = w.front;
@@ -97,6 +85,7 @@ holds_on gs start mid end done e image told later h = record {
       let one = h.extended i row here some in
       let two = later.rows told i one.0 one.1 in
       (two.0, two.1, two.2.base ∙ one.2, prefix_trans (durable row) (accepted one.0) (accepted two.0) one.3 two.2.accepted_on);
+  wholes = wholes_on start h.left mid end told sound later h.wholes;
 }
 
 -- no act was made
@@ -127,7 +116,7 @@ runs_more tells p q r m done e s ran may step crash =
           let known : ran.after.told ≡ true = (runs_onward done m ran.after s.sound ran.runs).told ∙ t in
           let gs = granularities p.at.manifests in
           passes_then (λ a image. HoldsBetween gs m (done ++ e ∷ []) one.0 image) (λ a image. LeavesWithin (refuse_by e.act) (change_by e.act) (granularities q.at.manifests) ran.after image) p.at.past q.at.past r.at.past
-          (passes_weaker (λ a image. HoldsBetween gs m done ran.after image) (λ a image. HoldsBetween gs m (done ++ e ∷ []) one.0 image) p.at.past q.at.past (ran.any_moment told t) (λ a c left h. holds_on gs m ran.after one.0 done e c known on h))
+          (passes_weaker (λ a image. HoldsBetween gs m done ran.after image) (λ a image. HoldsBetween gs m (done ++ e ∷ []) one.0 image) p.at.past q.at.past (ran.any_moment told t) (λ a c left h. holds_on gs m ran.after one.0 done e c known sound on h))
           (crash ran.after told ran.stands)
           (λ a b c left h left' l. holds_within gs m ran.after one.0 l.0 e.act c done (e ∷ []) t s.sound ran.runs last l.1 l.1 (subst (λ (x : List Granularity). HoldsMachine x c l.0) same l.2));
     }

@@ -1,5 +1,5 @@
 -- Acts that are made on an archive one after another, by anyone: they run in the machine, and what a crash at any moment since the first may
--- leave lies between what was durable before them and what is accepted after them.
+-- leave lies between what was durable before them and what is accepted after them, of each row and of the whole of each.
 use Rattle.std.specs.Prelude.{◌≡◌, ℕ, List, [], ◌∷◌, ◌++◌, map, Bool, Some, true, IsTrue, slice_get}
 use Rattle.disk_model.specs.Files.{Files}
 use Rattle.disk_model.specs.Past.{Passes}
@@ -7,7 +7,7 @@ use Rattle.partition_names.specs.declared.granularity.Granularity.{Granularity}
 use Rattle.series_model.specs.Archive.{IsPrefix}
 use Rattle.tier_store.specs.Seen.{granularities}
 use Rattle.act_model.specs.declared.acts.Act.{Act}
-use Rattle.act_model.specs.Crash.{LeftBetween, LeftWithin}
+use Rattle.act_model.specs.Crash.{LeftBetween, LeftWithin, WholesBetween}
 use Rattle.act_model.specs.History.{Entry, Runs}
 use Rattle.act_model.specs.Machine.{Machine}
 use Rattle.act_model.specs.Reply.{Reply}
@@ -33,7 +33,7 @@ pub record LeftAlong (start : Machine) (entries : List Entry) (left : Machine) :
 
 -- The image holds what a crash within one of the acts leaves. So it holds each row of the start over the same base, with no less than was durable
 -- of it then; and what it holds of a row, where that is anything, is over the base that the row has at the end, and a front of what is accepted
--- of it there. It stands: it has the bytes of its files.
+-- of it there. So it is of the wholes. It stands: it has the bytes of its files.
 pub record HoldsBetween (gs : List Granularity) (start : Machine) (entries : List Entry) (end : Machine) (image : Files) : Type 0 where
   pub left : Machine
   pub along : LeftAlong start entries left
@@ -43,6 +43,7 @@ pub record HoldsBetween (gs : List Granularity) (start : Machine) (entries : Lis
       → (row : RowState) × (slice_get left.rows i ≡ Some row) × (row.base ≡ first.base) × IsPrefix (durable first) (durable row)
   pub extended : (i : ℕ) (row : RowState) → slice_get left.rows i ≡ Some row → (durable row ≡ [] → ⊥)
       → (last : RowState) × (slice_get end.rows i ≡ Some last) × (last.base ≡ row.base) × IsPrefix (durable row) (accepted last)
+  pub wholes : WholesBetween start left end
 
 -- From a state that the archive stood for these entries ran to one that it stands for. Where its samples are told, each image that a crash
 -- since then may have left holds what lies between the two.

@@ -43,14 +43,16 @@ ghost use Rattle.turn_rooms.specs.Histories.{Legal, end_of};
 ghost use Rattle.act_model.specs.MoveBegin.{parts_of};
 ghost use Rattle.act_model.specs.Parts.{AreParts};
 ghost use Rattle.act_model.specs.Limbo.{files_of, put};
-ghost use Rattle.act_model.specs.Rows.{RowState, Store, Short, Long, next_store, tier};
-ghost use Rattle.act_model.specs.Rule.{index_of};
+ghost use Rattle.act_model.specs.Rows.{RowState, Store, Short, Long, accepted, durable, next_store, tier};
+ghost use Rattle.act_model.specs.Rule.{Rule, index_of};
 ghost use Rattle.act_model.specs.Sound.{IsSound};
+ghost use Rattle.act_model.specs.Whole.{AllFollow};
 ghost use Rattle.archive_core.specs.declared.memory.Doubt.{Doubt};
 ghost use Rattle.archive_core.specs.declared.memory.RowMemory.{RowMemory};
 ghost use Rattle.archive_core.specs.Ends.{LeavesBetween};
 ghost use Rattle.archive_core.specs.declared.archive.Archive.{Archive};
 ghost use Rattle.archive_core.specs.Leaving.{Leaves};
+ghost use Rattle.archive_core.specs.Opening.{IsOpened};
 ghost use Rattle.archive_core.specs.Parts.{parts};
 ghost use Rattle.archive_core.specs.Running.{RunsOn};
 ghost use Rattle.archive_core.specs.LimboTies.{IsLimboOf};
@@ -81,6 +83,12 @@ pub fn turns_lose_no_more<D: Disk>()
     ensures { (room : Shared (Archive D D.Reader) D.Reader) (acts : List (RoomEntry (Shared (Archive D D.Reader) D.Reader) Act (Answer D.Reader))) (m : Machine) → Stands D.tells (parts D.Disk room.archive) m
         → Legal (SharedStep (λ a n. Stands D.tells (parts D.Disk a) n) (λ a e b. Leaves D.tells (parts D.Disk a) e (parts D.Disk b)) D.Reader.tells D.Reader.bytes D.Reader.faults) room acts
         → RunsOn D.tells (parts D.Disk room.archive) m (all_kept (reply_of D.Reader.tells D.Reader.bytes D.Reader.faults) acts) (parts D.Disk (end_of room acts).archive) }
+{}
+
+/// Where each row's own list follows the whole of its base in what a crash left, it does in the machine that opens on the stores that hold
+/// this: so the next run begins as the last one did.
+pub fn what_opens_follows()
+    ensures { (rule : Rule) (held : Stores) (left m : Machine) → left.told ≡ true → m.told ≡ true → HoldsDurable held left → HoldsDurable held m → IsOpened rule m → AllFollow durable left.rows → AllFollow accepted m.rows }
 {}
 
 /// What the stores make of a change is what the machine makes of it: where they held what is durable of a machine, they hold what is

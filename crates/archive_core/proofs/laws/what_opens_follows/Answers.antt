@@ -1,0 +1,5 @@
+use Rattle.archive_core.proofs.OpensFollowing.{opens_following}
+use Rattle.archive_core.proofs.laws.what_opens_follows.Goals as goal
+
+pub returns : goal.returns
+returns c = opens_following
