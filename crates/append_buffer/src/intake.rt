@@ -5,7 +5,7 @@ ghost use Rattle.append_buffer.specs.Tails.{tail_at, held_bytes, batch_of, Keeps
 ghost use Rattle.append_buffer.specs.declared.intake.OfferErr.TheVariants.{IntakeFull, Memory};
 
 use crate::tail::Tail;
-use series_model::{Batch, RowSamples, Sample, Samples};
+use series_model::{Batch, LentSamples, Sample};
 use std::alloc::{AllocError, Global};
 use std::marker::Model;
 
@@ -123,9 +123,9 @@ impl Intake {
         }
     }
 
-    /// Copies of whole tails, in the order of rows, until they have `limit` bytes; at least of one, where any is held.
-    pub fn batch(&self, limit: u64) -> Result<Batch, AllocError>
-        ensures { IfOk result (λ batch. batch ≡ batch_of limit self.now) }
+    /// Whole tails, in the order of rows, until they have `limit` bytes; at least one, where any is held. No sample is copied.
+    pub fn lend(&self, limit: u64) -> Result<Vec<LentSamples<'_>>, AllocError>
+        ensures { IfOk result (λ lent. lent.items ≡ batch_of limit self.now) }
     {
         let limit = limit.max(1);
         let mut parts = Vec::new(self.alloc);
@@ -136,14 +136,22 @@ impl Intake {
             }
             let samples = tail.samples();
             if !samples.is_empty() {
-                parts.push(RowSamples {
+                parts.push(LentSamples {
                     row: row as u32,
-                    samples: Samples::from(samples.to_vec(self.alloc)?),
+                    samples,
                 })?;
                 taken += tail.bytes();
             }
         }
-        Ok(Batch::from(parts))
+        Ok(parts)
+    }
+
+    /// Copies of what [`lend`](Self::lend) lends.
+    pub fn batch(&self, limit: u64) -> Result<Batch, AllocError>
+        ensures { IfOk result (λ batch. batch ≡ batch_of limit self.now) }
+    {
+        let lent = self.lend(limit)?;
+        Batch::copied(self.alloc, &lent)
     }
 }
 

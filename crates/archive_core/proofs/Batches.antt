@@ -1,10 +1,11 @@
 -- A batch that is flushed: what it has of the machine's rows, that the stores can take it, and whether store 1 lists it.
-use Rattle.std.proofs.Common.{◌≡◌, ◌⊎◌, inl, inr, ℕ, suc, ◌+◌, ◌<◌, ◌≤◌, List, [], ◌∷◌, ◌++◌, length, Bool, true, false, cond, Some, refl, sym, ◌∙◌, ap, subst, arith, length-append, zero, zero-add, ◌≢◌, ◌-◌, take, get_or, max, None, append-nil, append_assoc}
+use Rattle.std.proofs.Common.{◌≡◌, ◌⊎◌, inl, inr, ℕ, suc, ◌+◌, ◌<◌, ◌≤◌, List, [], ◌∷◌, ◌++◌, length, Bool, true, false, cond, Some, refl, sym, ◌∙◌, ap, subst, arith, length-append, zero, zero-add, ◌≢◌, ◌-◌, take, get_or, max, Option, None, append-nil, append_assoc}
 use Rattle.std.specs.List.{AllByRecursion, flat_map}
-use Rattle.std.specs.Prelude.{◌&&◌, slice_get, nat_eq, nat_le, All, IsTrue, filter, nat_lt, ◌↔◌}
+use Rattle.std.specs.Prelude.{◌&&◌, slice_get, nat_eq, nat_le, All, IsTrue, IfSome, filter, option_map, ◌↔◌}
 use Rattle.std.proofs.lemmas.Bool.Decides.{nat_tests}
 use Rattle.std.proofs.lemmas.List.Elements.{All-from_recursion}
-use Rattle.std.proofs.lemmas.Option.{slice_get_within}
+use Rattle.std.proofs.lemmas.Option.{slice_get_within, get_or_from_slice_get}
+use Rattle.std.proofs.lemmas.List.{length-map, get_or-map}
 use Rattle.append_buffer.specs.Tails.{TailState, tail_at, SetsTail}
 use Rattle.event_types.specs.declared.about.About.{About}
 use Rattle.pb_lines.specs.File.{lines_of}
@@ -32,9 +33,10 @@ use Rattle.act_model.specs.Sound.{IsSound, MayMake}
 use Rattle.act_model.proofs.MadeLaws.{ground}
 use Rattle.act_model.proofs.Puts.{put_rises}
 use Rattle.act_model.proofs.RowLaws.{fit_all, higher_cover}
+use Rattle.archive_core.specs.declared.memory.RowEnd.{RowEnd}
 use Rattle.archive_core.specs.declared.memory.RowMemory.{RowMemory}
-use Rattle.archive_core.specs.Flushing.{ListsBatch, GivesUp}
-use Rattle.archive_core.specs.Memory.{AreRowsOf}
+use Rattle.archive_core.specs.Flushing.{ListsEnds, GivesUp}
+use Rattle.archive_core.specs.Memory.{AreRowsOf, row_end, row_ends}
 use Rattle.archive_core.specs.Opening.{end_at}
 use Rattle.archive_core.specs.Stands.{AreDurable, HoldsDurable, IsPartOf}
 use Rattle.archive_core.proofs.ListEnds.{place_end}
@@ -151,9 +153,43 @@ le_or_not a b = by_test (nat_le a b) refl
     by_test true is = inl (grind (arith, nat_tests))
     by_test false is = let more : b < a = grind (arith, nat_tests) in inr (λ low. omega (arith, low, more))
 
+-- a list that has no last element is empty
+no_last : (xs : List Sample) → slice_get xs (length xs - 1) ≡ None → xs ≡ []
+no_last [] none = refl
+no_last (x ∷ xs) none = absurd (let last = element (x ∷ xs) (length (x ∷ xs) - 1) (omega arith) in let some = last.1 in cc (none, some))
+
+-- the first moment behind a last one, or behind none
+abbrev first_after : Option ℕ → ℕ
+first_after None = 0
+first_after (Some last) = last + 1
+
+-- samples end behind their last moment
+end_is : (xs : List Sample) (last : Option ℕ) → option_map (λ (s : Sample). s.t) (slice_get xs (length xs - 1)) ≡ last → end_of xs ≡ first_after last
+end_is xs last is = by_last (slice_get xs (length xs - 1)) refl ∙ ap first_after is
+  where
+    by_last : (o : Option Sample) → slice_get xs (length xs - 1) ≡ o → end_of xs ≡ first_after (option_map (λ (s : Sample). s.t) o)
+    by_last None none = ap end_of (no_last xs none)
+    by_last (Some s) here = end_of_last xs s here
+
+-- store 1 lists a batch, by where its first row ends
+abbrev pub ListsBatch : List ManifestState → List RowSamples → Type 0
+ListsBatch manifests batch = ListsEnds manifests (row_ends batch)
+
+lists_to : (xs : List Sample) (end : ℕ) → IfSome (option_map (λ (s : Sample). s.t) (slice_get xs (length xs - 1))) (λ last. last < end) ↔ (end_of xs ≤ end)
+lists_to xs end = by_last (option_map (λ (s : Sample). s.t) (slice_get xs (length xs - 1))) refl
+  where
+    by_last : (last : Option ℕ) → option_map (λ (s : Sample). s.t) (slice_get xs (length xs - 1)) ≡ last → IfSome last (λ last. last < end) ↔ (end_of xs ≤ end)
+    by_last None is = let at = end_is xs None is in (λ lists. omega (arith, at), λ low. tt)
+    by_last (Some last) is = let at = end_is xs (Some last) is in (λ lists. omega (arith, at, lists), λ low. omega (arith, at, low))
+
 pub lists_or_not : (manifests : List ManifestState) (batch : List RowSamples) → ListsBatch manifests batch ⊎ (ListsBatch manifests batch → ⊥)
 lists_or_not manifests [] = inl tt
-lists_or_not manifests (part ∷ batch) = le_or_not (end_of part.samples) (end_at manifests 0 part.row)
+lists_or_not manifests (part ∷ batch) =
+    let lists = lists_to part.samples (end_at manifests 0 part.row) in
+    elim (le_or_not (end_of part.samples) (end_at manifests 0 part.row)) [
+      | inl low ↦ inl (lists.1 low)
+      | inr high ↦ inr (λ is. high (lists.0 is))
+    ]
 
 -- the stores of a told machine stand
 pub told_stands : (tells told stands : Bool) → told ≡ (tells && stands) → told ≡ true → IsTrue stands
@@ -197,7 +233,8 @@ module _ (tells : Bool) (new : Seen) (m : Machine) (sound : IsSound m) (held : S
       let all : RisesFrom (end_of r.0.short) (part.samples ++ of_row part.row batch) = subst (λ (xs : List Sample). RisesFrom (end_of r.0.short) xs) (own_first part batch) later in
       let more = grows (end_of r.0.short) part.samples is.some (RisesFrom-front (end_of r.0.short) part.samples (of_row part.row batch) all) in
       let same : end_of r.0.short ≡ end_of (samples_of part.row held.short) = ap end_of short in
-      omega (arith, lists, end, more, same)
+      let listed = (lists_to part.samples (end_at new.manifests 0 part.row)).0 lists in
+      omega (arith, listed, end, more, same)
 
   -- where it has them, it lists them
   lists_then : (part : RowSamples) (batch : List RowSamples) → m.told ≡ true → MayMake m.rule m.told m.rows m.limbo (Appends (part ∷ batch)) → IsPartOf (length m.rows) part → HoldsDurable held (made [] (Appends (part ∷ batch)) m) → ListsBatch new.manifests (part ∷ batch)
@@ -215,7 +252,7 @@ module _ (tells : Bool) (new : Seen) (m : Machine) (sound : IsSound m) (held : S
       let whole : end_of (change part.row r.0).short ≡ end_from (end_from n part.samples) (of_row part.row batch) = end_with m (part ∷ batch) part.row r.0 sound may r.1 told ∙ (ap (end_from n) (own_first part batch) ∙ end_from-append n part.samples (of_row part.row batch)) in
       let more = end_from-ge (end_from n part.samples) (of_row part.row batch) (RisesFrom-rest n part.samples (of_row part.row batch) all) in
       let first = same_end n part.samples is.some in
-      omega (arith, end, whole, more, first, same)
+      (lists_to part.samples (end_at new.manifests 0 part.row)).1 (omega (arith, end, whole, more, first, same))
 
   -- stores that list a batch hold what is durable with it
   pub holds_with : (batch : List RowSamples) → MayMake m.rule m.told m.rows m.limbo (Appends batch) → AllByRecursion (IsPartOf (length m.rows)) batch → ListsBatch new.manifests batch → HoldsDurable held m ⊎ HoldsDurable held (made [] (Appends batch) m) → HoldsDurable held (made [] (Appends batch) m)
@@ -339,34 +376,29 @@ since_start (x ∷ xs) =
 
 -- ONE PART
 
--- a list that has no last element is empty
-pub no_last : (xs : List Sample) → slice_get xs (length xs - 1) ≡ None → xs ≡ []
-no_last [] none = refl
-no_last (x ∷ xs) none = absurd (let last = element (x ∷ xs) (length (x ∷ xs) - 1) (omega arith) in let some = last.1 in cc (none, some))
-
-part_none : (i : ℕ) (part : RowSamples) → part.samples ≡ [] → of_row i (part ∷ []) ≡ []
-part_none i part none = rw none (by_test (nat_eq part.row i))
+-- a part without samples gives up nothing
+pub gives_none : (end : RowEnd) (old : List TailState) → end.last ≡ None → (part : RowSamples) → row_end part ≡ end → (i : ℕ) → (tail_at old i).samples ≡ since (end_of (of_row i (part ∷ []))) (tail_at old i).samples
+gives_none end old none part is i = sym (ap (λ (n : ℕ). since n (tail_at old i).samples) (by_test (nat_eq part.row i)) ∙ since_start (tail_at old i).samples)
   where
-    by_test : (b : Bool) → ◌≡◌ {A = List Sample} (cond b ([] ++ []) []) []
-    by_test true = refl
+    by_test : (b : Bool) → end_of (cond b (part.samples ++ []) []) ≡ 0
+    by_test true = ap end_of (append-nil part.samples) ∙ end_is part.samples None (ap (λ (e : RowEnd). e.last) is ∙ none)
     by_test false = refl
 
--- a part without samples gives up nothing
-pub gives_none : (part : RowSamples) (old : List TailState) → slice_get part.samples (length part.samples - 1) ≡ None → (i : ℕ) → (tail_at old i).samples ≡ since (end_of (of_row i (part ∷ []))) (tail_at old i).samples
-gives_none part old none i = sym (ap (λ (xs : List Sample). since (end_of xs) (tail_at old i).samples) (part_none i part (no_last part.samples none)) ∙ since_start (tail_at old i).samples)
-
 -- another gives up what is no later than its last sample
-pub gives_part : (part : RowSamples) (last : Sample) (old new : List TailState) → slice_get part.samples (length part.samples - 1) ≡ Some last → SetsTail part.row (since (last.t + 1) (tail_at old part.row).samples) old new → (i : ℕ) → (tail_at new i).samples ≡ since (end_of (of_row i (part ∷ []))) (tail_at old i).samples
-gives_part part last old new here sets i = by_place (same_or_not i part.row)
+pub gives_part : (end : RowEnd) (last : ℕ) (old new : List TailState) → end.last ≡ Some last → SetsTail end.row (since (last + 1) (tail_at old end.row).samples) old new → (part : RowSamples) → row_end part ≡ end → (i : ℕ) → (tail_at new i).samples ≡ since (end_of (of_row i (part ∷ []))) (tail_at old i).samples
+gives_part end last old new here sets part is i = by_place (same_or_not i end.row)
   where
-    by_place : (i ≡ part.row) ⊎ (i ≢ part.row) → (tail_at new i).samples ≡ since (end_of (of_row i (part ∷ []))) (tail_at old i).samples
+    row : part.row ≡ end.row
+    row = ap (λ (e : RowEnd). e.row) is
+
+    by_place : (i ≡ end.row) ⊎ (i ≢ end.row) → (tail_at new i).samples ≡ since (end_of (of_row i (part ∷ []))) (tail_at old i).samples
     by_place (inl same) =
-        let test : nat_eq part.row i ≡ true = grind (arith, nat_tests) in
+        let test : nat_eq part.row i ≡ true = grind (arith, nat_tests, row) in
         let own : of_row i (part ∷ []) ≡ part.samples = rw test (append-nil part.samples) in
-        let end : end_of (of_row i (part ∷ [])) ≡ last.t + 1 = ap end_of own ∙ end_of_last part.samples last here in
-        ap (λ (k : ℕ). (tail_at new k).samples) same ∙ (sets.own ∙ (ap (λ (k : ℕ). since (last.t + 1) (tail_at old k).samples) (sym same) ∙ ap (λ (n : ℕ). since n (tail_at old i).samples) (sym end)))
+        let end_at : end_of (of_row i (part ∷ [])) ≡ last + 1 = ap end_of own ∙ end_is part.samples (Some last) (ap (λ (e : RowEnd). e.last) is ∙ here) in
+        ap (λ (k : ℕ). (tail_at new k).samples) same ∙ (sets.own ∙ (ap (λ (k : ℕ). since (last + 1) (tail_at old k).samples) (sym same) ∙ ap (λ (n : ℕ). since n (tail_at old i).samples) (sym end_at)))
     by_place (inr apart) =
-        let test : nat_eq part.row i ≡ false = grind (arith, nat_tests) in
+        let test : nat_eq part.row i ≡ false = grind (arith, nat_tests, row) in
         let own : of_row i (part ∷ []) ≡ [] = rw test refl in
         sets.others i apart ∙ sym (ap (λ (xs : List Sample). since (end_of xs) (tail_at old i).samples) own ∙ since_start (tail_at old i).samples)
 
@@ -401,17 +433,14 @@ gives_more parts k part old mid new low is gave gives = λ i rises.
     let end : max (end_of own) (end_of front) ≡ end_of (front ++ own) = later_end (end_of front) own (RisesFrom-rest 0 front own both) ∙ sym (end_from-append 0 front own) in
     gives i ∙ (ap (λ (xs : List Sample). since (end_of own) xs) first ∙ (since_max (end_of own) (end_of front) (tail_at old i).samples ∙ (ap (λ (n : ℕ). since n (tail_at old i).samples) end ∙ ap (λ (xs : List Sample). since (end_of xs) (tail_at old i).samples) (sym all))))
 
-pub gives_all : (parts batch : List RowSamples) (k : ℕ) (old new : List TailState) → parts ≡ batch → length parts ≤ k → GivesUp (take k parts) old new → GivesUp batch old new
-gives_all parts batch k old new is end gives = subst (λ (b : List RowSamples). GivesUp b old new) (take_whole k parts end ∙ is) gives
+pub gives_all : (batch : List RowSamples) (k : ℕ) (old new : List TailState) → length batch ≤ k → GivesUp (take k batch) old new → GivesUp batch old new
+gives_all batch k old new end gives = subst (λ (b : List RowSamples). GivesUp b old new) (take_whole k batch end) gives
 
--- WHETHER A PART IS LISTED
-
-pub lists_none : (xs : List Sample) (end : ℕ) → slice_get xs (length xs - 1) ≡ None → end_of xs ≤ end
-lists_none xs end none = let empty : end_of xs ≡ 0 = ap end_of (no_last xs none) in omega (arith, empty)
-
-pub lists_part : (xs : List Sample) (last : Sample) (end e : ℕ) → slice_get xs (length xs - 1) ≡ Some last → e ≡ end → IsTrue (nat_lt last.t e) ↔ (end_of xs ≤ end)
-lists_part xs last end e here same =
-    let of_last = end_of_last xs last here in (
-      λ is. let low : last.t < e = grind (arith, nat_tests) in omega (arith, of_last, low, same),
-      λ low. let below : last.t < e = omega (arith, of_last, low, same) in grind (arith, nat_tests),
-    )
+-- the part that has the next end
+pub next_part : (batch : List RowSamples) (ends : List RowEnd) (k : ℕ) (d : RowEnd) → row_ends batch ≡ ends → k < length ends → (part : RowSamples) × (k < length batch) × (part ≡ get_or batch k part) × (row_end part ≡ get_or ends k d)
+next_part batch ends k d are low =
+    let long : length batch ≡ length ends = sym (length-map batch row_end) ∙ ap length are in
+    let within : k < length batch = omega (arith, long, low) in
+    let at = element batch k within in
+    let here : get_or batch k at.0 ≡ at.0 = get_or_from_slice_get batch k at.0 at.0 at.1 in
+    (at.0, within, sym here, ap row_end (sym here) ∙ (sym (get_or-map row_end batch k at.0 d within) ∙ ap (λ (es : List RowEnd). get_or es k d) are))

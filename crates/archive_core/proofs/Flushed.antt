@@ -1,7 +1,8 @@
 -- A batch is flushed: as the machine has it, in memory, and as an act.
 use Rattle.std.proofs.Common.{◌≡◌, ◌+◌, ◌<◌, ◌≤◌, List, [], ◌∷◌, length, Bool, true, Some, None, Result, Ok, Err, refl, sym, ◌∙◌, ap, subst, arith, ℕ}
 use Rattle.std.specs.List.{AllByRecursion}
-use Rattle.std.specs.Prelude.{All, IsTrue, slice_get, IfOk}
+use Rattle.std.specs.Prelude.{All, IsTrue, slice_get, IfOk, Vec}
+use Rattle.std.specs.declared.alloc.Global.{Global}
 use Rattle.std.proofs.lemmas.List.Elements.{recursion_from_All}
 use Rattle.std.proofs.lemmas.Option.{slice_get_within}
 use Rattle.append_buffer.specs.Tails as tails
@@ -28,9 +29,10 @@ use Rattle.act_model.specs.Sound.{MayMake}
 use Rattle.act_model.proofs.RowActs.{flush_may}
 use Rattle.act_model.proofs.StepLaws.{with_doubt}
 use Rattle.archive_core.specs.declared.memory.Doubt.TheVariants as kind
+use Rattle.archive_core.specs.declared.memory.RowEnd.{RowEnd}
 use Rattle.archive_core.specs.Ends.{SettlesTo}
 use Rattle.archive_core.specs.Flushing.{flush_reply}
-use Rattle.archive_core.specs.Memory.{IsCleared}
+use Rattle.archive_core.specs.Memory.{IsCleared, row_ends}
 use Rattle.archive_core.specs.Parts.{Parts}
 use Rattle.archive_core.specs.Stands.{Stands, Rests, IsPartOf}
 use Rattle.archive_core.proofs.FlushOver.{both_below, flush_over_holds, then_below}
@@ -121,11 +123,12 @@ module _ (tells : Bool) (p : Parts) (m : Machine) (r : Rests tells p m) (limit :
   pub flush_called : (new : Seen) (end : End ℕ ⊥) → ChangesGiven (λ (s : Stores). AreWhole 0 tells p.at p.limbo s.stands files) tells flush_call p.at new end → Called tells flush_call p.at new held end
   flush_called new end changes = called_given tells flush_call p.at new held end (λ (s : Stores). AreWhole 0 tells p.at p.limbo s.stands files) has whole changes
 
-  pub makes_flush : Makes tells flush_call change (kind.Flush batch) p.kept p m held
-  makes_flush = record {
+  -- where the archive keeps of it where its rows end
+  pub makes_flush : (ends : Vec RowEnd Global) → row_ends batch ≡ ends.items → Makes tells flush_call change (kind.Flush ends) p.kept p m held
+  makes_flush ends are = record {
     sound = with_doubt m.rule m.told m.rows m.limbo m.pins m.moves m.doubt change r.stands.sound (may, tt);
     rows = r.stands.rows;
-    is = refl;
+    is = (batch, refl, are);
     ready = there;
     stand = λ after by. ap (λ (s : Stores). s.stands) by.same;
     grow = λ after by filed. short_grows m.moves held after by.same by.flushed.still (more_parts p.at.catalogue p.at.manifests p.limbo files batch held after has.known by (filed 0)) (λ row (k, move, here, own).
@@ -135,8 +138,8 @@ module _ (tells : Bool) (p : Parts) (m : Machine) (r : Rests tells p m) (limit :
   }
 
   -- of that doubt nothing is cleared in memory
-  pub flush_unclear : (rows : List Row) → IsCleared rows (Some (kind.Flush batch)) p.kept p.kept
-  flush_unclear rows = record { other = λ none. refl; own = λ k state is. absurd (cc (is)) }
+  pub flush_unclear : (ends : Vec RowEnd Global) (rows : List Row) → IsCleared rows (Some (kind.Flush ends)) p.kept p.kept
+  flush_unclear ends rows = record { other = λ none. refl; own = λ k state is. absurd (cc (is)) }
 
   -- the answer tells how many samples the batch has
   pub flush_counts : (new : Seen) (samples : ℕ) → Called tells flush_call p.at new held (Done samples) → m.told ≡ true → samples ≡ count_in batch

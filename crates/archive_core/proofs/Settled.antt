@@ -3,7 +3,8 @@ use Rattle.std.proofs.Common.{◌≡◌, ◌≢◌, ◌⊎◌, inl, inr, zero, s
 use Rattle.std.specs.FinMap.{FinMap}
 use Rattle.std.specs.List.{AllByRecursion}
 use Rattle.std.specs.Ordering.{nat_cmp}
-use Rattle.std.specs.Prelude.{◌==◌, ◌&&◌, IsTrue, slice_get, slice_set, map}
+use Rattle.std.specs.Prelude.{◌==◌, ◌&&◌, IsTrue, slice_get, slice_set, map, Vec}
+use Rattle.std.specs.declared.alloc.Global.{Global}
 use Rattle.std.proofs.lemmas.Bool.Decides.{nat_tests}
 use Rattle.std.proofs.lemmas.List.{length-map}
 use Rattle.std.proofs.lemmas.Option.{same_Some, slice_get_within}
@@ -39,11 +40,12 @@ use Rattle.act_model.proofs.Rows.{Came, from_row, is_new, came, each_forward, mo
 use Rattle.act_model.specs.Rule.{index_of}
 use Rattle.act_model.specs.Sound.{IsSound, MayMake}
 use Rattle.act_model.proofs.StepLaws.{settled_sound, settled_none}
+use Rattle.archive_core.specs.declared.memory.RowEnd.{RowEnd}
 use Rattle.archive_core.specs.declared.memory.RowMemory.{RowMemory}
 use Rattle.archive_core.specs.declared.memory.Doubt.{Doubt}
 use Rattle.archive_core.specs.declared.memory.Doubt.TheVariants as kind
 use Rattle.archive_core.proofs.After.{stands_after, KeepsLimbo, limbo_of_frame}
-use Rattle.archive_core.proofs.Batches.{none_beyond, lists_or_not, holds_with, holds_without, told_stands}
+use Rattle.archive_core.proofs.Batches.{ListsBatch, none_beyond, lists_or_not, holds_with, holds_without, told_stands}
 use Rattle.archive_core.proofs.Growth.{same_grow}
 use Rattle.archive_core.proofs.KeptRows.{sampling_period, sampling_cell}
 use Rattle.archive_core.proofs.LimboTying.{limbo_beside, limbo_changed, limbo_held}
@@ -52,11 +54,11 @@ use Rattle.archive_core.proofs.RetiredRows.{IsEarly, listed_same, same_made, mov
 use Rattle.archive_core.proofs.MovesKept.{reach_ends, source_ends, SameLater, leaves_ahead, moves_stay, same_later, same_put, reach, source_on}
 use Rattle.archive_core.proofs.MoveChoice.{next_high, next_low, store_low}
 use Rattle.archive_core.proofs.PinTies.{KeepsNames, names_stay, names_made, state_name, pins_stay}
-use Rattle.archive_core.specs.Flushing.{GivesUp, ListsBatch, IsTrimmed}
+use Rattle.archive_core.specs.Flushing.{GivesUp, ListsEnds, IsTrimmed}
 use Rattle.archive_core.specs.Growing.{HasRunning}
 use Rattle.archive_core.specs.LimboTies.{IsLimboOf}
 use Rattle.archive_core.specs.MoveTies.{AreMovesOf}
-use Rattle.archive_core.specs.Memory.{IsRowAt, AreRowsOf, cell_in, period_in, fresh_memory, renamed_memory, cleared, set_by, IsCleared}
+use Rattle.archive_core.specs.Memory.{IsRowAt, AreRowsOf, cell_in, period_in, fresh_memory, renamed_memory, cleared, set_by, row_ends, IsCleared}
 use Rattle.archive_core.specs.Parts.{Parts}
 use Rattle.archive_core.specs.Pins.{ArePinsOf}
 use Rattle.archive_core.specs.Stands.{Stands, Rests, StoresGo, StoresGrow, InDoubt, IsPartOf, IsReady, IsDoubtOf, AreDurable, HoldsDurable}
@@ -239,7 +241,7 @@ set_same (Some own) None doubt = absurd doubt
 set_same (Some kind.Row) (Some c) (name, about, is) = ap (λ (x : Change). sets (Some x)) (sym is)
 set_same (Some (kind.State row to)) (Some c) is = ap (λ (x : Change). sets (Some x)) (sym is)
 set_same (Some (kind.Rename old)) (Some c) (name, is) = ap (λ (x : Change). sets (Some x)) (sym is)
-set_same (Some (kind.Flush batch)) (Some c) is = ap (λ (x : Change). sets (Some x)) (sym is)
+set_same (Some (kind.Flush ends)) (Some c) (batch, is, are) = ap (λ (x : Change). sets (Some x)) (sym is)
 set_same (Some kind.Published) (Some c) (row, store, copied, is) = ap (λ (x : Change). sets (Some x)) (sym is)
 
 -- THE SETTLED ARCHIVE
@@ -339,22 +341,23 @@ module _ (tells : Bool) (p : Parts) (m : Machine) (s : Stands tells p m) (new : 
   pub rests : (tails : List TailState) (mid : Machine) (held : Stores) → Reaches tails mid held → Rests tells (settled_parts p new kept tails) (record mid { faults = new.faults })
   rests tails mid held r = (rests_at tails mid held r).0
 
-  doubt_flush : (o : Option Doubt) (d : Option Change) → IsDoubtOf o d → (batch : List RowSamples) → o ≡ Some (kind.Flush batch) → d ≡ Some (Appends batch)
-  doubt_flush None d doubt batch is = absurd (cc (is))
-  doubt_flush (Some kind.Row) d doubt batch is = absurd (cc (is))
-  doubt_flush (Some (kind.State row state)) d doubt batch is = absurd (cc (is))
-  doubt_flush (Some (kind.Rename old)) d doubt batch is = absurd (cc (is))
-  doubt_flush (Some kind.Published) d doubt batch is = absurd (cc (is))
-  doubt_flush (Some (kind.Flush own)) None doubt batch is = absurd doubt
-  doubt_flush (Some (kind.Flush own)) (Some c) doubt batch is = let same : kind.Flush own ≡ kind.Flush batch = same_Some (kind.Flush own) (kind.Flush batch) is in cc (same, doubt)
+  -- the doubt tells where the rows of a batch end
+  doubt_flush : (o : Option Doubt) (d : Option Change) → IsDoubtOf o d → (ends : Vec RowEnd Global) → o ≡ Some (kind.Flush ends) → (batch : List RowSamples) × (d ≡ Some (Appends batch))
+  doubt_flush None d doubt ends is = absurd (cc (is))
+  doubt_flush (Some kind.Row) d doubt ends is = absurd (cc (is))
+  doubt_flush (Some (kind.State row state)) d doubt ends is = absurd (cc (is))
+  doubt_flush (Some (kind.Rename old)) d doubt ends is = absurd (cc (is))
+  doubt_flush (Some kind.Published) d doubt ends is = absurd (cc (is))
+  doubt_flush (Some (kind.Flush own)) None doubt ends is = absurd doubt
+  doubt_flush (Some (kind.Flush own)) (Some c) (batch, change, are) ends is = (batch, ap (λ (x : Change). Some x) change)
 
-  flush_doubt : (o : Option Doubt) (batch : List RowSamples) → IsDoubtOf o (Some (Appends batch)) → o ≡ Some (kind.Flush batch)
+  flush_doubt : (o : Option Doubt) (batch : List RowSamples) → IsDoubtOf o (Some (Appends batch)) → (ends : Vec RowEnd Global) × (o ≡ Some (kind.Flush ends)) × (row_ends batch ≡ ends.items)
   flush_doubt None batch doubt = absurd doubt
   flush_doubt (Some kind.Row) batch doubt = absurd (let wrong = doubt.2 in cc (wrong))
   flush_doubt (Some (kind.State row state)) batch doubt = absurd (cc (doubt))
   flush_doubt (Some (kind.Rename old)) batch doubt = absurd (let wrong = doubt.1 in cc (wrong))
   flush_doubt (Some kind.Published) batch doubt = absurd (let wrong = doubt.3 in cc (wrong))
-  flush_doubt (Some (kind.Flush own)) batch doubt = cc (doubt)
+  flush_doubt (Some (kind.Flush own)) batch (other, change, are) = (own, refl, let same : batch ≡ other = cc (change) in ap row_ends same ∙ are)
 
   same_memory : AreKeptOf p.kept p.tails m.rows
   same_memory = kept_part p.at.catalogue.rows p.kept p.tails m.rows s.rows
@@ -573,7 +576,7 @@ module _ (tells : Bool) (p : Parts) (m : Machine) (s : Stands tells p m) (new : 
     other_change d is apart = λ batch flush. apart batch (sym is ∙ flush)
 
     same_tails : IsNoFlush → tails ≡ p.tails
-    same_tails no_flush = trims.other (λ batch is lists. no_flush batch (doubt_flush p.doubt m.doubt s.doubt batch is))
+    same_tails no_flush = trims.other (λ ends is lists. let flush = doubt_flush p.doubt m.doubt s.doubt ends is in no_flush flush.0 flush.1)
 
     -- A flush stood in doubt: store 1 tells whether it was made.
     flush_ends : (batch : List RowSamples) → m.doubt ≡ Some (Appends batch) → (held : Stores) → GrewFrom tells p.at new p.limbo p.slots m.told m.rows m.limbo m.moves held → Has tells new held → m.told ≡ (tells && held.stands) → HoldsDurable held m ⊎ HoldsDurable held (made [] (Appends batch) m) → Ends
@@ -581,7 +584,7 @@ module _ (tells : Bool) (p : Parts) (m : Machine) (s : Stands tells p m) (new : 
       | inl lists ↦ (
         with_change (Appends batch),
         as_made (Appends batch) [] is refl,
-        rests tails (with_change (Appends batch)) held (made_batch batch is held grow told (holds_with tells new m s.sound held has told batch may ready lists holds) rows tails (trims.own batch own lists) has),
+        rests tails (with_change (Appends batch)) held (made_batch batch is held grow told (holds_with tells new m s.sound held has told batch may ready lists holds) rows tails (trims.own own.0 own.1 (subst (λ (es : List RowEnd). ListsEnds new.manifests es) own.2 lists) batch own.2) has),
       )
       | inr lacks ↦ (
         record m { doubt = None },
@@ -591,7 +594,7 @@ module _ (tells : Bool) (p : Parts) (m : Machine) (s : Stands tells p m) (new : 
       )
     ]
       where
-        own : p.doubt ≡ Some (kind.Flush batch)
+        own : (ends : Vec RowEnd Global) × (p.doubt ≡ Some (kind.Flush ends)) × (row_ends batch ≡ ends.items)
         own = flush_doubt p.doubt batch (subst (λ (d : Option Change). IsDoubtOf p.doubt d) is s.doubt)
 
         rows : IsCleared held.rows p.doubt p.kept kept
@@ -611,10 +614,10 @@ module _ (tells : Bool) (p : Parts) (m : Machine) (s : Stands tells p m) (new : 
 
         stays : (ListsBatch new.manifests batch → ⊥) → AreKeptOf kept tails m.rows
         stays lacks =
-            let same_ones : tails ≡ p.tails = trims.other (λ other named lists.
-            let one : kind.Flush batch ≡ kind.Flush other = same_Some (kind.Flush batch) (kind.Flush other) (sym own ∙ named) in
-            let its : other ≡ batch = cc (one) in
-            lacks (subst (λ (b : List RowSamples). ListsBatch new.manifests b) its lists)) in
+            let same_ones : tails ≡ p.tails = trims.other (λ ends named lists.
+            let one : kind.Flush own.0 ≡ kind.Flush ends = same_Some (kind.Flush own.0) (kind.Flush ends) (sym own.1 ∙ named) in
+            let its : own.0 ≡ ends = cc (one) in
+            lacks (subst (λ (es : List RowEnd). ListsEnds new.manifests es) (sym (own.2 ∙ ap (λ (v : Vec RowEnd Global). v.items) its)) lists)) in
             subst (λ (ts : List TailState). AreKeptOf kept ts m.rows) (sym same_ones) (subst (λ (ks : List RowMemory). AreKeptOf ks p.tails m.rows) (sym same) same_memory)
 
     plain_before : IsNoFlush → Has tells new s.store.before → Ends

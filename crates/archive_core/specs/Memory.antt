@@ -1,12 +1,14 @@
 -- What an archive keeps of its rows in memory, beside the catalogue's rows: of each the first moment that is later than all its accepted
--- samples, what a sampled row holds, and the tail that the intake holds.
-use Rattle.std.specs.Prelude.{◌≡◌, ◌≤◌, ℕ, List, [], length, Option, Some, None, slice_get, slice_set}
+-- samples, what a sampled row holds, and the tail that the intake holds; and of a batch that is flushed where its rows end.
+use Rattle.std.specs.Prelude.{◌≡◌, ◌≤◌, ◌-◌, ℕ, List, [], length, map, Option, Some, None, option_map, slice_get, slice_set}
 use Rattle.event_types.specs.declared.about.About.{About}
 use Rattle.event_types.specs.declared.about.Method.{Method}
 use Rattle.event_types.specs.declared.about.Method.TheVariants.{Monitor, Scan}
 use Rattle.pv_catalog.specs.Catalogue.{HasState}
 use Rattle.pv_catalog.specs.declared.row.Row.{Row}
 use Rattle.series_model.specs.Sampling.{Cell, first_cell}
+use Rattle.series_model.specs.declared.batch.RowSamples.{RowSamples}
+use Rattle.series_model.specs.declared.sample.Sample.{Sample}
 use Rattle.sampler.specs.Row.{SampledRow, fresh, after}
 use Rattle.series_model.specs.declared.sampling.ScanEvent.TheVariants.{Cleared}
 use Rattle.event_types.specs.declared.about.State.{State}
@@ -15,6 +17,7 @@ use Rattle.append_buffer.specs.Tails.{TailState, tail_at}
 use Rattle.act_model.specs.Rows.{RowState, period_of}
 use Rattle.archive_core.specs.declared.memory.Doubt.{Doubt}
 use Rattle.archive_core.specs.declared.memory.Doubt.TheVariants as doubt
+use Rattle.archive_core.specs.declared.memory.RowEnd.{RowEnd}
 use Rattle.archive_core.specs.declared.memory.RowMemory.{RowMemory}
 
 -- what is held of a row for its next tick: nothing where it isn't sampled
@@ -73,13 +76,20 @@ cleared memory = record memory { scan = clear memory.scan }
     clear None = None
     clear (Some sampled) = Some (after sampled Cleared)
 
+-- what is kept of a part of a batch that is flushed: its row, and its last moment
+abbrev pub row_end : RowSamples → RowEnd
+row_end part = record { row = part.row; last = option_map (λ (s : Sample). s.t) (slice_get part.samples (length part.samples - 1)) }
+
+abbrev pub row_ends : List RowSamples → List RowEnd
+row_ends batch = map row_end batch
+
 -- the row whose state the doubted change sets, with that state: the row of a variable that gets a new name is retired
 abbrev pub set_by : Option Doubt → Option (ℕ × State)
 set_by None = None
 set_by (Some doubt.Row) = None
 set_by (Some (doubt.State row to)) = Some (row, to)
 set_by (Some (doubt.Rename old)) = Some (old, Retired)
-set_by (Some (doubt.Flush batch)) = None
+set_by (Some (doubt.Flush ends)) = None
 set_by (Some doubt.Published) = None
 
 -- Where the doubted change sets a row's state, and the row has it, what is kept of the row is cleared. All else stays.

@@ -36,7 +36,7 @@ use Rattle.archive_core.specs.declared.memory.Doubt.{Doubt}
 use Rattle.archive_core.specs.declared.memory.Doubt.TheVariants as doubt
 use Rattle.archive_core.specs.Growing.{FilesGoOn, HasRunning}
 use Rattle.archive_core.specs.LimboTies.{IsLimboOf}
-use Rattle.archive_core.specs.Memory.{AreRowsOf, fresh_memory, renamed_memory}
+use Rattle.archive_core.specs.Memory.{AreRowsOf, fresh_memory, renamed_memory, row_ends}
 use Rattle.archive_core.specs.MoveTies.{AreMovesOf}
 use Rattle.archive_core.specs.Parts.{Parts}
 use Rattle.archive_core.specs.Pins.{ArePinsOf}
@@ -85,7 +85,7 @@ IsDoubtOf (Some kept) None = ⊥
 IsDoubtOf (Some doubt.Row) (Some change) = (name : List ℕ) × (about : _) × (change ≡ AddsRow name about)
 IsDoubtOf (Some (doubt.State row to)) (Some change) = change ≡ SetsState row to
 IsDoubtOf (Some (doubt.Rename old)) (Some change) = (name : List ℕ) × (change ≡ Renames old name)
-IsDoubtOf (Some (doubt.Flush batch)) (Some change) = change ≡ Appends batch
+IsDoubtOf (Some (doubt.Flush ends)) (Some change) = (batch : List RowSamples) × (change ≡ Appends batch) × (row_ends batch ≡ ends.items)
 IsDoubtOf (Some doubt.Published) (Some change) = (row : ℕ) × (store : Store) × (copied : List Sample) × (change ≡ Publishes row store copied)
 
 -- a part of a batch is of one of so many rows, and has samples

@@ -1,65 +1,87 @@
 // Flushing: what is accepted becomes durable, and the intake gives it up.
-ghost use Rattle.std.specs.Prelude.{◌≡◌, ◌≤◌, ◌∷◌, ◌↔◌, [], ℕ, length, true, IfOk, IsTrue};
+ghost use Rattle.std.specs.Prelude.{◌≡◌, ◌≤◌, ◌<◌, ◌∷◌, ◌↔◌, [], ℕ, List, length, true, IfOk, IfSome, IsTrue};
 ghost use Rattle.append_buffer.specs.Tails.{tail_at, batch_of};
 ghost use Rattle.series_model.specs.Series.{end_of, since};
+ghost use Rattle.series_model.specs.declared.batch.RowSamples.{RowSamples};
 ghost use Rattle.act_model.specs.Changes.{of_row};
 ghost use Rattle.act_model.specs.Flush.{count_in};
 ghost use Rattle.act_model.specs.Machine.{Machine, Appends};
 ghost use Rattle.act_model.specs.Reply.{reply_of};
 ghost use Rattle.act_model.specs.declared.acts.Act.TheVariants.{Flush as FlushAct};
 ghost use Rattle.archive_core.specs.Acting.{Acted, Changed};
-ghost use Rattle.archive_core.specs.Flushing.{GivesUp, ListsBatch, IsTrimmed, flush_reply};
+ghost use Rattle.archive_core.specs.Flushing.{GivesUp, ListsEnds, IsTrimmed, flush_reply};
+ghost use Rattle.archive_core.specs.Memory.{row_end, row_ends};
 ghost use Rattle.archive_core.specs.Opening.{end_at};
 ghost use Rattle.archive_core.specs.Parts.{parts};
 ghost use Rattle.archive_core.specs.Stands.{Stands, Rests};
 
 use crate::Archive;
-use crate::memory::Doubt;
+use crate::memory::{Doubt, RowEnd};
 use crate::opening::end_in;
 use act_model::Answer;
 use append_buffer::Intake;
 use disk_model::{Disk, DiskErr};
-use series_model::{Batch, RowSamples};
+use series_model::LentSamples;
+use std::alloc::{AllocError, Global};
 use tier_store::TierStore;
 
-// Gives up what the intake holds of one row of a batch.
-fn give_up_row(intake: &mut Intake, part: &RowSamples)
-    ensures { (i : ℕ) → (tail_at intake.new i).samples ≡ since (end_of (of_row i (part.now ∷ []))) (tail_at intake.old i).samples }
+// The rows of a batch, with their last moments.
+fn row_ends(alloc: Global, batch: &[LentSamples]) -> Result<Vec<RowEnd>, AllocError>
+    ensures { IfOk result (λ ends. ends.items ≡ row_ends batch.now) }
 {
-    let Some(last) = part.samples.items().last() else {
-        return;
-    };
-    intake.trim(part.row, last.t);
+    let mut ends = Vec::new(alloc);
+    for part in batch {
+        ends.push(row_end(part))?;
+    }
+    Ok(ends)
 }
 
-// Gives up what the intake holds of a batch.
-fn give_up(intake: &mut Intake, batch: &Batch)
-    ensures { GivesUp batch.now intake.old intake.new }
+fn row_end(part: &LentSamples) -> RowEnd
+    ensures { result ≡ row_end part.now }
 {
-    let parts = batch.parts();
-    for part in parts {
-        give_up_row(intake, part);
+    RowEnd {
+        row: part.row,
+        last: part.samples.last().map(|sample| sample.t),
     }
 }
 
-// Whether store 1 lists all that a batch has of this row.
-fn lists_row<D: Disk>(store: &TierStore<D>, part: &RowSamples) -> bool
-    requires three { length store.now.manifests.items ≡ 3 }
-    ensures { IsTrue result ↔ (end_of part.now.samples ≤ end_at store.now.manifests.items 0 part.now.row) }
+// Gives up what the intake holds of one row of a batch.
+fn give_up_row(intake: &mut Intake, end: &RowEnd)
+    ensures { (part : RowSamples) → row_end part ≡ end.now → (i : ℕ)
+        → (tail_at intake.new i).samples ≡ since (end_of (of_row i (part ∷ []))) (tail_at intake.old i).samples }
 {
-    match part.samples.items().last() {
-        Some(last) => last.t < end_in(store, 1, part.row),
+    if let Some(last) = end.last {
+        intake.trim(end.row, last);
+    }
+}
+
+// Gives up what the intake holds of a batch with these ends.
+fn give_up(intake: &mut Intake, ends: &[RowEnd])
+    ensures { (batch : List RowSamples) → row_ends batch ≡ ends.now → GivesUp batch intake.old intake.new }
+{
+    for end in ends {
+        give_up_row(intake, end);
+    }
+}
+
+// Whether store 1 lists all of a row up to this end.
+fn lists_row<D: Disk>(store: &TierStore<D>, end: &RowEnd) -> bool
+    requires three { length store.now.manifests.items ≡ 3 }
+    ensures { IsTrue result ↔ IfSome end.now.last (λ last. last < end_at store.now.manifests.items 0 end.now.row) }
+{
+    match end.last {
+        Some(last) => last < end_in(store, 1, end.row),
         None => true,
     }
 }
 
-// Whether store 1 lists a batch, by the batch's first row.
-fn lists_batch<D: Disk>(store: &TierStore<D>, batch: &Batch) -> bool
+// Whether store 1 lists a batch with these ends, by the batch's first row.
+fn lists_batch<D: Disk>(store: &TierStore<D>, ends: &[RowEnd]) -> bool
     requires three { length store.now.manifests.items ≡ 3 }
-    ensures { IsTrue result ↔ ListsBatch store.now.manifests.items batch.now }
+    ensures { IsTrue result ↔ ListsEnds store.now.manifests.items ends.now }
 {
-    match batch.parts().first() {
-        Some(part) => lists_row(store, part),
+    match ends.first() {
+        Some(end) => lists_row(store, end),
         None => true,
     }
 }
@@ -73,30 +95,33 @@ pub(crate) fn trim_flushed<D: Disk>(
     requires three { length store.now.manifests.items ≡ 3 }
     ensures { IsTrimmed store.now.manifests.items doubt.now intake.old intake.new }
 {
-    let Some(Doubt::Flush(batch)) = doubt else {
+    let Some(Doubt::Flush(ends)) = doubt else {
         return;
     };
-    if lists_batch(store, batch) {
-        give_up(intake, batch);
+    if lists_batch(store, ends) {
+        give_up(intake, ends);
     }
 }
 
 impl<D: Disk> Archive<D> {
-    // Flushes where nothing stands in doubt. The memory for the batch is taken before.
+    // Flushes where nothing stands in doubt. What is kept of the batch is taken from it before, so that want of memory leaves nothing done.
     fn flush_settled(&mut self, limit: u64) -> Result<u64, DiskErr>
         requires limit { 1 ≤ limit }
         requires rests { (m : Machine) × Rests D.tells (parts D.Disk self.old) m }
         ensures changed { Changed D.tells (Appends (batch_of limit self.old.intake)) (parts D.Disk self.old) (parts D.Disk self.new) result }
         ensures count { IfOk result (λ samples. (m : Machine) → Rests D.tells (parts D.Disk self.old) m → m.told ≡ true → samples ≡ count_in (batch_of limit self.old.intake)) }
     {
-        let batch = self.intake.batch(limit)?;
-        match self.store.flush(&batch) {
+        let batch = self.intake.lend(limit)?;
+        let ends = row_ends(self.alloc, &batch)?;
+        let flushed = self.store.flush_lent(&batch);
+        drop(batch);
+        match flushed {
             Ok(samples) => {
-                give_up(&mut self.intake, &batch);
+                give_up(&mut self.intake, &ends);
                 Ok(samples)
             }
             Err(DiskErr::Fault) => {
-                self.doubt = Some(Doubt::Flush(batch));
+                self.doubt = Some(Doubt::Flush(ends));
                 Err(DiskErr::Fault)
             }
             Err(DiskErr::Memory) => Err(DiskErr::Memory),

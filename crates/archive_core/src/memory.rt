@@ -1,7 +1,6 @@
 // What is kept in memory of each row, and of a change that stands in doubt.
 use event_types::State;
 use sampler::Scan;
-use series_model::Batch;
 
 /// What is kept of a row beside the catalogue and its tail.
 #[derive(Debug, Drop)]
@@ -10,6 +9,15 @@ pub struct RowMemory {
     pub next: u64,
     /// What it holds for its next tick, if it is sampled.
     pub scan: Option<Scan>,
+}
+
+/// A row of a batch that was flushed.
+#[derive(Clone, Copy, Drop)]
+pub struct RowEnd {
+    /// The row's number.
+    pub row: u32,
+    /// The last moment of its samples in the batch, if it has any.
+    pub last: Option<u64>,
 }
 
 /// The change that a failed write may have made: what is to be done in memory where it turns out to be made. Of a retirement nothing is kept,
@@ -22,8 +30,8 @@ pub enum Doubt {
     State { row: u32, to: State },
     /// A row's variable got a new name: the row was retired, and one was added, whose memory is there already.
     Rename { old: u32 },
-    /// A batch was flushed, which the intake still holds.
-    Flush(Batch),
+    /// A batch with these rows was flushed, which the intake still holds.
+    Flush(Vec<RowEnd>),
     /// What a move had copied was listed. The move has ended.
     Published,
 }

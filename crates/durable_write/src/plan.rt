@@ -23,7 +23,7 @@ use partition_names::{Granularity, part_of};
 use payload_info::PayloadInfo;
 use pb_lines::header_line;
 use pv_catalog::Row;
-use series_model::{Batch, Blob, RowSamples, Sample};
+use series_model::{Blob, LentSamples, Sample};
 use std::alloc::{AllocError, Global};
 use store_manifest::{Entry, Manifest};
 
@@ -70,7 +70,7 @@ pub fn plan_flush(
     rows: &[Row],
     manifest: &Manifest,
     limbo: &[Entry],
-    batch: &Batch,
+    batch: &[LentSamples],
 ) -> Result<Plan, AllocError>
     requires can { CanFlush rows.now batch.now }
     requires listed { All (λ e. IsPart manifest.now.granularity e.part) manifest.now.entries }
@@ -81,7 +81,7 @@ pub fn plan_flush(
     ensures rows { IfOk result (λ plan. All (λ p. p.entry.series < length rows.now) plan.pieces.items) }
     ensures few { IfOk result (λ plan. length plan.pieces.items ≤ MOST_PIECES) }
 {
-    let order = by_row(alloc, batch.parts())?;
+    let order = by_row(alloc, batch)?;
     let mut pieces = Vec::new(alloc);
     let mut count: u64 = 0;
     for part in &order {
@@ -92,7 +92,10 @@ pub fn plan_flush(
 }
 
 // The lists of the batch by their rows; those of one row keep their order.
-fn by_row<'a>(alloc: Global, parts: &'a [RowSamples]) -> Result<Vec<&'a RowSamples>, AllocError>
+fn by_row<'a, 'b>(
+    alloc: Global,
+    parts: &'a [LentSamples<'b>],
+) -> Result<Vec<&'a LentSamples<'b>>, AllocError>
     ensures same { IfOk result (λ order. KeepsRows parts.now (map (λ p. p.now) order.items)) }
     ensures moved { IfOk result (λ order. IsPermutation parts.now (map (λ p. p.now) order.items)) }
     ensures sorted { IfOk result (λ order. IsNonDecreasingBy (λ p. p.now.row) order.items) }
@@ -111,7 +114,7 @@ fn add_part(
     rows: &[Row],
     manifest: &Manifest,
     limbo: &[Entry],
-    part: &RowSamples,
+    part: &LentSamples,
     pieces: &mut Vec<Piece>,
 ) -> Result<u64, AllocError>
     requires part { IsOfRow rows.now part.now }
@@ -129,7 +132,7 @@ fn add_part(
         listed,
     };
     let row = &rows[part.row as usize];
-    let count = add_samples(alloc, &target, row, part.samples.items(), pieces)?;
+    let count = add_samples(alloc, &target, row, part.samples, pieces)?;
     Ok(count)
 }
 

@@ -7,8 +7,8 @@ use Rattle.std.proofs.lemmas.Option.{slice_get_within}
 use Rattle.series_model.specs.declared.batch.RowSamples.{RowSamples}
 use Rattle.partition_names.specs.Part.{IsPart}
 use Rattle.durable_write.specs.declared.piece.Piece.{Piece}
-use Rattle.durable_write.specs.Flush.{IsOfRow, bytes_in}
-use Rattle.durable_write.specs.Plan.{Plans, KeepsRows}
+use Rattle.durable_write.specs.Flush.{IsOfRow}
+use Rattle.durable_write.specs.Plan.{Plans}
 use Rattle.durable_write.proofs.Counting.{counted_next, counted_within}
 use Rattle.durable_write.proofs.Batches.{plans_none, plans_next, plans_kept, flushes, each_seen, rows_follow}
 use Rattle.durable_write.proofs.plan.plan_flush.Goals as goal
@@ -32,9 +32,8 @@ loop-part-init c =
 pub add_part-requires-clause-part : goal.add_part-requires-clause-part
 add_part-requires-clause-part c =
     let P : RowSamples → Type 0 = λ p. IsOfRow c.args.rows.now p in
-    let Q : List RowSamples → Type 0 = λ l. All P l in
     let R : List (Bor RowSamples) → Type 0 = λ l. All P (map (λ p. p.now) l) in
-    let all = All-permutation P c.parts.result.now (map (λ p. p.now) c.in_ok-order.order.items) c.in_ok-order.ensures.moved (subst Q (sym c.parts.ensures) c.requires.can.each) in
+    let all = All-permutation P c.args.batch.now (map (λ p. p.now) c.in_ok-order.order.items) c.in_ok-order.ensures.moved c.requires.can.each in
     each_seen (λ p. p.now) P c.deref-part-items.result.now c.loop-part.part-index c.part-item.result (subst R (sym c.deref-part-items.ensures.value) all) c.loop-part-test.true c.part-item.is
 
 pub add_part-requires-clause-draft : goal.add_part-requires-clause-draft
@@ -49,9 +48,8 @@ add_part-requires-clause-draft c = record {
 pub overflow_add-count : goal.overflow_add-count
 overflow_add-count c =
     let items = c.deref-part-items.result.now in
-    let Moved : List (Bor RowSamples) → Type 0 = λ l. IsPermutation c.parts.result.now (map (λ p. p.now) l) in
-    let few : bytes_in c.parts.result.now ≤ 67_108_864 = subst (λ (l : List RowSamples). bytes_in l ≤ 67_108_864) (sym c.parts.ensures) c.requires.can.few in
-    omega (arith, counted_within (λ p. p.now) items c.parts.result.now c.loop-part.part-index c.loop-part.count c.in_ok-more.more c.part-item.result (subst Moved (sym c.deref-part-items.ensures.value) c.in_ok-order.ensures.moved) few c.loop-part-test.true c.part-item.is c.loop-part.invariant.counted c.in_ok-more.ensures.few)
+    let Moved : List (Bor RowSamples) → Type 0 = λ l. IsPermutation c.args.batch.now (map (λ p. p.now) l) in
+    omega (arith, counted_within (λ p. p.now) items c.args.batch.now c.loop-part.part-index c.loop-part.count c.in_ok-more.more c.part-item.result (subst Moved (sym c.deref-part-items.ensures.value) c.in_ok-order.ensures.moved) c.requires.can.few c.loop-part-test.true c.part-item.is c.loop-part.invariant.counted c.in_ok-more.ensures.few)
 
 pub loop-part-preserved : goal.loop-part-preserved
 loop-part-preserved c =
@@ -61,9 +59,8 @@ loop-part-preserved c =
     let S : List (Bor RowSamples) → Type 0 = λ l. IsNonDecreasingBy (λ p. p.now.row) l in
     let sorted = subst S (sym c.deref-part-items.ensures.value) c.in_ok-order.ensures.sorted in
     let IsOf : RowSamples → Type 0 = λ p. IsOfRow c.args.rows.now p in
-    let Q : List RowSamples → Type 0 = λ l. All IsOf l in
     let R : List (Bor RowSamples) → Type 0 = λ l. All IsOf (map (λ p. p.now) l) in
-    let all = All-permutation IsOf c.parts.result.now (map (λ p. p.now) c.in_ok-order.order.items) c.in_ok-order.ensures.moved (subst Q (sym c.parts.ensures) c.requires.can.each) in
+    let all = All-permutation IsOf c.args.batch.now (map (λ p. p.now) c.in_ok-order.order.items) c.in_ok-order.ensures.moved c.requires.can.each in
     let part = each_seen (λ p. p.now) IsOf items i c.part-item.result (subst R (sym c.deref-part-items.ensures.value) all) c.loop-part-test.true c.part-item.is in
     record {
       parts = c.in_ok-more.ensures.draft.parts;
@@ -92,6 +89,5 @@ returns-clause-flushes c =
     let end : take c.loop-part.part-index (map (λ p. p.now) items) ≡ map (λ p. p.now) items = take_all c.loop-part.part-index (map (λ p. p.now) items) (omega (arith, c.loop-part-test.false, length-map items (λ p. p.now))) in
     let P : List RowSamples → Type 0 = λ l. Plans g rows entries limbo l count pieces in
     let Q : List (Bor RowSamples) → Type 0 = λ l. Plans g rows entries limbo (map (λ p. p.now) l) count pieces in
-    let K : List RowSamples → Type 0 = λ l. KeepsRows l (map (λ p. p.now) c.in_ok-order.order.items) in
     let all = subst Q c.deref-part-items.ensures.value (subst P end c.loop-part.invariant.plans) in
-    flushes g rows entries limbo c.args.batch.now count pieces (plans_kept g rows entries limbo c.args.batch.now (map (λ p. p.now) c.in_ok-order.order.items) count pieces (subst K c.parts.ensures c.in_ok-order.ensures.same) all)
+    flushes g rows entries limbo c.args.batch.now count pieces (plans_kept g rows entries limbo c.args.batch.now (map (λ p. p.now) c.in_ok-order.order.items) count pieces c.in_ok-order.ensures.same all)

@@ -17,6 +17,7 @@ use Rattle.archive_core.specs.Acting.{Changed}
 use Rattle.archive_core.specs.Ends.{ChangesTo}
 use Rattle.archive_core.specs.Flushing.{GivesUp}
 use Rattle.archive_core.specs.Leaving.{files_of}
+use Rattle.archive_core.specs.Memory.{row_ends}
 use Rattle.archive_core.specs.Parts.{Parts, parts}
 use Rattle.archive_core.specs.Stands.{Rests}
 use Rattle.archive_core.specs.declared.memory.Doubt.TheVariants as kind
@@ -24,25 +25,29 @@ use Rattle.archive_core.proofs.After.{with_same, frame_with}
 use Rattle.archive_core.proofs.Changing.{Called, call_done, call_failed, call_spent, call_tidy, not_called}
 use Rattle.archive_core.proofs.Flushed.{can, first_low, flush_as, flush_call, flush_called, flush_counts, flush_unclear, makes_flush}
 use Rattle.archive_core.proofs.Settled.{rests_has}
-use Rattle.archive_core.proofs.archive.Archive.flush_settled.Goals.{After-flush}
+use Rattle.archive_core.proofs.archive.Archive.flush_settled.Goals.{After-flush_lent-flushed}
 use Rattle.archive_core.proofs.archive.Archive.flush_settled.Goals as goal
 
 -- what the stores' call did, by what it answered
-told : (g : _) (c : After-flush g) (m : Machine) (r : Rests g.D.Disk.tells (parts g.D.Disk c.args.self.now) m) (x : Result ℕ DiskErr) → c.flush.result ≡ x
-    → Called g.D.Disk.tells (flush_call g.D.Disk.tells (parts g.D.Disk c.args.self.now) m r c.args.limit c.requires.limit (g.met.D.Disk.seen c.args.self.now.store.disk)) (seen g.D.Disk c.args.self.now.store) (seen g.D.Disk c.flush.new.self) r.stands.store.before (end_of_disk x)
+told : (g : _) (c : After-flush_lent-flushed g) (m : Machine) (r : Rests g.D.Disk.tells (parts g.D.Disk c.args.self.now) m) (x : Result ℕ DiskErr) → c.flush_lent-flushed.result ≡ x
+    → Called g.D.Disk.tells (flush_call g.D.Disk.tells (parts g.D.Disk c.args.self.now) m r c.args.limit c.requires.limit (g.met.D.Disk.seen c.args.self.now.store.disk)) (seen g.D.Disk c.args.self.now.store) (seen g.D.Disk c.flush_lent-flushed.new.self) r.stands.store.before (end_of_disk x)
 told g c m r x is =
     let p = parts g.D.Disk c.args.self.now in
     let files = (r.stands.store.whole 0 first_low).0 in
-    flush_called g.D.Disk.tells p m r c.args.limit c.requires.limit (g.met.D.Disk.seen c.args.self.now.store.disk) (seen g.D.Disk c.flush.new.self) (end_of_disk x)
-    (flush_as g.D.Disk.tells p.at p.limbo files (seen g.D.Disk c.flush.new.self) c.in_ok-batch.batch (batch_of c.args.limit p.tails) c.flush.result x (λ (s : Stores). AreWhole 0 g.D.Disk.tells p.at p.limbo s.stands files) c.in_ok-batch.ensures is (c.flush.ensures.changes files))
+    flush_called g.D.Disk.tells p m r c.args.limit c.requires.limit (g.met.D.Disk.seen c.args.self.now.store.disk) (seen g.D.Disk c.flush_lent-flushed.new.self) (end_of_disk x)
+    (flush_as g.D.Disk.tells p.at p.limbo files (seen g.D.Disk c.flush_lent-flushed.new.self) c.deref-2.result.now (batch_of c.args.limit p.tails) c.flush_lent-flushed.result x (λ (s : Stores). AreWhole 0 g.D.Disk.tells p.at p.limbo s.stands files) (c.deref-2.ensures.value ∙ c.in_ok-batch.ensures) is (c.flush_lent-flushed.ensures.changes files))
+
+-- what is kept of the batch
+kept : (g : _) (c : After-flush_lent-flushed g) → row_ends (batch_of c.args.limit (parts g.D.Disk c.args.self.now).tails) ≡ c.in_ok-ends.ends.items
+kept g c = sym (c.in_ok-ends.ensures ∙ ap row_ends (c.deref.ensures.value ∙ c.in_ok-batch.ensures))
 
 -- what it left where limbo is as it was
-frame : (g : _) (c : After-flush g) → Frame g.D.Disk.tells (files_of (parts g.D.Disk c.args.self.now)) (beside (seen g.D.Disk c.flush.new.self) c.args.self.now.store.limbo.items)
-frame g c = frame_with g.D.Disk.tells (files_of (parts g.D.Disk c.args.self.now)) (seen g.D.Disk c.flush.new.self) c.flush.new.self.limbo.items c.args.self.now.store.limbo.items (ap (λ l. l.items) c.flush.ensures.limbo) c.flush.ensures.frame
+frame : (g : _) (c : After-flush_lent-flushed g) → Frame g.D.Disk.tells (files_of (parts g.D.Disk c.args.self.now)) (beside (seen g.D.Disk c.flush_lent-flushed.new.self) c.args.self.now.store.limbo.items)
+frame g c = frame_with g.D.Disk.tells (files_of (parts g.D.Disk c.args.self.now)) (seen g.D.Disk c.flush_lent-flushed.new.self) c.flush_lent-flushed.new.self.limbo.items c.args.self.now.store.limbo.items (ap (λ l. l.items) c.flush_lent-flushed.ensures.limbo) c.flush_lent-flushed.ensures.frame
 
 -- with the stores' limbo and pins
-with_all : (g : _) (c : After-flush g) (P : Parts → Type 0) (q : Parts) → q.limbo ≡ c.args.self.now.store.limbo.items → q.pinned ≡ c.args.self.now.store.pinned → P q → P (record q { limbo = c.flush.new.self.limbo.items; pinned = c.flush.new.self.pinned })
-with_all g c P q limbo pinned is = with_same P q c.flush.new.self.limbo.items c.flush.new.self.pinned (ap (λ l. l.items) c.flush.ensures.limbo ∙ sym limbo) (c.flush.ensures.pins ∙ sym pinned) is
+with_all : (g : _) (c : After-flush_lent-flushed g) (P : Parts → Type 0) (q : Parts) → q.limbo ≡ c.args.self.now.store.limbo.items → q.pinned ≡ c.args.self.now.store.pinned → P q → P (record q { limbo = c.flush_lent-flushed.new.self.limbo.items; pinned = c.flush_lent-flushed.new.self.pinned })
+with_all g c P q limbo pinned is = with_same P q c.flush_lent-flushed.new.self.limbo.items c.flush_lent-flushed.new.self.pinned (ap (λ l. l.items) c.flush_lent-flushed.ensures.limbo ∙ sym limbo) (c.flush_lent-flushed.ensures.pins ∙ sym pinned) is
 
 pub returns-in_err-batch-clause-changed : goal.returns-in_err-batch-clause-changed
 returns-in_err-batch-clause-changed g c =
@@ -51,65 +56,73 @@ returns-in_err-batch-clause-changed g c =
     subst (λ (x : Result ℕ DiskErr). Changed g.D.Disk.tells (Appends (batch_of c.args.limit p.tails)) p p x) (sym (end.1 ∙ ap (λ (d : DiskErr). Err d) end.2))
     (record { changes = λ m r. not_called g.D.Disk.tells (Appends (batch_of c.args.limit p.tails)) p m r p.kept r.stands.rows; fronts = nothing_fronts g.D.Disk.tells (files_of p); tidy = tt })
 
-pub flush-requires : goal.flush-requires
-flush-requires g c =
+pub returns-in_err-ends-clause-changed : goal.returns-in_err-ends-clause-changed
+returns-in_err-ends-clause-changed g c =
+    let p = parts g.D.Disk c.args.self.now in
+    let end = err_from_is_err_and c.from_residual-in_err-ends.result c.from_residual-in_err-ends.ensures.1 in
+    subst (λ (x : Result ℕ DiskErr). Changed g.D.Disk.tells (Appends (batch_of c.args.limit p.tails)) p p x) (sym (end.1 ∙ ap (λ (d : DiskErr). Err d) end.2))
+    (record { changes = λ m r. not_called g.D.Disk.tells (Appends (batch_of c.args.limit p.tails)) p m r p.kept r.stands.rows; fronts = nothing_fronts g.D.Disk.tells (files_of p); tidy = tt })
+
+pub flush_lent-flushed-requires : goal.flush_lent-flushed-requires
+flush_lent-flushed-requires g c =
     let was = c.requires.rests in
     let p = parts g.D.Disk c.args.self.now in
     let whole = was.1.stands.store.whole 0 first_low in
     record {
-      can = subst (λ (b : List RowSamples). CanFlush c.args.self.now.store.catalogue.rows b) (sym c.in_ok-batch.ensures) (can g.D.Disk.tells p was.0 was.1 c.args.limit c.requires.limit (g.met.D.Disk.seen c.args.self.now.store.disk));
+      can = subst (λ (b : List RowSamples). CanFlush c.args.self.now.store.catalogue.rows b) (sym (c.deref-2.ensures.value ∙ c.in_ok-batch.ensures)) (can g.D.Disk.tells p was.0 was.1 c.args.limit c.requires.limit (g.met.D.Disk.seen c.args.self.now.store.disk));
       stands = was.1.stands.limbo.stands;
       has = (was.1.stands.store.before, whole.0, rests_has g.D.Disk.tells p was.0 was.1, whole.1);
     }
 
 pub returns-in-Ok-clause-changed : goal.returns-in-Ok-clause-changed
 returns-in-Ok-clause-changed g c =
-    let a = (goal.at.returns-in-Ok-clause-changed g c).After-flush in
+    let a = (goal.at.returns-in-Ok-clause-changed g c).After-flush_lent-flushed in
     let p = parts g.D.Disk c.args.self.now in
-    let new = seen g.D.Disk c.flush.new.self in
+    let new = seen g.D.Disk c.flush_lent-flushed.new.self in
     let batch = batch_of c.args.limit p.tails in
     let seen_now = g.met.D.Disk.seen c.args.self.now.store.disk in
     record {
       changes = λ m r.
-          let gives = subst (λ (b : List RowSamples). GivesUp b p.tails c.give_up.new.intake) c.in_ok-batch.ensures c.give_up.ensures in
+          let gives = c.give_up.ensures batch (kept g a ∙ sym c.deref-in-Ok.ensures.value) in
           with_all g a (λ (q : Parts). ChangesTo {A = ℕ} g.D.Disk.tells (Appends batch) p m q (Ok c.in-Ok.samples)) (record p { at = new; tails = c.give_up.new.intake }) refl refl
-          (call_done g.D.Disk.tells (flush_call g.D.Disk.tells p m r c.args.limit c.requires.limit seen_now) (Appends batch) (kind.Flush batch) p.kept p m r (makes_flush g.D.Disk.tells p m r c.args.limit c.requires.limit seen_now) (λ at after grow. grow) new (frame g a) c.in-Ok.samples p.kept c.give_up.new.intake
-          (flush_unclear g.D.Disk.tells p m r c.args.limit c.requires.limit seen_now new.catalogue.rows) gives (told g a m r (Ok c.in-Ok.samples) c.in-Ok.is));
-      fronts = c.flush.ensures.frame.fronts;
-      tidy = call_tidy g.D.Disk.tells p _ c.flush.result c.in-Ok.samples c.in-Ok.is refl c.flush.ensures.tidy;
+          (call_done g.D.Disk.tells (flush_call g.D.Disk.tells p m r c.args.limit c.requires.limit seen_now) (Appends batch) (kind.Flush c.in_ok-ends.ends) p.kept p m r (makes_flush g.D.Disk.tells p m r c.args.limit c.requires.limit seen_now c.in_ok-ends.ends (kept g a)) (λ at after grow. grow) new (frame g a) c.in-Ok.samples p.kept c.give_up.new.intake
+          (flush_unclear g.D.Disk.tells p m r c.args.limit c.requires.limit seen_now c.in_ok-ends.ends new.catalogue.rows) gives (told g a m r (Ok c.in-Ok.samples) c.in-Ok.is));
+      fronts = c.flush_lent-flushed.ensures.frame.fronts;
+      tidy = call_tidy g.D.Disk.tells p _ c.flush_lent-flushed.result c.in-Ok.samples c.in-Ok.is refl c.flush_lent-flushed.ensures.tidy;
     }
 
 pub returns-in-Ok-clause-count : goal.returns-in-Ok-clause-count
 returns-in-Ok-clause-count g c = λ m r on.
-    flush_counts g.D.Disk.tells (parts g.D.Disk c.args.self.now) m r c.args.limit c.requires.limit (g.met.D.Disk.seen c.args.self.now.store.disk) (seen g.D.Disk c.flush.new.self) c.in-Ok.samples (told g (goal.at.returns-in-Ok-clause-count g c).After-flush m r (Ok c.in-Ok.samples) c.in-Ok.is) on
+    flush_counts g.D.Disk.tells (parts g.D.Disk c.args.self.now) m r c.args.limit c.requires.limit (g.met.D.Disk.seen c.args.self.now.store.disk) (seen g.D.Disk c.flush_lent-flushed.new.self) c.in-Ok.samples (told g (goal.at.returns-in-Ok-clause-count g c).After-flush_lent-flushed m r (Ok c.in-Ok.samples) c.in-Ok.is) on
 
 pub returns-in-Err-Fault-clause-changed : goal.returns-in-Err-Fault-clause-changed
 returns-in-Err-Fault-clause-changed g c =
-    let a = (goal.at.returns-in-Err-Fault-clause-changed g c).After-flush in
+    let fault : c.in-Err-Fault.field-0 ≡ Fault = rw c.in-Err-Fault.is at c.in-Err-Fault.field-0-is in
+    let a = (goal.at.returns-in-Err-Fault-clause-changed g c).After-flush_lent-flushed in
     let p = parts g.D.Disk c.args.self.now in
-    let new = seen g.D.Disk c.flush.new.self in
+    let new = seen g.D.Disk c.flush_lent-flushed.new.self in
     let batch = batch_of c.args.limit p.tails in
     let seen_now = g.met.D.Disk.seen c.args.self.now.store.disk in
     record {
-      changes = λ m r. subst (λ (b : List RowSamples). ChangesTo {A = ℕ} g.D.Disk.tells (Appends batch) p m (record p { at = new; limbo = c.flush.new.self.limbo.items; pinned = c.flush.new.self.pinned; doubt = Some (kind.Flush b) }) (Err Fault)) (sym c.in_ok-batch.ensures)
-          (with_all g a (λ (q : Parts). ChangesTo {A = ℕ} g.D.Disk.tells (Appends batch) p m q (Err Fault)) (record p { at = new; doubt = Some (kind.Flush batch) }) refl refl
-          (call_failed g.D.Disk.tells (flush_call g.D.Disk.tells p m r c.args.limit c.requires.limit seen_now) (Appends batch) (kind.Flush batch) p.kept p m r (makes_flush g.D.Disk.tells p m r c.args.limit c.requires.limit seen_now) (λ at after grow. grow) new (frame g a)
-          (told g a m r (Err Fault) (c.in-Err-Fault.is ∙ ap (λ (e : DiskErr). Err e) c.in-Err-Fault.field-0-is))));
-      fronts = c.flush.ensures.frame.fronts;
+      changes = λ m r. with_all g a (λ (q : Parts). ChangesTo {A = ℕ} g.D.Disk.tells (Appends batch) p m q (Err Fault)) (record p { at = new; doubt = Some (kind.Flush c.in_ok-ends.ends) }) refl refl
+          (call_failed g.D.Disk.tells (flush_call g.D.Disk.tells p m r c.args.limit c.requires.limit seen_now) (Appends batch) (kind.Flush c.in_ok-ends.ends) p.kept p m r (makes_flush g.D.Disk.tells p m r c.args.limit c.requires.limit seen_now c.in_ok-ends.ends (kept g a)) (λ at after grow. grow) new (frame g a)
+          (told g a m r (Err Fault) (c.in-Err-Fault.is ∙ ap (λ (e : DiskErr). Err e) fault)));
+      fronts = c.flush_lent-flushed.ensures.frame.fronts;
       tidy = tt;
     }
 
 pub returns-in-Err-Memory-clause-changed : goal.returns-in-Err-Memory-clause-changed
 returns-in-Err-Memory-clause-changed g c =
-    let a = (goal.at.returns-in-Err-Memory-clause-changed g c).After-flush in
+    let memory : c.in-Err-Memory.field-0 ≡ Memory = rw c.in-Err-Memory.is at c.in-Err-Memory.field-0-is in
+    let a = (goal.at.returns-in-Err-Memory-clause-changed g c).After-flush_lent-flushed in
     let p = parts g.D.Disk c.args.self.now in
-    let new = seen g.D.Disk c.flush.new.self in
+    let new = seen g.D.Disk c.flush_lent-flushed.new.self in
     let batch = batch_of c.args.limit p.tails in
     let seen_now = g.met.D.Disk.seen c.args.self.now.store.disk in
     record {
       changes = λ m r. with_all g a (λ (q : Parts). ChangesTo {A = ℕ} g.D.Disk.tells (Appends batch) p m q (Err Memory)) (record p { at = new }) refl refl
-          (call_spent g.D.Disk.tells (flush_call g.D.Disk.tells p m r c.args.limit c.requires.limit seen_now) (Appends batch) (kind.Flush batch) p.kept p m r (makes_flush g.D.Disk.tells p m r c.args.limit c.requires.limit seen_now) (λ at after grow. grow) new (frame g a)
-          (told g a m r (Err Memory) (c.in-Err-Memory.is ∙ ap (λ (e : DiskErr). Err e) c.in-Err-Memory.field-0-is)));
-      fronts = c.flush.ensures.frame.fronts;
+          (call_spent g.D.Disk.tells (flush_call g.D.Disk.tells p m r c.args.limit c.requires.limit seen_now) (Appends batch) (kind.Flush c.in_ok-ends.ends) p.kept p m r (makes_flush g.D.Disk.tells p m r c.args.limit c.requires.limit seen_now c.in_ok-ends.ends (kept g a)) (λ at after grow. grow) new (frame g a)
+          (told g a m r (Err Memory) (c.in-Err-Memory.is ∙ ap (λ (e : DiskErr). Err e) memory)));
+      fronts = c.flush_lent-flushed.ensures.frame.fronts;
       tidy = tt;
     }

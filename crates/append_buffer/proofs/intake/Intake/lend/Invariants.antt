@@ -1,6 +1,6 @@
 use Rattle.std.proofs.Common.{◌≡◌, ◌+◌, ◌++◌, drop}
 use Rattle.append_buffer.specs.Tails.{held_bytes, batch_from}
-use Rattle.append_buffer.proofs.intake.Intake.batch.Given as goal
+use Rattle.append_buffer.proofs.intake.Intake.lend.Given as goal
 
 -- what is taken so far, and what the rest of the rows still give, is the batch
 abbrev pub invariant-loop-row : goal.invariant-loop-row
