@@ -1,10 +1,9 @@
 -- The pins of a map, by their numbers.
 use Rattle.std.proofs.Common.{◌≡◌, ◌≢◌, ℕ, ◌+◌, ◌<◌, ◌≤◌, List, [], ◌∷◌, drop, below_more, zero, suc, Bool, true, false, cond, ◌||◌, nat_eq, Some, None, Ok, Err, refl, ap, sym, ◌∙◌, subst, arith}
-use Rattle.std.proofs.lemmas.Bool.Decides.{Decides-eqb, nat_tests}
+use Rattle.std.proofs.lemmas.Bool.Decides.{nat_tests}
 use Rattle.std.proofs.lemmas.Cmp.{nat_cmp_total, ranked}
 use Rattle.std.proofs.lemmas.List.Folds.{Any-from_list_any, list_any-from_Any}
 use Rattle.std.proofs.lemmas.Map.Entries.{lookup_at_gap, place_from_lookup, btree_map_get_place}
-use Rattle.std.proofs.lemmas.Slice.Eq.{bytes_eq-Decides}
 use Rattle.std.specs.BTreeMap.{BTreeMap, is_at, IsOrdered, UpdatesBy}
 use Rattle.std.specs.Cmp.{nat_cmp_is, eq_by_cmp_equiv}
 use Rattle.std.specs.FinMap as map
@@ -13,12 +12,12 @@ use Rattle.std.specs.List.Sorted.{IsStrictlySortedBy}
 use Rattle.std.specs.Map.{keys_of, values_of, lookup}
 use Rattle.std.specs.Ordering.{nat_cmp, eq_by_cmp}
 use Rattle.std.specs.Prelude.{◌↔◌, Option, slice_get, IsSome, Contains}
-use Rattle.std.specs.Str.{bytes_eq}
 use Rattle.std.specs.declared.cmp.Ordering.TheVariants.{Less, Greater}
 use Rattle.disk_model.specs.Files.{Name}
 use Rattle.disk_model.specs.Record.{is_same}
 use Rattle.pin_table.specs.declared.table.PinErr.TheVariants.{NoPin, NotYours}
 use Rattle.pin_table.specs.Pinned.{PinState, IsPinned, names_file, dropped}
+use Rattle.disk_model.proofs.Lookups.{is_same-true, is_same-same}
 
 -- GET
 
@@ -32,25 +31,15 @@ get-tree entries q = map.get-from_entries nat_cmp_total entries q ∙ found entr
 
 -- NAMES
 
-same_name : (a b : Name) → is_same a b ≡ true → a ≡ b
-same_name a b same =
-    let store : a.0 ≡ b.0 = (Decides-eqb a.0 b.0).0 (grind (arith, nat_tests)) in
-    let path : a.1 ≡ b.1 = (bytes_eq-Decides a.1 b.1).0 (grind (arith, nat_tests)) in λ i. (store i, path i)
-
-own_name : (a : Name) → is_same a a ≡ true
-own_name a =
-    let store : nat_eq a.0 a.0 ≡ true = (Decides-eqb a.0 a.0).1 refl in
-    let path : bytes_eq a.1 a.1 ≡ true = (bytes_eq-Decides a.1 a.1).1 refl in grind (arith, nat_tests)
-
 -- one of the files has the name
 pub named : (files : List Name) (file : Name) → list_any (λ name. is_same name file) files ≡ true → Contains files file
 named files file any =
     let found = Any-from_list_any (λ name. is_same name file) files any in
-    let same : found.1 ≡ file = same_name found.1 file found.4 in
+    let same : found.1 ≡ file = is_same-true found.1 file found.4 in
     (found.0, found.2, subst (λ (name : Name). slice_index_or files found.0 name ≡ name) same found.3)
 
 pub names_it : (files : List Name) (file : Name) → Contains files file → list_any (λ name. is_same name file) files ≡ true
-names_it files file found = list_any-from_Any (λ name. is_same name file) files (found.0, file, found.1, found.2, own_name file)
+names_it files file found = list_any-from_Any (λ name. is_same name file) files (found.0, file, found.1, found.2, is_same-same file)
 
 -- PINNED
 
