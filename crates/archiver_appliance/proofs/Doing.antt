@@ -33,7 +33,7 @@ use Rattle.act_model.specs.Machine.{Machine}
 use Rattle.archiver_appliance.specs.Ingesting.{IngestsInto, LeavesNone}
 use Rattle.archiver_appliance.specs.Judging.{FindsDamage, FindsPart, IsDamagedFile, IsOfOpened, IsOneOf, IsWholeWith}
 use Rattle.archiver_appliance.specs.Moving.{MovesFrom}
-use Rattle.archiver_appliance.specs.Outside.{Outside, outside}
+use Rattle.archiver_appliance.specs.Outside.{outside}
 use Rattle.archiver_appliance.specs.Reporting.{ChecksAll, Tells, TellsListed}
 use Rattle.archiver_appliance.specs.Retrieving.{Gets, GetsRead, GetsSome, HasNone, RetrievesFrom}
 use Rattle.archiver_appliance.specs.Run.{Does, EndsAs, IsRefused, IsUnasked, Makes, NoDamage, OnlyOpens, OnlyReads}
@@ -76,15 +76,6 @@ module _ {S K C D R : Type 0} (src : OfSource S) (snk : OfSink K) (clk : OfClock
     (whole : IsTrue disk.tells → IsWhole (stores_of config) (disk.files first))
     (opening : IsTrue disk.tells → OnlyOpens (stores_of config) (disk.files first) (disk.files store.disk) (disk.past first) (disk.past store.disk))
     (s s' : S) (k k' : K) (c c' : C) (given : D) (status : Status) where
-  gs : List Granularity
-  gs = stores_of config
-
-  old : Outside
-  old = outside src snk clk disk s k c first
-
-  new : Outside
-  new = outside src snk clk disk s' k' c' given
-
   lists : Listings
   lists = lists_of store.manifests.items
 

@@ -73,10 +73,6 @@ pub move_same : (words : List (List ℕ)) (c : StoreCommand) → IsCommand words
 move_same words Etl one two = refl
 move_same words c one two = absurd (omega (arith, same_letter words (OverStore c) (OverStore Etl) one two))
 
-pub adopt_same : (words : List (List ℕ)) (c : StoreCommand) → IsCommand words (OverStore c) → IsCommand words (OverStore Adopt) → c ≡ Adopt
-adopt_same words Adopt one two = refl
-adopt_same words c one two = absurd (omega (arith, same_letter words (OverStore c) (OverStore Adopt) one two))
-
 pub serve_same : (words : List (List ℕ)) (c : StoreCommand) (n : ServeWords) → IsCommand words (OverStore c) → IsCommand words (OverStore (Serve n)) → (m : ServeWords) × (c ≡ Serve m)
 serve_same words (Serve m) n one two = (m, refl)
 serve_same words c n one two = absurd (omega (arith, same_letter words (OverStore c) (OverStore (Serve n)) one two))

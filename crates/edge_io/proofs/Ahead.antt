@@ -1,7 +1,6 @@
 -- What is still to come, over the steps of a reader of lines.
 use Rattle.std.proofs.Common.{◌≡◌, ◌≢◌, ℕ, ◌+◌, ◌-◌, ◌<◌, ◌≤◌, List, [], ◌∷◌, ◌++◌, Option, Some, None, All, length, take, drop, get_or, arith, refl, sym, ◌∙◌, ap, subst, append_assoc, inl, inr, zero, suc}
 use Rattle.std.specs.Prelude.{◌^◌, IfSome, IfNone, IsTrue, Bool}
-use Rattle.std.proofs.lemmas.Bool.{cases_lt}
 use Rattle.std.proofs.lemmas.List.{take-append-drop, drop_more, get_or_append_left, get_or-take, length-take-le, length-append, take-take, take_all, take_at, drop_at, take-append-le, drop-append-le, append-nil, get_or_default, nil_from_length}
 use Rattle.std.proofs.Math.Seq.{take-add}
 use Rattle.std.proofs.lemmas.List.Elements.{All-from_get_or}
@@ -10,7 +9,7 @@ use Rattle.edge_io.specs.declared.lines.LineRead.{LineRead}
 use Rattle.edge_io.specs.declared.lines.LineRead.TheVariants.{Line, End, Torn, TooLong, InputTooLong, SourceFault, Memory}
 use Rattle.edge_io.specs.declared.lines.Filled.{Filled}
 use Rattle.edge_io.specs.declared.lines.Filled.TheVariants as filled
-use Rattle.edge_io.specs.Lines.{Reader, ahead, IsTorn, IsTooLong, IsInputTooLong, NoneBelow, IsFirstNewline, IsNear, IsLineEnd, Stays, Reads, HoldsAnswer, AnswersHeld, Wants, Fills, ReadsOn}
+use Rattle.edge_io.specs.Lines.{Reader, ahead, IsTorn, IsTooLong, IsInputTooLong, NoneBelow, IsLineEnd, Stays, Reads, HoldsAnswer, AnswersHeld, Wants, Fills, ReadsOn}
 
 -- a line went from the reader to the caller
 pub consumes_line : (a : Option (List ℕ)) (held line rest : List ℕ) (left : Option (List ℕ)) → Keeps a (prepend_known held left) → held ≡ line ++ 10 ∷ rest → Consumes a (prepend_known rest left) (line ++ 10 ∷ [])
@@ -179,19 +178,6 @@ Stays-trans a b c h k = record { line = k.line ∙ h.line; number = k.number ∙
 
 pub wants_still : (old new : Reader) → Wants old → new.held ≡ old.held → new.passed ≡ old.passed → Wants new
 wants_still old new wants held passed = rw (held, passed) (record { none = wants.none; short = wants.short; within = wants.within })
-
--- Behind a line with its newline stand no more bytes than one read takes.
-pub near_behind : (held : List ℕ) (place : Option ℕ) (len : ℕ) → IsFirstNewline held place → IsNear (length held) place → 0 < len → len ≤ length held → get_or held (len - 1) 0 ≡ 10 → length held ≤ len + 65535
-near_behind held None len first near some within is = absurd (first (len - 1) (omega arith) is)
-near_behind held (Some k) len first near some within is = elim (cases_lt (len - 1) k) [
-  | inl before ↦ absurd (first.2 (len - 1) before is)
-  | inr behind ↦ omega (arith, near, behind, some)
-]
-
--- so none of them is out of reach of the next newline
-pub near_next : (count : ℕ) (place : Option ℕ) → count ≤ 65535 → IsNear count place
-near_next count None short = tt
-near_next count (Some k) short = omega arith
 
 -- the newline that was found in a front
 pub line_end_at : (xs : List ℕ) (mark k : ℕ) (is_free : Bool) → k < length xs → get_or xs k 0 ≡ 10 → NoneBelow xs k → (IsTrue is_free → (j : ℕ) → j < k → get_or xs j 0 ≢ mark) → IsLineEnd xs mark k is_free

@@ -1,22 +1,21 @@
 -- What the good lines at the front of a file come to.
-use Rattle.std.proofs.Common.{◌≡◌, ℕ, ◌+◌, ◌<◌, ◌≤◌, ◌^◌, ◌⊎◌, inl, inr, List, [], ◌∷◌, ◌++◌, Option, Some, None, Result, Ok, Err, IfOk, IfErr, length, take, drop, arith, refl, sym, ap, ◌∙◌, subst}
+use Rattle.std.proofs.Common.{◌≡◌, ℕ, ◌+◌, ◌<◌, ◌≤◌, ◌^◌, inl, inr, List, [], ◌∷◌, ◌++◌, Option, Some, None, Result, Ok, Err, IfOk, IfErr, length, take, drop, arith, refl, sym, ap, ◌∙◌, subst}
 use Rattle.std.proofs.lemmas.List.{length-append, length-take-le, take-append-drop}
 use Rattle.std.proofs.lemmas.Bool.{cases_lt}
 use Rattle.series_model.specs.declared.sample.Sample.{Sample}
-use Rattle.series_model.specs.Series.{end_of}
 use Rattle.payload_info.specs.declared.info.PayloadInfo.{PayloadInfo}
 use Rattle.partition_names.specs.declared.part.Part.{Part}
 use Rattle.partition_names.specs.Part.{HoldsMoment}
-use Rattle.pb_lines.specs.File.{IsFile, IsBadAt, HasNoHeader, lines_of}
+use Rattle.pb_lines.specs.File.{IsFile, lines_of}
 use Rattle.pb_lines.proofs.FileMeaning.{not_after, no_header_no_file, begin_alike, one_file}
 use Rattle.pb_file.specs.declared.walk.Walked.TheVariants as walked
 use Rattle.pb_file.specs.declared.check.Tally.{Tally}
 use Rattle.pb_file.specs.declared.good.Front.{Front}
 use Rattle.pb_file.specs.declared.good.FrontErr.{FrontErr}
 use Rattle.pb_file.specs.declared.good.FrontErr.TheVariants.{NoFront}
-use Rattle.pb_file.specs.Walk.{Walk, HasWalked, Walks, with_sample, Front as Read}
+use Rattle.pb_file.specs.Walk.{Walk, HasWalked, Walks, Front as Read}
 use Rattle.pb_file.specs.Verdict.{AllInside, Spans, IsGood, IsDamagedBehind, IsDamaged}
-use Rattle.pb_file.specs.GoodFront.{IsGoodFront, HasNoFront, IsShapedAs, IsMadeOf, LacksFront}
+use Rattle.pb_file.specs.GoodFront.{IsGoodFront, HasNoFront, IsMadeOf, LacksFront}
 use Rattle.pb_file.proofs.Walking.{within_first}
 use Rattle.pb_file.proofs.Verdicts.{Checked, samples_of, checked_with, nothing_begun, one_span}
 
@@ -214,13 +213,6 @@ sample_shaped part old new t tally more head_len info h was is place later earli
             ((omega (arith, first, inside.0), omega (arith, first, inside.1)), last, omega (arith, first, ends), omega (arith, earliest, ends))
       ];
     }
-
-pub is_shaped : (part : Part) (w : Walk) (len head_len : ℕ) (tally : Tally) (info : Option PayloadInfo) (front : Front) → Shaped part w tally head_len → w.place ≤ len → info ≡ w.info → IsMadeOf info head_len w.place tally front → IsShapedAs part len front
-is_shaped part w len head_len tally info front h within same is =
-    let header = h.header front.info (sym same ∙ is.header) in
-    let moments = h.moments is.some in
-    let S : Front → Type 0 = IsShapedAs part len in
-    subst S (sym is.made) (record { header = header.0; some = is.some; longer = header.1; within = within; first = moments.0; last = moments.1; order = moments.2 })
 
 -- ONE FRONT
 

@@ -77,27 +77,6 @@ lines_long (s ∷ xs) = omega (arith, lines_long xs, length-append s.line (10 �
 pub few_lines : (ty : PayloadType) (year : ℤ) (after to : ℕ) (bytes rest : List ℕ) (run : Run) → Running ty year after to bytes rest run → run.count ≤ run.len
 few_lines ty year after to bytes rest run is = omega (arith, is.len, is.count, lines_long is.samples)
 
-pub is_run : (ty : PayloadType) (year : ℤ) (after to : ℕ) (bytes rest : List ℕ) (run : Run) → Running ty year after to bytes rest run → 0 < run.count → IsRun ty year after to bytes run
-is_run ty year after to bytes rest run is some = elim is.ending [
-  | inl none ↦ absurd (omega (arith, is.count, ap length none, some))
-  | inr e ↦ record {
-    front = e.front;
-    last = e.last;
-    are = subst (λ (xs : List Sample). AreRunLines ty year xs) e.split is.are;
-    rising = subst (λ (xs : List Sample). RisesFrom (after + 1) xs) e.split is.rising;
-    within = omega (arith, is.len, ap length is.text, length-append (lines_of is.samples) rest);
-    text = ap (λ (l : List ℕ). take run.len l) is.text ∙ take_at (lines_of is.samples) rest run.len (sym is.len) ∙ ap lines_of e.split;
-    count = is.count ∙ ap length e.split;
-    t = e.t;
-    upto = omega (arith, is.upto, e.t);
-    ending = e.ending;
-  }
-]
-
-pub if_some_run : (o : Option Run) (run : Run) (P : Run → Type 0) → IfSome o (λ some. (some ≡ run) × (0 < run.count)) → (0 < run.count → P run) → IfSome o P
-if_some_run None run P h k = tt
-if_some_run (Some some) run P h k = subst P (sym h.0) (k h.1)
-
 -- WHERE A READER HOLDS ONE
 
 pub none_of : {X : Type 0} → (o : Option X) → is_some o ≡ false → o ≡ None

@@ -125,9 +125,6 @@ module _ {D R : Type 0} (disk : Ghosts D R) (gs : List Granularity) (old mid new
     pub stage_opens : OpensStage gs steps held (disk.past new)
     stage_opens = ends_open gs disk.tells told (loaded disk c₁ m₁ new) (makes.granularity ∙ same) steps held done (makes.ends held has)
 
-    pub stage_unopened : IsUnopened (disk.files new) (disk.opened new)
-    stage_unopened = ends_unopened gs disk.tells told (loaded disk c₁ m₁ new) (makes.granularity ∙ same) steps held done left (makes.ends held has)
-
   abbrev pub adopts_from : (whole done : Bool) (before after : Stores) → OpensEither gs (disk.past old) before after → (loads : HasLoaded disk gs old c ms mid before after) → Follows disk whole done gs (disk.files old) loads.held c ms mid c₁ m₁ new → AdoptsFrom whole disk gs old new before after
   adopts_from whole done before after opens loads follows = record {
     held = loads.held;

@@ -27,9 +27,6 @@ module _ (g : Granularity) (image : Files) (listing : Listing) (place : ℕ) (na
     pub are : new ≡ old ++ more
     pub rest : (ys : List Unlisted) → Finds g image listing place (drop i names) ys → Finds g image listing place names (more ++ ys)
 
-  pub found_none : (old : List Unlisted) → FoundSo 0 old old
-  found_none old = record { more = []; are = sym (append-nil old); rest = λ ys finds. finds }
-
   next_name : (i : ℕ) (n : Name) → i < length names → n ≡ get_or names i n → drop i names ≡ n ∷ drop (i + 1) names
   next_name i n low is = rw add-one (drop-cons names i n low ∙ ap (λ (x : Name). x ∷ drop (suc i) names) (sym is))
 

@@ -1,5 +1,5 @@
 -- An extraction behind a run.
-use Rattle.std.proofs.Common.{◌≡◌, ℕ, ◌+◌, ◌-◌, ◌<◌, ◌≤◌, inl, inr, List, [], ◌∷◌, ◌++◌, Bool, Option, Some, None, length, take, drop, map, arith, refl, sym, ap, ◌∙◌, subst, append_assoc}
+use Rattle.std.proofs.Common.{◌≡◌, ℕ, ◌+◌, ◌-◌, ◌<◌, inl, inr, List, [], ◌∷◌, ◌++◌, Bool, Option, Some, None, length, take, map, arith, refl, sym, ap, ◌∙◌, subst, append_assoc}
 use Rattle.std.specs.Prelude.{IsSome}
 use Rattle.std.specs.Io.KnownBytes.{Appends}
 use Rattle.std.proofs.KnownBytes.{Appends-trans, Appends-nil}
@@ -11,10 +11,10 @@ use Rattle.payload_info.specs.declared.info.PayloadInfo.{PayloadInfo}
 use Rattle.pb_lines.specs.File.{lines_of}
 use Rattle.pb_lines.specs.Stream.{Item, sample, Section}
 use Rattle.pb_lines.specs.declared.run.Run.{Run}
-use Rattle.pb_lines.specs.Run.{IsRun, HoldsRun, TakesRun, samples_of}
-use Rattle.pb_lines.specs.Reader.{Chunks, Passes, to_come, work_left}
+use Rattle.pb_lines.specs.Run.{HoldsRun, TakesRun, samples_of}
+use Rattle.pb_lines.specs.Reader.{Chunks, Passes, to_come}
 use Rattle.pb_lines.proofs.Running.{last_line}
-use Rattle.stream_extract.specs.Extract.{line_text, lines_text, known, Before, samples, text_behind, extracted}
+use Rattle.stream_extract.specs.Extract.{lines_text, known, Before, samples, text_behind, extracted}
 use Rattle.stream_extract.specs.Answer.{Answering, Adds, TakesAll, OnOneSide, IsBound, IsFollowed, next_of}
 use Rattle.stream_extract.specs.Run.{Sends, Runs, RunsOn}
 use Rattle.stream_extract.proofs.Stream.{passes_join}
@@ -144,7 +144,3 @@ ran q a b old mid new before left gathered total later answering next p (inr h) 
 pub still_going : (mid new : Chunks) (a b : Answering) (text total : List ℕ) → RunsOn mid new a b text total → mid.refused ≡ None → new.refused ≡ None
 still_going mid new a b text total (inl h) going = ap (λ (c : Chunks). c.refused) h.0 ∙ going
 still_going mid new a b text total (inr h) going = h.refused ∙ going
-
-pub no_more_work : (mid new : Chunks) (a b : Answering) (text total : List ℕ) → RunsOn mid new a b text total → work_left new ≤ work_left mid
-no_more_work mid new a b text total (inl h) = let e = ap work_left h.0 in omega (arith, e)
-no_more_work mid new a b text total (inr h) = h.work

@@ -1,5 +1,5 @@
 -- What a merge gave of what it read, from one call to the next.
-use Rattle.std.proofs.Common.{◌≡◌, ◌⊎◌, ℕ, ◌+◌, ◌*◌, ◌^◌, ◌<◌, ◌≤◌, inl, inr, List, [], ◌∷◌, ◌++◌, Option, None, Some, IsTrue, length, take, drop, refl, sym, ap, ◌∙◌, subst, arith, append_assoc, append-nil}
+use Rattle.std.proofs.Common.{◌≡◌, ◌⊎◌, ℕ, ◌+◌, ◌*◌, ◌^◌, ◌<◌, ◌≤◌, inl, inr, List, [], ◌∷◌, ◌++◌, Option, None, Some, length, take, drop, refl, sym, ap, ◌∙◌, subst, arith, append_assoc, append-nil}
 use Rattle.std.specs.Prelude.{IsSome}
 use Rattle.std.specs.List.{Contains}
 use Rattle.std.proofs.lemmas.Bool.{cases_lt}
@@ -19,7 +19,7 @@ use Rattle.stream_merge.specs.declared.merge.Merge.{Merge}
 use Rattle.stream_merge.specs.Pieces.{NamedBytes}
 use Rattle.stream_merge.specs.Source.{open_pieces, IsGiven, unread, unread_in}
 use Rattle.stream_merge.specs.Merging.{Gives, IsDue, IsEarly, IsKept, kept_of}
-use Rattle.stream_merge.specs.Reads.{AreRead, AnswersRead, IsBehind, LastIsRead, HasReadOpen, HasRead, HasReadAll, ReadsOn, HasGiven, GivesMore, GivesNext}
+use Rattle.stream_merge.specs.Reads.{AreRead, AnswersRead, LastIsRead, HasReadOpen, HasRead, HasReadAll, HasGiven, GivesNext}
 use Rattle.stream_merge.proofs.Giving.{step_skip, step_keep, step_held, step_within, step_past, step_due, step_due_past, step_last}
 use Rattle.stream_merge.proofs.SoFar.{is_read_up_to}
 
@@ -185,10 +185,6 @@ given_on {R} bytes m s left left₂ ps ps₂ given all h has = record {
       let E : List Sample → Type 0 = λ l. answer (taken (h.read ++ l)) m.query ≡ given ++ answer (kept_of m.kept m.kept_line.items ++ taken_from (behind m.last) l) m.query in
       subst E (sym empty) (h.so [] (λ a. refl));
 }
-
-sample_same : (k : Option ℕ) (l : List ℕ) (x : Sample) (t : ℕ) → k ≡ Some t → kept_of k l ≡ x ∷ [] → x.t ≡ t
-sample_same None l x t some is = absurd (cc)
-sample_same (Some b) l x t some is = let one : b ≡ t = cc in let two : b ≡ x.t = cc in omega (arith, one, two)
 
 due_is : (k : Option ℕ) (l : List ℕ) (x : Sample) (from : ℕ) → kept_of k l ≡ x ∷ [] → IsDue k from → from ≤ x.t
 due_is None l x from is due = absurd due

@@ -1,6 +1,6 @@
 -- What was read of the pieces, from one read to the next.
-use Rattle.std.proofs.Common.{◌≡◌, ◌⊎◌, Bool, ℕ, ◌+◌, ◌<◌, ◌≤◌, inl, inr, List, [], ◌∷◌, ◌++◌, Option, None, Some, IsTrue, length, take, drop, refl, sym, ap, ◌∙◌, subst, arith, append_assoc, append-nil}
-use Rattle.std.specs.List.{AllZip, flat_map, Contains}
+use Rattle.std.proofs.Common.{◌≡◌, ◌⊎◌, Bool, ℕ, ◌+◌, inl, inr, List, [], ◌∷◌, ◌++◌, Option, None, Some, IsTrue, length, take, drop, refl, sym, ap, ◌∙◌, subst, arith, append_assoc, append-nil}
+use Rattle.std.specs.List.{flat_map}
 use Rattle.std.proofs.lemmas.Grind.{flat_map-append}
 use Rattle.std.proofs.lemmas.List.{length-take-le, take-append-drop, take-take, append_cancel_right}
 use Rattle.std.proofs.Math.Seq.{take-length}
@@ -19,7 +19,7 @@ use Rattle.stream_merge.specs.declared.source.OpenPiece.{OpenPiece}
 use Rattle.stream_merge.specs.declared.source.Source.{Source}
 use Rattle.stream_merge.specs.Pieces.{NamedBytes}
 use Rattle.stream_merge.specs.Beginning.{IsAtLine}
-use Rattle.stream_merge.specs.Source.{open_pieces, IsBegun, IsGiven, IsOfTail, IsFailure}
+use Rattle.stream_merge.specs.Source.{open_pieces, IsBegun, IsFailure}
 use Rattle.stream_merge.specs.Reads.{IsReadUpTo, IsReadToEnd, AreReadToEnd, HasReadOf, HasReadOpen, ReadsNext, HasRead, HasReadAll, ReadsOn, PullsNext}
 
 abbrev pub flat : List (List Sample) → List Sample
@@ -129,13 +129,6 @@ pub end_of_open : {R : Type 0} (bytes : R → List ℕ) (ty : PayloadType) (o : 
 end_of_open {R} bytes ty o p read is end =
     let P : Option (OpenPiece R) → Type 0 = λ x. AreReadToEnd ty (open_pieces bytes x) (read ∷ []) in
     (read ∷ [], subst P (sym is) (end, tt), sym (append-nil read))
-
--- none is open
-pub end_of_none : {R : Type 0} (bytes : R → List ℕ) (ty : PayloadType) (o : Option (OpenPiece R)) (read : List Sample) → o ≡ None → HasReadOpen bytes ty o read → (lists : List (List Sample)) × AreReadToEnd ty (open_pieces bytes o) lists × (read ≡ flat lists)
-end_of_none {R} bytes ty o read is h =
-    let P : Option (OpenPiece R) → Type 0 = λ x. AreReadToEnd ty (open_pieces bytes x) [] in
-    let H : Option (OpenPiece R) → Type 0 = λ x. HasReadOpen bytes ty x read in
-    ([], subst P (sym is) tt, subst H is h)
 
 -- OF ALL PIECES
 

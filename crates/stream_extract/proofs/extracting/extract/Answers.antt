@@ -11,7 +11,7 @@ use Rattle.series_model.specs.Series.{taken}
 use Rattle.series_model.specs.Retrieval.{answer}
 use Rattle.stream_extract.specs.Extract.{lines_text, known}
 use Rattle.stream_extract.specs.Answer.{Covers, Adds, Takes}
-use Rattle.stream_extract.proofs.Runs.{ran, sent, still_going, no_more_work}
+use Rattle.stream_extract.proofs.Runs.{ran, sent, still_going}
 use Rattle.stream_extract.proofs.Progress.{Progress, nothing_written, on_ok, on_err, starts, read_from, skipped, headed, sampled, finished, writes_front, ended_early, ended_whole}
 use Rattle.stream_extract.proofs.extracting.extract.Goals.{in-None, in-Some-Header, in-Some-Sample, in-Some-ChunkEnd}
 use Rattle.stream_extract.proofs.extracting.extract.Goals as goal
