@@ -20,7 +20,7 @@ use Rattle.store_reopen.specs.Reopen.{entries_in, lists_of}
 use Rattle.store_reopen.specs.Verdict.{Listings}
 use Rattle.act_model.specs.declared.acts.Act.TheVariants.{Pin}
 use Rattle.act_model.specs.declared.acts.Answer.TheVariants.{Pinned}
-use Rattle.act_model.specs.History.{Done, Entry, Made, MadeOne, Runs}
+use Rattle.act_model.specs.History.{Done, Entry, Made, Runs}
 use Rattle.act_model.specs.Machine.{Machine}
 use Rattle.act_model.specs.Out.{Subject}
 use Rattle.act_model.proofs.Histories.{made_joined}
@@ -32,7 +32,7 @@ use Rattle.stream_merge.specs.Pieces.{NamedBytes}
 use Rattle.stream_merge.specs.Reads.{AnswersRead}
 use Rattle.retrieval_query.specs.Openings.{named, openings}
 use Rattle.retrieval_query.specs.Raw.{IsRaw}
-use Rattle.retrieval_query.specs.Retrieving.{FinishesRead, RetrievesRead, RetrievesToEnd, given_up}
+use Rattle.retrieval_query.specs.Retrieving.{RetrievesRead, RetrievesToEnd, given_up}
 use Rattle.retrieval_query.specs.declared.retrieved.Retrieved.{Retrieved}
 use Rattle.retrieval_query.specs.declared.retrieved.Retrieved.TheVariants as got
 use Rattle.command_words.specs.declared.status.Status.{Status}

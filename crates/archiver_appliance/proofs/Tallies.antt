@@ -1,5 +1,5 @@
 -- What is counted of events.
-use Rattle.std.proofs.Common.{◌≡◌, ℕ, ℤ, ◌+◌, ◌*◌, ◌-◌, ◌<◌, ◌≤◌, Option, Some, pos, negsuc, unsigned_abs, arith, sym, subst}
+use Rattle.std.proofs.Common.{ℕ, ℤ, ◌+◌, ◌<◌, ◌≤◌, pos, negsuc, arith, sym, subst}
 use Rattle.std.proofs.lemmas.Int.{ints}
 use Rattle.arch_time.specs.Calendar.{days_in_year, days_of_years}
 use Rattle.arch_time.specs.YearTime.{IsInYear, IsSampleYear, moment}

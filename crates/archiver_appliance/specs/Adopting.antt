@@ -11,9 +11,8 @@ use Rattle.partition_names.specs.declared.granularity.Granularity.{Granularity}
 use Rattle.series_model.specs.Archive.{IsPrefix}
 use Rattle.tier_store.specs.Stores.{Stores, samples_in}
 use Rattle.tier_store.specs.Stored.{HoldsAll}
-use Rattle.tier_store.specs.Change.{IsEither}
 use Rattle.store_reopen.specs.Adoption.{IsAdoption, Counts, IsMarkedOf, NoneFoundOpened, OpensStage}
-use Rattle.store_reopen.specs.Reopen.{HoldsEither, OnlySite, OpensEither, SameStores}
+use Rattle.store_reopen.specs.Reopen.{OnlySite, OpensEither, SameStores}
 use Rattle.store_reopen.specs.Strays.{IsGone, adoption_name}
 use Rattle.store_reopen.specs.Steps.{Step, made_by, stage}
 use Rattle.store_reopen.specs.declared.adopted.Adopted.{Adopted}

@@ -2,7 +2,6 @@
 -- tells how much is accepted of each variable, and how many files each store lists, in states that the archive came to then.
 use Rattle.std.specs.Prelude.{◌≡◌, ℕ, ◌+◌, ◌-◌, ◌^◌, ◌≤◌, ◌⊎◌, List, [], ◌∷◌, ◌++◌, length, min, Bool, true, false, IsTrue, Option, Some, None, codes, slice_get, slice_index}
 use Rattle.std.specs.Io.KnownBytes.{Appends}
-use Rattle.arch_time.specs.YearTime.{moment}
 use Rattle.edge_io.specs.Stream.{AppendsFront}
 use Rattle.edge_io.specs.Doors.{Both, Listing, ledger_of}
 use Rattle.disk_model.specs.Past.{Past}

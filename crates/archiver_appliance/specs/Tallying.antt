@@ -1,5 +1,5 @@
 -- What is counted of an answer.
-use Rattle.std.specs.Prelude.{◌≡◌, ◌<◌, ℕ, ◌-◌, ◌^◌, List, [], min, Option, Some, None, length, slice_get, option_map}
+use Rattle.std.specs.Prelude.{◌≡◌, ◌<◌, ◌-◌, ◌^◌, List, [], min, Option, Some, None, length, slice_get, option_map}
 use Rattle.std.specs.Option.{ForSome}
 use Rattle.series_model.specs.declared.sample.Sample.{Sample}
 use Rattle.drill_feed.specs.declared.report.Tally.{Tally}

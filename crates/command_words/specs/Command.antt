@@ -5,7 +5,6 @@ use Rattle.arch_time.specs.Iso.{IsIso}
 use Rattle.series_model.specs.declared.sample.Query.{Query}
 use Rattle.command_words.specs.declared.command.Command.{Command}
 use Rattle.command_words.specs.declared.command.Command.TheVariants.{Drill, Extract, OverStore}
-use Rattle.command_words.specs.declared.command.StoreCommand.{StoreCommand}
 use Rattle.command_words.specs.declared.command.StoreCommand.TheVariants.{Ingest, Get, Etl, Status, Check, Serve, Adopt}
 use Rattle.command_words.specs.ServeWords.{AsksToDrill, AsksToServe}
 

@@ -1,5 +1,5 @@
 -- What the lines of a drill mean, and that they are short.
-use Rattle.std.proofs.Common.{◌≡◌, ◌≢◌, ℕ, zero, suc, ◌+◌, ◌*◌, ◌/◌, ◌%◌, ◌^◌, ◌<◌, ◌≤◌, ℤ, pos, List, [], ◌∷◌, ◌++◌, Ok, length, true, false, arith, refl, ap, ◌∙◌}
+use Rattle.std.proofs.Common.{◌≡◌, ◌≢◌, ℕ, zero, suc, ◌+◌, ◌*◌, ◌/◌, ◌%◌, ◌^◌, ◌<◌, ◌≤◌, pos, List, [], ◌∷◌, ◌++◌, Ok, length, true, false, arith, refl}
 use Rattle.std.specs.Prelude.{nat_lt, if◌then◌else◌}
 use Rattle.std.specs.Int.{w32, cast_unsigned, to_le_bytes}
 use Rattle.std.proofs.lemmas.Int.{ints}
@@ -8,7 +8,7 @@ use Rattle.std.proofs.lemmas.List.Sums.{count_by-le-length}
 use Rattle.pb_wire.specs.declared.payload.PayloadType.TheVariants.{ScalarInt}
 use Rattle.pb_wire.specs.Spelling.{number, number_text}
 use Rattle.line_escape.specs.Escaping.{escaped, needs_pair}
-use Rattle.line_escape.proofs.EscapingLemmas.{escaped-Means, escaped-HasNoNewline, length-escaped}
+use Rattle.line_escape.proofs.EscapingLemmas.{escaped-Means, length-escaped}
 use Rattle.arch_time.specs.YearTime.{moment}
 use Rattle.event_types.specs.Event.{event_of, stamp_of}
 use Rattle.event_types.specs.Spelling.{event_text, FitsEvent}
@@ -17,7 +17,7 @@ use Rattle.payload_info.specs.Spelling.{info_text, FitsInfo}
 use Rattle.payload_info.proofs.RoundTrip.{info_back}
 use Rattle.pb_lines.specs.Header.{IsHeaderLine}
 use Rattle.pb_lines.specs.Sample.{IsSampleLine}
-use Rattle.drill_feed.specs.Workload.{event, head_of, header_of, name_text}
+use Rattle.drill_feed.specs.Workload.{event, head_of, header_of}
 
 -- LENGTHS
 

@@ -1,5 +1,5 @@
 -- The names of a drill's variables are names.
-use Rattle.std.proofs.Common.{◌≡◌, ◌≢◌, ℕ, zero, suc, ◌+◌, ◌<◌, ◌≤◌, inl, inr, List, [], ◌∷◌, IsTrue, length, get_or, arith, refl, ap}
+use Rattle.std.proofs.Common.{◌≢◌, ℕ, zero, suc, ◌+◌, ◌<◌, inl, inr, List, [], ◌∷◌, IsTrue, length, get_or, arith, refl, ap}
 use Rattle.std.specs.List.{before_first}
 use Rattle.pv_name.specs.Name.{IsBadSegment, IsFault, IsName, is_allowed, is_separator}
 use Rattle.drill_feed.specs.Workload.{name_text}

@@ -1,5 +1,5 @@
 -- A header and short lines of samples are a stream of just them.
-use Rattle.std.proofs.Common.{◌≡◌, ◌≢◌, ℕ, ◌+◌, ◌*◌, ◌^◌, ◌<◌, ◌≤◌, inl, inr, List, [], ◌∷◌, ◌++◌, None, length, map, arith, refl}
+use Rattle.std.proofs.Common.{◌≢◌, ℕ, ◌+◌, ◌*◌, ◌^◌, ◌<◌, ◌≤◌, inl, inr, List, [], ◌∷◌, ◌++◌, None, length, map, arith, refl}
 use Rattle.std.specs.List.{AllByRecursion}
 use Rattle.line_escape.specs.Unescaping.{HasNoNewline}
 use Rattle.edge_io.specs.declared.lines.LineRead.TheVariants.{End}

@@ -1,5 +1,5 @@
 -- The doors of a drill, and the connections that they give.
-use Rattle.std.specs.Prelude.{ℕ, ◌+◌, ◌*◌, List, [], ◌∷◌, false}
+use Rattle.std.specs.Prelude.{ℕ, ◌+◌, ◌*◌, [], ◌∷◌, false}
 use Rattle.edge_io.specs.Memory.{Calls}
 use Rattle.edge_io.specs.Doors.{Both, Listing}
 use Rattle.drill_feed.specs.Workload.{chunk_text}

@@ -5,7 +5,7 @@ use Rattle.std.proofs.lemmas.List.{take_all, length-append}
 use Rattle.std.proofs.lemmas.List.Elements.{All-map}
 use Rattle.gate_journal.specs.Generations.{IsOwn, AtOwn}
 use Rattle.gate_journal.proofs.Owning.{own_store}
-use Rattle.disk_model.specs.Files.{Name, Content, Files, At, HasFile}
+use Rattle.disk_model.specs.Files.{Name, Files, At, HasFile}
 use Rattle.disk_model.specs.Past.{Past, Passes}
 pub use Rattle.disk_model.proofs.Each.{same_then}
 use Rattle.disk_model.proofs.Passing.{passes_then, passes_weaker, passes_none}

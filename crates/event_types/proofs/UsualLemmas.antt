@@ -1,5 +1,5 @@
 -- A second, a nanosecond and a value, in this order and nothing else.
-use Rattle.std.proofs.Common.{◌≡◌, ℕ, ◌%◌, ◌^◌, ◌||◌, Bool, true, false, List, [], ◌∷◌, Option, Some, None, Ok, length, refl, sym, ◌∙◌, ap, is_some}
+use Rattle.std.proofs.Common.{◌≡◌, ℕ, ◌%◌, ◌^◌, ◌||◌, Bool, true, false, List, [], ◌∷◌, Option, Some, None, Ok, length, refl, ◌∙◌, ap, is_some}
 use Rattle.pb_wire.specs.declared.payload.PayloadType.{PayloadType}
 use Rattle.pb_wire.specs.Message.{Value, varint, Entry}
 use Rattle.pb_wire.specs.Reading.{field_at}
@@ -10,7 +10,7 @@ use Rattle.std.specs.Option.{option_or}
 use Rattle.pb_wire.specs.declared.fault.FieldFault.{FieldFault}
 use Rattle.event_types.specs.declared.layout.Layout.{Layout}
 use Rattle.event_types.specs.Layout.{layout_of, is_single, elements_in}
-use Rattle.event_types.specs.Event.{fault_in, has_val, pairs_of, stamp_of}
+use Rattle.event_types.specs.Event.{fault_in, pairs_of, stamp_of}
 use Rattle.event_types.proofs.EventLemmas.{stamp_found}
 
 -- a cursor at the end has no items

@@ -1,26 +1,20 @@
 -- What is written as fields is read as those fields.
-use Rattle.std.proofs.Common.{◌≡◌, ℕ, ◌-◌, ◌^◌, ◌<◌, ◌==◌, ◌||◌, Bool, true, false, List, [], ◌∷◌, ◌++◌, length, map, Option, Some, None, Ok, refl, sym, ◌∙◌, ap, append_assoc, arith}
-use Rattle.std.specs.List.{AllByRecursion}
+use Rattle.std.proofs.Common.{◌≡◌, ℕ, ◌-◌, ◌^◌, ◌<◌, ◌==◌, ◌||◌, Bool, true, false, List, [], ◌∷◌, ◌++◌, length, map, Option, Some, None, refl, sym, ◌∙◌, ap, append_assoc}
 use Rattle.std.specs.Option.{option_or}
 use Rattle.std.proofs.lemmas.List.{append-nil}
-use Rattle.pb_wire.specs.Message.{Value, Entry, IsFieldNumber}
-use Rattle.pb_wire.specs.Reading.{field_at}
-use Rattle.pb_wire.specs.Cursor.{Cursor, Placed, Contents, with_first}
-use Rattle.pb_wire.specs.Spelling.{field_text, FitsValue}
-use Rattle.pb_wire.proofs.ContentsLemmas.{contents_by, contents_end}
-use Rattle.pb_wire.proofs.FieldTexts.{field_shrinks, next_written}
+use Rattle.pb_wire.specs.Message.{Value, Entry}
+use Rattle.pb_wire.specs.Cursor.{Placed}
 use Rattle.pb_wire.proofs.PairWritten.{placed, pair_sound, pair_back}
 use Rattle.event_types.specs.declared.layout.Layout.{Layout}
 use Rattle.event_types.specs.declared.reading.Members.{Members}
 use Rattle.pb_wire.specs.Fields.{first_of}
-use Rattle.pb_wire.specs.FieldValue.{fields_of, pair_fault, pair_of}
 use Rattle.series_model.specs.PairLists.{joined}
 use Rattle.event_types.specs.Layout.{Elements, elements_in}
 use Rattle.event_types.specs.Event.{number, part_of, fault_in}
 use Rattle.event_types.specs.Adding.{with_elements}
 use Rattle.event_types.specs.Singular.{with_numbers}
 use Rattle.event_types.specs.Reading.{with_fields}
-use Rattle.pb_wire.specs.FieldSpelling.{message_text, number_field, text_field, pair_text, pair_field, optional_field, ShortPairs}
+use Rattle.pb_wire.specs.FieldSpelling.{message_text, number_field, pair_text, pair_field, optional_field, ShortPairs}
 use Rattle.event_types.proofs.ElementLemmas.{no_elements}
 use Rattle.series_model.proofs.PairLists.{joined_assoc, joined_nothing}
 use Rattle.event_types.proofs.FieldsLemmas.{or_false, same_members, more_fields}

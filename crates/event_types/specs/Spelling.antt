@@ -1,12 +1,12 @@
 -- How an event is written: its fields, one after another.
-use Rattle.std.specs.Prelude.{◌^◌, ◌<◌, IfSome, FitsSigned, length, ℕ, zero, suc, if◌then◌else◌, Bool, true, false, ℤ, pos, List, [], ◌∷◌, ◌++◌, map, Option, Some, None}
+use Rattle.std.specs.Prelude.{◌^◌, ◌<◌, IfSome, FitsSigned, length, ℕ, if◌then◌else◌, Bool, true, false, ℤ, pos, List, [], ◌∷◌, ◌++◌, map, Option, Some, None}
 use Rattle.std.specs.Ordering.{int_eq}
 use Rattle.std.specs.List.{flat_map, AllByRecursion}
 use Rattle.std.specs.Option.{option_map}
 use Rattle.std.specs.Int.{w32, w64, cast_unsigned, to_le_bytes}
 use Rattle.pb_wire.specs.Signed.{zigzag_of}
-use Rattle.pb_wire.specs.Message.{varint, fixed64, blob, fixed32, Entry}
-use Rattle.pb_wire.specs.Spelling.{number_text, field_text}
+use Rattle.pb_wire.specs.Message.{fixed64, fixed32, Entry}
+use Rattle.pb_wire.specs.Spelling.{number_text}
 use Rattle.pb_wire.specs.Numbers.{sign_extended}
 use Rattle.pb_wire.specs.FieldSpelling.{message_text, number_field, text_field, pair_field, optional_field, ShortPairs}
 use Rattle.event_types.specs.declared.value.Value.{Value}

@@ -1,12 +1,12 @@
 -- A flush of all that an intake can hold leaves nothing in it.
-use Rattle.std.proofs.Common.{◌≡◌, ◌∙◌, ap, sym, refl, subst, ℕ, ◌≤◌, List, [], ◌∷◌, ◌++◌, lit≤}
+use Rattle.std.proofs.Common.{◌≡◌, ap, refl, subst, ℕ, ◌≤◌, List, [], ◌∷◌, ◌++◌, lit≤}
 use Rattle.act_model.specs.declared.acts.Act.{Act}
 use Rattle.act_model.specs.declared.acts.Answer.TheVariants.{Flushed}
 use Rattle.act_model.specs.Reply.{Reply}
 use Rattle.act_model.specs.Machine.{Machine}
 use Rattle.act_model.specs.Sound.{IsSound}
 use Rattle.act_model.specs.Step.{Step, MayAsk}
-use Rattle.act_model.specs.History.{CutAt, Done, Entry, Goes, Made, Runs, StepsAt, done_of, mine}
+use Rattle.act_model.specs.History.{Done, Entry, Goes, Made, Runs, StepsAt, done_of, mine}
 use Rattle.act_model.proofs.FlushLeft.{flush_leaves_none}
 use Rattle.act_model.proofs.Histories.{cut_at, runs_sound, steps_at}
 use Rattle.feed_session.specs.Asks.{flush_all}

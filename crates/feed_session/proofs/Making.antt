@@ -1,12 +1,12 @@
 -- Of what is asked for, acts are made one after another.
-use Rattle.std.proofs.Common.{◌≡◌, ◌∙◌, ap, sym, refl, subst, ℕ, ◌+◌, List, [], ◌∷◌, ◌++◌, append_assoc, append-nil, add-zero, zero-add, arith}
+use Rattle.std.proofs.Common.{◌≡◌, ◌∙◌, ap, sym, refl, subst, ◌+◌, List, [], ◌∷◌, ◌++◌, append_assoc, add-zero, zero-add}
 use Rattle.std.specs.Prelude.{Bool}
-use Rattle.std.specs.List.{AllByRecursion, count_by, sum_by}
+use Rattle.std.specs.List.{count_by, sum_by}
 use Rattle.std.proofs.lemmas.List.Sums.{sum_by-append}
 use Rattle.act_model.specs.declared.acts.Act.{Act}
 use Rattle.act_model.specs.Reply.{Reply}
 use Rattle.act_model.specs.History.{Done}
-use Rattle.feed_session.specs.Asks.{AreMade, FailsWith, NoneFails, asked_again, is_failure}
+use Rattle.feed_session.specs.Asks.{AreMade, FailsWith, NoneFails, asked_again}
 use Rattle.feed_session.specs.Asking.{both, none, tally_of}
 use Rattle.feed_session.specs.Session.{is_kept, is_held, is_dropped}
 use Rattle.feed_session.specs.declared.tally.Tally.{Tally}

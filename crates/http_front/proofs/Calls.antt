@@ -17,7 +17,7 @@ use Rattle.sample_bins.proofs.Asking.{one_asked}
 use Rattle.http_front.specs.declared.path.Path.{Path}
 use Rattle.http_front.specs.declared.path.Path.TheVariants as served
 use Rattle.http_front.specs.declared.request.Param.{Param}
-use Rattle.http_front.specs.declared.request.Param.TheVariants.{Pv, PvOrBins, From, To, SamplingMethod, SamplingPeriod, NewName}
+use Rattle.http_front.specs.declared.request.Param.TheVariants.{Pv, From, To, SamplingMethod, SamplingPeriod, NewName}
 use Rattle.http_front.specs.declared.request.WebCall.{WebCall}
 use Rattle.http_front.specs.declared.request.WebCall.TheVariants.{Raw, Json, AllPvs, PvStatus, PvDetails, ArchivePv, PausePv, ResumePv, RenamePv, FlushAll}
 use Rattle.http_front.specs.declared.request.Request.{Request}

@@ -1,5 +1,5 @@
 -- One step of the search for the series that moves next.
-use Rattle.std.specs.Prelude.{◌≡◌, ◌≤◌, ℕ, zero, suc, Option, Some, None}
+use Rattle.std.specs.Prelude.{◌≡◌, ℕ, zero, suc, Option, Some, None}
 use Rattle.std.specs.Option.{unwrap_or}
 use Rattle.move_choice.specs.declared.series.ToMove.{ToMove}
 use Rattle.move_choice.specs.declared.series.ToMove.TheVariants.{Running, Nothing}

@@ -1,25 +1,21 @@
 -- What is written as a header is read as that header.
-use Rattle.std.proofs.Common.{◌≡◌, ℕ, suc, ◌-◌, ◌%◌, ◌^◌, ◌<◌, ℤ, pos, negsuc, List, [], ◌∷◌, ◌++◌, length, map, Option, Some, None, Ok, refl, ◌∙◌, ap, arith}
+use Rattle.std.proofs.Common.{◌≡◌, ℕ, ◌-◌, ◌%◌, ◌^◌, ◌<◌, ℤ, pos, List, [], ◌∷◌, ◌++◌, length, map, Option, Some, None, Ok, refl, ◌∙◌, ap, arith}
 use Rattle.std.specs.Prelude.{IfSome, ◌≤ℤ◌, FitsSigned}
 use Rattle.std.specs.List.{filter_map, AllByRecursion}
 use Rattle.std.specs.Option.{option_map}
-use Rattle.std.specs.Int.{w32, cast_signed}
+use Rattle.std.specs.Int.{w32}
 use Rattle.std.proofs.Math.Nat.{mod-eq_of_lt}
-use Rattle.std.proofs.lemmas.Int.{ints, to_z-of_z}
+use Rattle.std.proofs.lemmas.Int.{ints}
 use Rattle.pb_wire.specs.declared.payload.PayloadType.{PayloadType}
 use Rattle.pb_wire.specs.declared.payload.PayloadType.TheVariants.{ScalarString, ScalarShort, ScalarFloat, ScalarEnum, ScalarByte, ScalarInt, ScalarDouble, WaveformString, WaveformShort, WaveformFloat, WaveformEnum, WaveformByte, WaveformInt, WaveformDouble}
 use Rattle.pb_wire.specs.Payload.{row_of}
-use Rattle.pb_wire.specs.Message.{Entry, IsFieldNumber}
-use Rattle.pb_wire.specs.Reading.{field_at}
-use Rattle.pb_wire.specs.Cursor.{Cursor, Placed, Contents, with_first}
-use Rattle.pb_wire.specs.Spelling.{field_text, FitsValue}
-use Rattle.pb_wire.proofs.ContentsLemmas.{contents_by, contents_end}
-use Rattle.pb_wire.proofs.FieldTexts.{field_shrinks, next_written}
+use Rattle.pb_wire.specs.Message.{Entry}
+use Rattle.pb_wire.specs.Cursor.{Placed}
 use Rattle.payload_info.specs.declared.info.PayloadInfo.{PayloadInfo}
 use Rattle.pb_wire.specs.Fields.{number_in, text_in, last_of, first_of}
 use Rattle.pb_wire.specs.FieldValue.{fields_of}
 use Rattle.pb_wire.specs.Numbers.{int32_of, sign_extended}
-use Rattle.pb_wire.specs.FieldSpelling.{message_text, text_field, pair_text, pair_field, optional_field, ShortPairs}
+use Rattle.pb_wire.specs.FieldSpelling.{message_text, pair_field, optional_field, ShortPairs}
 use Rattle.pb_wire.proofs.PairWritten.{FitsField, placed, contents_written, pair_sound, pair_back, pairs_fit, int32_back, extended_small}
 use Rattle.payload_info.specs.Info.{fault_in, pairs_of, info_from, info_with, info_of, in_range, type_of}
 use Rattle.payload_info.specs.Spelling.{required_fields, info_fields, info_text, FitsInfo}

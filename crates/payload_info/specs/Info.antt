@@ -1,18 +1,16 @@
 -- A header: 1 type, 2 pvname, 3 year, 4 elementCount and 15 headers.
-use Rattle.std.specs.Prelude.{◌≡◌, ℕ, ◌%◌, ◌^◌, ◌==◌, ◌||◌, ◌&&◌, if◌then◌else◌, ℤ, pos, int_le, ◌≤ℤ◌, List, [], ◌∷◌, length, Option, Some, None, Result, Ok, Err}
+use Rattle.std.specs.Prelude.{◌≡◌, ℕ, ◌%◌, ◌^◌, ◌==◌, ◌||◌, ◌&&◌, if◌then◌else◌, ℤ, pos, int_le, List, [], ◌∷◌, length, Option, Some, None, Result, Ok, Err}
 use Rattle.std.specs.Option.{option_map, ok_or}
 use Rattle.std.specs.List.{find}
-use Rattle.std.specs.Int.{w32, cast_signed}
 use Rattle.pb_wire.specs.declared.payload.PayloadType.{PayloadType}
 use Rattle.pb_wire.specs.declared.payload.PayloadType.TheVariants.{ScalarString, ScalarShort, ScalarFloat, ScalarEnum, ScalarByte, ScalarInt, ScalarDouble, WaveformString, WaveformShort, WaveformFloat, WaveformEnum, WaveformByte, WaveformInt, WaveformDouble}
 use Rattle.pb_wire.specs.Payload.{row_of}
 use Rattle.pb_wire.specs.Message.{Value, blob, Entry}
 use Rattle.pb_wire.specs.Reading.{◌>>=◌}
 use Rattle.pb_wire.specs.Cursor.{Placed}
-use Rattle.arch_time.specs.YearTime.{IsSampleYear}
 use Rattle.pb_wire.specs.declared.fault.FieldFault.{FieldFault}
 use Rattle.pb_wire.specs.declared.fault.FieldFault.TheVariants as field
-use Rattle.pb_wire.specs.Numbers.{int32_of, uint32_of}
+use Rattle.pb_wire.specs.Numbers.{int32_of}
 use Rattle.payload_info.specs.declared.error.InfoFault.{InfoFault}
 use Rattle.payload_info.specs.declared.error.InfoFault.TheVariants.{Wire, WrongWire, Missing, UnknownType, YearRange}
 use Rattle.payload_info.specs.declared.error.InfoErr.{InfoErr}

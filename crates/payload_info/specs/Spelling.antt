@@ -1,10 +1,9 @@
 -- How a header is written: its fields, one after another.
-use Rattle.std.specs.Prelude.{ℕ, ◌^◌, ◌<◌, ℤ, pos, ◌≤ℤ◌, FitsSigned, IfSome, List, [], ◌∷◌, ◌++◌, length, map, Option, Some, None}
-use Rattle.std.specs.List.{flat_map, AllByRecursion}
+use Rattle.std.specs.Prelude.{ℕ, ◌^◌, ◌<◌, FitsSigned, IfSome, List, [], ◌∷◌, ◌++◌, length, map}
 use Rattle.std.specs.Option.{option_map}
-use Rattle.std.specs.Int.{w32, w64, cast_unsigned}
+use Rattle.std.specs.Int.{w32}
 use Rattle.pb_wire.specs.Payload.{row_of}
-use Rattle.pb_wire.specs.Message.{varint, blob, Entry}
+use Rattle.pb_wire.specs.Message.{Entry}
 use Rattle.arch_time.specs.YearTime.{IsSampleYear}
 pub use Rattle.pb_wire.specs.Numbers.{sign_extended}
 pub use Rattle.pb_wire.specs.FieldSpelling.{message_text, number_field, text_field, pair_text, pair_field, optional_field, ShortPairs}

@@ -1,14 +1,13 @@
 -- How a search narrows the range of places in which the lines part.
-use Rattle.std.proofs.Common.{◌≡◌, ℕ, ◌+◌, ◌-◌, ◌*◌, ◌^◌, ◌<◌, ◌≤◌, ◌⊎◌, inl, inr, zero, suc, List, [], ◌∷◌, ◌++◌, Option, None, Some, length, take, drop, arith, refl, sym, ap, ◌∙◌, subst, append_assoc, append-nil}
+use Rattle.std.proofs.Common.{◌≡◌, ℕ, ◌+◌, ◌-◌, ◌*◌, ◌^◌, ◌<◌, ◌≤◌, inl, inr, zero, suc, List, [], ◌∷◌, ◌++◌, Option, None, Some, length, drop, arith, refl, sym, ap, ◌∙◌, subst, append_assoc, append-nil}
 use Rattle.std.proofs.lemmas.List.{length-append, drop-drop}
 use Rattle.std.proofs.Math.Nat.{pow-suc}
-use Rattle.std.proofs.lemmas.Bool.{cases_lt}
 use Rattle.std.proofs.lemmas.Bool.Decides.{nat_tests}
 use Rattle.std.specs.List.{AllByRecursion}
 use Rattle.line_escape.specs.Unescaping.{HasNoNewline}
 use Rattle.series_model.specs.declared.sample.Sample.{Sample}
 use Rattle.series_model.specs.Series.{IsRising, RisesFrom, before}
-use Rattle.series_model.proofs.RisingLists.{RisesFrom-front, RisesFrom-rest, RisesFrom-lower}
+use Rattle.series_model.proofs.RisingLists.{RisesFrom-front, RisesFrom-rest}
 use Rattle.series_model.proofs.AnswerLemmas.{before-append}
 use Rattle.payload_info.specs.declared.info.PayloadInfo.{PayloadInfo}
 use Rattle.pb_lines.specs.Sample.{IsSampleLine}
@@ -18,7 +17,7 @@ use Rattle.pb_file.specs.declared.search.Parted.{Parted}
 use Rattle.pb_lines.specs.File.{IsFile, AreSamples, HasNoSample, lines_of}
 use Rattle.pb_file.specs.Search.{end_place, IsLastLine}
 use Rattle.pb_file.specs.Parting.{BeginsFrom, IsLineAt, IsFoundIn, IsPartedAt}
-use Rattle.pb_lines.proofs.FileLines.{all-append, all_rest, one_line}
+use Rattle.pb_lines.proofs.FileLines.{all_rest, one_line}
 use Rattle.pb_file.proofs.Placing.{size-more, size-append, end_is, end-append, drop_front, locate, some_newline, split_two}
 
 -- The lines that begin before `low` are earlier than the moment, those from `next` on aren't, and those between begin before `high`.

@@ -1,5 +1,5 @@
 -- One answer to a call of a walk.
-use Rattle.std.proofs.Common.{◌≡◌, ◌≢◌, ℕ, ◌+◌, ◌≤◌, ◌<◌, inl, inr, List, [], ◌∷◌, ◌++◌, Option, Some, None, length, take, drop, arith, refl, sym, ap, ◌∙◌, subst}
+use Rattle.std.proofs.Common.{◌≡◌, ℕ, ◌+◌, ◌≤◌, inl, inr, List, [], ◌∷◌, ◌++◌, Option, Some, None, length, take, drop, arith, refl, sym, ap, ◌∙◌, subst}
 use Rattle.std.specs.Prelude.{IsSome}
 use Rattle.std.proofs.lemmas.List.{length-append, length-drop, length-take-le}
 use Rattle.line_escape.specs.Unescaping.{HasNoNewline}
@@ -11,7 +11,7 @@ use Rattle.pb_lines.proofs.Unique.{one_moment}
 use Rattle.pb_file.specs.declared.walk.Walked.{Walked}
 use Rattle.pb_file.specs.declared.walk.Walked.TheVariants as walked
 use Rattle.pb_lines.specs.File.{IsFile, IsBadAt, IsSample}
-use Rattle.pb_file.specs.Walk.{Walk, Front, HasWalked, Gives, Walks, Reads, IsAnswer}
+use Rattle.pb_file.specs.Walk.{Walk, Front, HasWalked, Reads, IsAnswer}
 use Rattle.pb_lines.proofs.FileLines.{one_line}
 use Rattle.pb_lines.proofs.FileMeaning.{is_cut, one_file, excluded, no_header_no_file}
 use Rattle.pb_file.proofs.Walking.{next_line, within_first, bad_at, some_or_none, one_info}

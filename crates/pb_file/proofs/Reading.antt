@@ -1,14 +1,12 @@
 -- What a read of one line at a place comes to.
-use Rattle.std.proofs.Common.{◌≡◌, ℕ, ◌+◌, ◌<◌, ◌≤◌, List, [], ◌∷◌, ◌++◌, None, Result, Err, length, take, drop, arith, refl, sym, ap, ◌∙◌, subst, append_assoc}
-use Rattle.std.proofs.lemmas.List.{length-append, length-take-le, take-append-drop, take-take, drop-append-le, append_cancel_left}
-use Rattle.series_model.specs.declared.sample.Sample.{Sample}
+use Rattle.std.proofs.Common.{◌≡◌, ℕ, ◌+◌, ◌≤◌, List, [], ◌∷◌, ◌++◌, Result, Err, length, take, drop, arith, refl, sym, ap, ◌∙◌, append_assoc}
+use Rattle.std.proofs.lemmas.List.{length-take-le, take-append-drop, take-take, drop-append-le, append_cancel_left}
 use Rattle.payload_info.specs.declared.info.PayloadInfo.{PayloadInfo}
-use Rattle.pb_file.specs.declared.search.Found.{Found}
-use Rattle.pb_lines.specs.File.{IsFile, HasNoSample, lines_of}
+use Rattle.pb_lines.specs.File.{HasNoSample}
 use Rattle.pb_file.specs.Walk.{Walk, Front, with_sample}
 use Rattle.pb_file.specs.declared.search.SearchErr.{SearchErr}
 use Rattle.pb_file.specs.Block.{IsPieceOf}
-use Rattle.pb_file.specs.Skip.{HasHeader, HasSkipped, from_place}
+use Rattle.pb_file.specs.Skip.{HasHeader, HasSkipped}
 use Rattle.pb_file.specs.Parting.{IsLineAt}
 
 -- the front of no samples

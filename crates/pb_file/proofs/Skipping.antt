@@ -10,7 +10,7 @@ use Rattle.payload_info.specs.declared.info.PayloadInfo.{PayloadInfo}
 use Rattle.pb_file.specs.declared.walk.Walked.{Walked}
 use Rattle.pb_file.specs.declared.walk.Walked.TheVariants as walked
 use Rattle.pb_file.specs.Block.{Piece, IsPieceOf}
-use Rattle.pb_lines.specs.File.{IsFile, IsSample, HasNoSample, lines_of}
+use Rattle.pb_lines.specs.File.{IsFile, IsSample, HasNoSample}
 use Rattle.pb_file.specs.Walk.{Walk, Front, HasWalked, Takes, with_sample}
 use Rattle.pb_file.specs.Skip.{HasHeader, HasSkipped, GoesOnFrom, BeginsBehind, from_place}
 use Rattle.pb_lines.proofs.FileLines.{torn_sample, bad_sample}

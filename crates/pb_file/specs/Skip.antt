@@ -1,5 +1,5 @@
 -- A walk that went on at a later place, or at any place of the file: what it reads from there on.
-use Rattle.std.specs.Prelude.{◌≡◌, ◌⊎◌, ℕ, ◌+◌, ◌≤◌, List, [], ◌∷◌, ◌++◌, None, Some, length, take, drop}
+use Rattle.std.specs.Prelude.{◌≡◌, ◌⊎◌, ℕ, ◌+◌, ◌≤◌, List, ◌∷◌, ◌++◌, None, Some, length, take, drop}
 use Rattle.line_escape.specs.Unescaping.{HasNoNewline}
 use Rattle.series_model.specs.Series.{end_of}
 use Rattle.payload_info.specs.declared.info.PayloadInfo.{PayloadInfo}

@@ -1,9 +1,9 @@
 -- Varints of up to five bytes, byte by byte.
-use Rattle.std.proofs.Common.{◌≡◌, ℕ, suc, ◌+◌, ◌-◌, ◌*◌, ◌/◌, ◌%◌, ◌^◌, ◌<◌, ◌≤◌, List, [], ◌∷◌, Result, Ok, Err, length, arith, refl, sym, ◌∙◌, ap, slice_index_or, Fits, w8}
+use Rattle.std.proofs.Common.{◌≡◌, ℕ, suc, ◌+◌, ◌-◌, ◌*◌, ◌/◌, ◌%◌, ◌^◌, ◌<◌, ◌≤◌, List, ◌∷◌, Ok, length, arith, refl, ◌∙◌, ap, slice_index_or, Fits, w8}
 use Rattle.std.proofs.Math.Nat.{mod-eq_of_lt}
 use Rattle.std.proofs.lemmas.Bool.{lt-ltb, le-ltb}
-use Rattle.pb_wire.specs.Message.{Value, varint, fixed64, fixed32, Entry, IsFieldNumber}
-use Rattle.pb_wire.specs.Reading.{◌>>=◌, number_at, varint_at, fixed64_at, fixed32_at, value_at, tag_at, field_at}
+use Rattle.pb_wire.specs.Message.{Value, varint, fixed64, fixed32, IsFieldNumber}
+use Rattle.pb_wire.specs.Reading.{number_at, varint_at, fixed64_at, fixed32_at, value_at, field_at}
 use Rattle.pb_wire.proofs.ReadLemmas.{one_byte}
 use Rattle.pb_wire.proofs.FieldLemmas.{IsKind, tag_only}
 

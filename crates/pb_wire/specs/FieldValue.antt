@@ -1,5 +1,5 @@
 -- A FieldValue: 1 name and 2 val, required strings.
-use Rattle.std.specs.Prelude.{◌≡◌, ℕ, ◌==◌, ◌||◌, if◌then◌else◌, List, ◌++◌, Option, Some, None, Result, Ok, Err}
+use Rattle.std.specs.Prelude.{◌≡◌, ℕ, ◌==◌, ◌||◌, if◌then◌else◌, List, Option, Some, None, Result, Ok, Err}
 use Rattle.std.specs.Option.{option_map}
 use Rattle.pb_wire.specs.Message.{Entry}
 use Rattle.pb_wire.specs.Reading.{field_at}

@@ -1,12 +1,12 @@
 -- What a retrieval comes to whose variable was pinned.
-use Rattle.std.proofs.Common.{◌≡◌, ◌⊎◌, inl, inr, ℕ, Bool, IsTrue, List, [], ◌∷◌, ◌++◌, Result, Ok, Err, true, refl}
+use Rattle.std.proofs.Common.{◌≡◌, inl, inr, ℕ, Bool, IsTrue, List, [], ◌++◌, Result, Ok, Err, true, refl}
 use Rattle.std.specs.Prelude.{OnOk, OnErr}
 use Rattle.series_model.specs.declared.sample.Query.{Query}
 use Rattle.series_model.specs.declared.sample.Sample.{Sample}
 use Rattle.act_model.specs.declared.acts.Act.TheVariants.{Pin, Unpin}
 use Rattle.act_model.specs.declared.acts.Answer.TheVariants.{Pinned, Unpinned}
 use Rattle.act_model.specs.declared.actor.Spent.{Spent}
-use Rattle.act_model.specs.History.{Entry, Done, Made, MadeOne, Goes}
+use Rattle.act_model.specs.History.{Entry, Made, MadeOne, Goes}
 use Rattle.act_model.specs.Machine.{Machine}
 use Rattle.act_model.specs.Out.{Subject}
 use Rattle.act_model.specs.Sound.{IsSound}
@@ -15,7 +15,7 @@ use Rattle.retrieval_query.specs.declared.variable.PinErr.{PinErr}
 use Rattle.retrieval_query.specs.declared.variable.PinErr.TheVariants as pin_err
 use Rattle.retrieval_query.specs.declared.variable.PinnedVariable.{PinnedVariable}
 use Rattle.retrieval_query.specs.declared.retrieved.Retrieved.{Retrieved}
-use Rattle.retrieval_query.specs.Pinning.{AnswersPinned, FailsToPin, GivesUp, IsHeld, ended_by}
+use Rattle.retrieval_query.specs.Pinning.{AnswersPinned, FailsToPin, GivesUp, ended_by}
 use Rattle.retrieval_query.specs.Retrieving.{ReadsHeaders, ReadsPinned, Refuses, WritesAnswer, given_up}
 use Rattle.retrieval_query.proofs.Whole.{writes_answer}
 

@@ -21,7 +21,7 @@ use Rattle.act_model.specs.History.{MadeOne}
 use Rattle.retrieval_query.specs.declared.variable.PinErr.{PinErr}
 use Rattle.retrieval_query.specs.declared.variable.PinErr.TheVariants as pin_err
 use Rattle.retrieval_query.specs.Pinning.{ended_by}
-use Rattle.retrieval_query.specs.Retrieving.{RetrievesRead, RetrievesToEnd, Ends, EndsAs, EndsPinned, FinishesRead, ReadsPinned, ReadsToEnd, Writes, given_up}
+use Rattle.retrieval_query.specs.Retrieving.{RetrievesToEnd, Ends, EndsAs, EndsPinned, FinishesRead, ReadsPinned, ReadsToEnd, Writes, given_up}
 
 module _ {P R : Type 0} (tells : Bool) (faults : R → ℕ) (opened : P → List NamedBytes → P → Type 0) (failed : P → Failure → P → Type 0) (ty : PayloadType) (a b : P) where
   -- what follows of all that may have been opened

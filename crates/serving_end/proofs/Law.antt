@@ -6,7 +6,7 @@ use Rattle.std.proofs.lemmas.Bool.Decides.{nat_tests}
 use Rattle.std.proofs.lemmas.List.{length-append}
 use Rattle.std.proofs.lemmas.List.Elements.{recursion_from_All}
 use Rattle.act_model.specs.declared.acts.Act.{Act}
-use Rattle.act_model.specs.declared.acts.Act.TheVariants.{Register, Pause, Resume, Offer, Tick, Flush, MoveBegin, MoveStep, Sweep, Pin, OpenPiece, Unpin, Names, Details, Doors, DoorDone}
+use Rattle.act_model.specs.declared.acts.Act.TheVariants.{Tick, Flush, MoveBegin, MoveStep, Doors}
 use Rattle.act_model.specs.declared.acts.Answer.TheVariants.{NoRow, DoorsLeft, Nothing}
 use Rattle.act_model.specs.Machine.{Machine}
 use Rattle.act_model.specs.Reply.{Reply}
@@ -14,7 +14,7 @@ use Rattle.act_model.specs.Sound.{IsSound}
 use Rattle.act_model.specs.Step.{Step}
 use Rattle.act_model.specs.History.{Entry, Done, done_of, Runs, own, mine, CutAt}
 use Rattle.act_model.proofs.Histories.{runs_sound, runs_apart, mine-append, cut_at}
-use Rattle.serving_end.specs.Rounds.{IsShift, AreRounds, no_round, one_more, FlushedSo, IsTick, AreTicks, EndsAtNoRow, IsFlushRound, IsLastFlush, IsFlushing, IsMoveRound, IsFault, GoesOn, IsOver, IsMove, AreMoves, no_move, one_more_move, CutsMove, EndsMoves, at_its_begin, at_a_step, IsOfStore, EndsStore, HasNothing, MeetsShut, EndsSo, IsMoving}
+use Rattle.serving_end.specs.Rounds.{IsShift, AreRounds, no_round, one_more, FlushedSo, IsTick, AreTicks, EndsAtNoRow, IsFlushRound, IsFlushing, IsMoveRound, IsFault, GoesOn, IsOver, IsMove, AreMoves, no_move, one_more_move, CutsMove, EndsMoves, at_its_begin, at_a_step, IsOfStore, EndsStore, HasNothing, MeetsShut, EndsSo, IsMoving}
 use Rattle.serving_end.specs.declared.ends.FlushEnd.{FlushEnd}
 use Rattle.serving_end.specs.declared.ends.FlushEnd.TheVariants.{LeavesNone}
 use Rattle.serving_end.specs.declared.ends.MoverEnd.{MoverEnd}

@@ -1,5 +1,5 @@
 -- The file `adopt`, and what a crash leaves without it.
-use Rattle.std.proofs.Common.{◌≡◌, inl, inr, true, ◌+◌, [], List, None, Some, refl, sym, ◌∙◌, subst, arith}
+use Rattle.std.proofs.Common.{◌≡◌, inl, inr, true, [], List, None, Some, refl, sym, ◌∙◌, subst, arith}
 use Rattle.std.proofs.lemmas.Bool.{cases_lt}
 use Rattle.std.specs.Prelude.{IsSome, IsTrue}
 use Rattle.disk_model.specs.Files.{At, Content, Files, KeptOr}

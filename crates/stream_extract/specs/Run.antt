@@ -1,5 +1,5 @@
 -- What a run of samples that was read at once comes to.
-use Rattle.std.specs.Prelude.{◌≡◌, ◌⊎◌, ℕ, ◌≤◌, List, [], ◌++◌, Option, IsSome, map}
+use Rattle.std.specs.Prelude.{◌≡◌, ◌⊎◌, ℕ, ◌≤◌, List, ◌++◌, Option, IsSome, map}
 use Rattle.std.specs.Io.KnownBytes.{Appends}
 use Rattle.series_model.specs.declared.sample.Sample.{Sample}
 use Rattle.pb_lines.specs.Stream.{sample}

@@ -17,7 +17,7 @@ use Rattle.stream_merge.specs.declared.source.Source.{Source}
 use Rattle.stream_merge.specs.Pieces.{NamedBytes}
 use Rattle.stream_merge.specs.Reading.{IsSampleOf, AreSamplesOf, IsReadAs, AreReadAs, IsBadFor, IsDamaged}
 use Rattle.stream_merge.specs.Beginning.{early_count, IsPlaced, AnswersAs}
-use Rattle.stream_merge.specs.Source.{open_pieces, IsOpenAs, BeginsAs, ReadsOpen, Coming, StillComing, search_steps, HasTaken, TakesFew, Pulls, PullsLine, PullsEnd, Passes, OpensOn, HasFailedNow, HasRisen, HasFailed, Grew, IsFailure, IsGiven, unread, unread_in}
+use Rattle.stream_merge.specs.Source.{open_pieces, IsOpenAs, BeginsAs, ReadsOpen, Coming, StillComing, search_steps, HasTaken, TakesFew, Pulls, Passes, OpensOn, HasFailedNow, HasRisen, HasFailed, Grew, IsFailure, IsGiven, unread, unread_in}
 use Rattle.stream_merge.proofs.Leaving.{answers_on, answers_same, placed_rest, placed_none, early_cons, early_one}
 
 abbrev flat : List (List Sample) → List Sample

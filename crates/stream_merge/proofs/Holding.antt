@@ -1,25 +1,24 @@
 -- What a sample in memory comes to, once the merge has passed it.
-use Rattle.std.proofs.Common.{◌≡◌, ℕ, ◌+◌, ◌<◌, ◌≤◌, Bool, inl, List, [], ◌∷◌, ◌++◌, Option, None, Some, IsTrue, length, drop, refl, sym, ap, ◌∙◌, subst, arith}
+use Rattle.std.proofs.Common.{◌≡◌, ℕ, ◌+◌, ◌<◌, ◌≤◌, Bool, List, [], ◌∷◌, ◌++◌, Option, None, Some, IsTrue, length, drop, refl, sym, ap, ◌∙◌, subst, arith}
 use Rattle.series_model.specs.declared.sample.Sample.{Sample}
-use Rattle.series_model.specs.Series.{before, RisesFrom, taken_from}
+use Rattle.series_model.specs.Series.{RisesFrom, taken_from}
 use Rattle.series_model.specs.Retrieval.{answer}
 use Rattle.pb_wire.specs.declared.payload.PayloadType.{PayloadType}
 use Rattle.payload_info.specs.declared.info.PayloadInfo.{PayloadInfo}
 use Rattle.pb_lines.specs.File.{IsSample}
 use Rattle.pb_file.specs.declared.walk.Walked.TheVariants as walked
-use Rattle.pb_file.specs.Walk.{Walk, Front, HoldsSample, Takes, behind}
+use Rattle.pb_file.specs.Walk.{Front, HoldsSample, behind}
 use Rattle.pb_file.specs.Skip.{HasSkipped, GoesOnFrom}
 use Rattle.pb_file.proofs.Walking.{one_info, held_line, held_takes}
 use Rattle.pb_file.proofs.Skipping.{skip_line}
 use Rattle.stream_merge.specs.declared.source.OpenPiece.{OpenPiece}
-use Rattle.stream_merge.specs.declared.source.Source.{Source}
 use Rattle.stream_merge.specs.declared.merge.Merge.{Merge}
 use Rattle.stream_merge.specs.Pieces.{NamedBytes}
 use Rattle.stream_merge.specs.Reading.{IsSampleOf}
-use Rattle.stream_merge.specs.Beginning.{early_count, IsPlaced}
-use Rattle.stream_merge.specs.Source.{IsReady, IsBegun, IsOpenAs, Coming, HoldsIn, open_pieces, passed, unread, unread_in}
-use Rattle.stream_merge.specs.Merging.{IsGoing, IsKept, Rest, HoldsNext, GoesBehind, kept_of, next_from, line_from, remaining}
-use Rattle.stream_merge.specs.Reads.{HasReadOpen, HasRead, HasReadAll, HasGiven}
+use Rattle.stream_merge.specs.Beginning.{IsPlaced}
+use Rattle.stream_merge.specs.Source.{IsReady, IsOpenAs, HoldsIn, open_pieces, passed, unread_in}
+use Rattle.stream_merge.specs.Merging.{IsGoing, IsKept, Rest, HoldsNext, GoesBehind, kept_of, next_from}
+use Rattle.stream_merge.specs.Reads.{HasReadOpen, HasGiven}
 use Rattle.stream_merge.proofs.SoFar.{one_read, read_line}
 use Rattle.stream_merge.proofs.Answered.{given_step}
 use Rattle.stream_merge.proofs.Pulling.{begun_on, line_read}

@@ -1,5 +1,5 @@
 -- What of a piece's samples may be left out, over lists.
-use Rattle.std.proofs.Common.{◌≡◌, ◌⊎◌, ℕ, ◌+◌, ◌<◌, ◌≤◌, inl, inr, List, [], ◌∷◌, ◌++◌, length, refl, ap, sym, ◌∙◌, subst, arith, append_assoc}
+use Rattle.std.proofs.Common.{◌≡◌, ℕ, ◌+◌, ◌<◌, ◌≤◌, inl, inr, List, [], ◌∷◌, ◌++◌, length, refl, ap, sym, ◌∙◌, subst, arith, append_assoc}
 use Rattle.std.specs.List.{AllByRecursion}
 use Rattle.std.proofs.lemmas.Bool.{cases_lt}
 use Rattle.std.proofs.lemmas.Bool.Decides.{nat_tests}
@@ -8,7 +8,7 @@ use Rattle.series_model.specs.declared.sample.Sample.{Sample}
 use Rattle.series_model.specs.declared.sample.Query.{Query}
 use Rattle.series_model.specs.Series.{end_of, end_from, RisesFrom, IsRising, before, since, taken_from}
 use Rattle.series_model.specs.Retrieval.{answer}
-use Rattle.series_model.proofs.RisingLists.{RisesFrom-append, RisesFrom-rest, RisesFrom-lower, RisesFrom-since, RisesFrom-taken_from, end_from-append, end_from-ge, since_all, taken_from-append}
+use Rattle.series_model.proofs.RisingLists.{RisesFrom-append, RisesFrom-lower, RisesFrom-since, RisesFrom-taken_from, end_from-append, since_all, taken_from-append}
 use Rattle.series_model.proofs.AnswerLemmas.{answer_of_rest, before-append}
 use Rattle.stream_merge.specs.Beginning.{early_count, IsPlaced, AnswersAs, IsFirstOrEarly}
 use Rattle.stream_merge.proofs.Answering.{takes, drops, no_before}

@@ -1,7 +1,7 @@
 -- What a piece is read as, line by line.
-use Rattle.std.proofs.Common.{◌≡◌, ◌≢◌, ◌⊎◌, ℕ, ◌+◌, ◌-◌, ◌<◌, ◌≤◌, inl, inr, suc, List, [], ◌∷◌, ◌++◌, Some, length, take, drop, refl, sym, ap, ◌∙◌, subst, arith, append_assoc, append-nil}
+use Rattle.std.proofs.Common.{◌≡◌, ◌≢◌, ℕ, ◌+◌, ◌-◌, ◌<◌, ◌≤◌, inl, inr, suc, List, [], ◌∷◌, ◌++◌, Some, length, take, drop, refl, sym, ap, ◌∙◌, subst, arith, append_assoc, append-nil}
 use Rattle.std.proofs.lemmas.Bool.{cases_lt}
-use Rattle.std.proofs.lemmas.List.{length-append, length-take, length-take-le, length-drop, take-append-drop, take-take, take_at, drop_at, drop-take, drop-drop, drop-append-le, nil_from_length, append_cancel_left}
+use Rattle.std.proofs.lemmas.List.{length-append, length-take, length-take-le, take-append-drop, take-take, take_at, drop_at, drop-take, drop-drop, drop-append-le, append_cancel_left}
 use Rattle.std.proofs.lemmas.List.Elements.{All-from_recursion}
 use Rattle.std.proofs.Math.Seq.{drop-append-add}
 use Rattle.line_escape.specs.Unescaping.{HasNoNewline}
@@ -16,11 +16,11 @@ use Rattle.pb_lines.specs.File.{IsFile, IsSample, HasNoSample, lines_of}
 use Rattle.pb_lines.proofs.FileLines.{all_rest, one_line, no_line}
 use Rattle.pb_lines.proofs.FileMeaning.{begins, begin_alike, excluded, one_file, some_left}
 use Rattle.pb_file.specs.Walk.{Walk, Front, HasWalked}
-use Rattle.pb_file.specs.Search.{end_place, IsLineStart}
+use Rattle.pb_file.specs.Search.{IsLineStart}
 use Rattle.pb_file.specs.Skip.{HasSkipped, from_place}
 use Rattle.pb_file.proofs.Placing.{end_is, drop_front, locate, Located}
 use Rattle.stream_merge.specs.Reading.{IsBadFor, IsBadLine, IsReadAs}
-use Rattle.stream_merge.specs.Beginning.{IsAtLine, Splits}
+use Rattle.stream_merge.specs.Beginning.{Splits}
 
 pub read_as : (ty : PayloadType) (bytes head : List ℕ) (info : PayloadInfo) (samples : List Sample) → IsFile bytes head info samples → info.ty ≡ ty → IsReadAs ty bytes samples
 read_as ty bytes head info samples file type = record { head = head; info = info; file = file; type = type }

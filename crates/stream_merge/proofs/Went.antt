@@ -1,6 +1,6 @@
 -- What a call did to the pieces: which were opened, and whether one failed.
-use Rattle.std.proofs.Common.{◌≡◌, ℕ, ◌<◌, ◌≤◌, Bool, List, [], ◌∷◌, ◌++◌, Option, None, Some, Result, Err, IsTrue, inl, inr, refl, sym, ap, ◌∙◌, subst, append_assoc, append-nil, arith}
-use Rattle.std.specs.Prelude.{◌⊎◌, IfErr}
+use Rattle.std.proofs.Common.{◌≡◌, ℕ, Bool, List, [], ◌∷◌, ◌++◌, Option, None, Some, Result, Err, IsTrue, inl, inr, refl, sym, ap, ◌∙◌, subst, append_assoc, append-nil, arith}
+use Rattle.std.specs.Prelude.{IfErr}
 use Rattle.std.proofs.lemmas.Bool.{cases_lt}
 use Rattle.disk_model.specs.Files.{Name}
 use Rattle.pb_wire.specs.declared.payload.PayloadType.{PayloadType}
@@ -9,7 +9,7 @@ use Rattle.stream_merge.specs.declared.pieces.Merged.TheVariants.{Line, End, Rea
 use Rattle.stream_merge.specs.declared.source.OpenPiece.{OpenPiece}
 use Rattle.stream_merge.specs.Pieces.{NamedBytes, Failure, Faulted, OutOfActs, OutOfMemory}
 use Rattle.stream_merge.specs.Reading.{IsDamaged}
-use Rattle.stream_merge.specs.Source.{open_pieces, HasOpened, GoesOn, FindsDamage, Went, HasFailedNow, HasRisen, Grew, IsFailure, IsGiven, IsOfTail}
+use Rattle.stream_merge.specs.Source.{open_pieces, GoesOn, Went, HasFailedNow, HasRisen, Grew, IsFailure, IsGiven, IsOfTail}
 use Rattle.stream_merge.specs.Merging.{Gives}
 use Rattle.stream_merge.proofs.Coming.{damaged_in}
 

@@ -1,4 +1,4 @@
-use Rattle.std.proofs.Common.{◌≡◌, ◌+◌, ◌-◌, ℕ, ap, arith, ◌∙◌}
+use Rattle.std.proofs.Common.{◌+◌, ◌-◌, ℕ, ap, arith, ◌∙◌}
 use Rattle.drill_feed.proofs.Moves.{one_move}
 use Rattle.drill_feed.proofs.tiers.left_of.Goals as goal
 

@@ -1,4 +1,4 @@
-use Rattle.std.proofs.Common.{◌≡◌, ◌<◌, List, length, get_or, map, subst, ◌∙◌, arith, All}
+use Rattle.std.proofs.Common.{List, length, get_or, map, subst, ◌∙◌, arith, All}
 use Rattle.std.proofs.lemmas.List.{get_or-map, length-map}
 use Rattle.disk_model.specs.Files.{Name}
 use Rattle.disk_model.specs.Past.{Only}

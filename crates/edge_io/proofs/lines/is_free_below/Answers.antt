@@ -1,4 +1,4 @@
-use Rattle.std.proofs.Common.{◌≡◌, ◌∙◌, ap, arith, w64, ℕ}
+use Rattle.std.proofs.Common.{◌∙◌, ap, arith, w64, ℕ}
 use Rattle.std.specs.Int.{bit_at}
 use Rattle.std.proofs.lemmas.Nat.Bits.{bit_at-trailing_zeros, bit_at-zero}
 use Rattle.edge_io.proofs.Marks.{unmarked}

@@ -1,4 +1,4 @@
-use Rattle.std.proofs.Common.{◌≡◌, length, true, refl, sym, ◌∙◌, ap}
+use Rattle.std.proofs.Common.{◌≡◌, true, refl, sym, ◌∙◌, ap}
 use Rattle.pb_wire.specs.Message.{varint, fixed64, fixed32}
 use Rattle.pb_wire.specs.Cursor.{Cursor}
 use Rattle.event_types.specs.declared.layout.Layout.{Layout}

@@ -1,4 +1,4 @@
-use Rattle.std.proofs.Common.{◌≡◌, ap, refl, [], ◌∷◌, ℕ, List, inr}
+use Rattle.std.proofs.Common.{ap, refl, [], ◌∷◌, ℕ, List, inr}
 use Rattle.act_model.specs.declared.acts.Answer.TheVariants as answer
 use Rattle.act_model.specs.History.{Done}
 use Rattle.feed_session.specs.Asks.{flush_all}

@@ -1,7 +1,6 @@
-use Rattle.std.proofs.Common.{◌≡◌, ◌∙◌, ap, sym, subst, List, [], ◌∷◌, ℕ, Option, Some}
+use Rattle.std.proofs.Common.{◌≡◌, ◌∙◌, ap, sym, List, [], ◌∷◌, ℕ, Some}
 use Rattle.std.specs.Option.{option_copied}
 use Rattle.payload_info.specs.declared.info.PayloadInfo.{PayloadInfo}
-use Rattle.act_model.specs.declared.acts.Act.{Act}
 use Rattle.act_model.specs.History.{Done}
 use Rattle.feed_session.specs.Asks.{offer_of}
 use Rattle.feed_session.specs.Asking.{both, none, one_more, tally_of}

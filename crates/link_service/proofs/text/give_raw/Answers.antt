@@ -1,4 +1,4 @@
-use Rattle.std.proofs.Common.{◌≡◌, ◌++◌, List, [], ℕ, refl, rules, subst, None, Some}
+use Rattle.std.proofs.Common.{◌≡◌, ◌++◌, List, [], ℕ, rules, subst, None, Some}
 use Rattle.std.specs.Io.KnownBytes.{Appends}
 use Rattle.edge_io.specs.Stream.{AppendsFront, Rose}
 use Rattle.series_model.specs.declared.sample.Sample.{Sample}

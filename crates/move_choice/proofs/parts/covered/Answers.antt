@@ -1,9 +1,9 @@
-use Rattle.std.proofs.Common.{◌≡◌, ℕ, ◌+◌, ◌-◌, List, [], ◌∷◌, Option, Some, None, refl, sym, ◌∙◌, ap}
+use Rattle.std.proofs.Common.{◌≡◌, ◌-◌, List, Option, Some, None, refl, sym, ◌∙◌, ap}
 use Rattle.std.proofs.lemmas.List.Recursion.{is_count_by}
 use Rattle.std.specs.Option.{option_copied}
-use Rattle.std.specs.Prelude.{count_by, slice_get, length}
+use Rattle.std.specs.Prelude.{count_by}
 use Rattle.store_manifest.specs.declared.entry.Entry.{Entry}
-use Rattle.move_choice.specs.Parts.{covered, is_covered}
+use Rattle.move_choice.specs.Parts.{is_covered}
 use Rattle.move_choice.proofs.parts.covered.Goals as goal
 
 -- nothing is covered where nothing is listed

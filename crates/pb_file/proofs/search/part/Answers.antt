@@ -1,4 +1,4 @@
-use Rattle.std.proofs.Common.{◌≡◌, ◌∙◌, Err, None, Some, List, ℕ, refl, sym, ap, subst, arith, take}
+use Rattle.std.proofs.Common.{◌≡◌, ◌∙◌, Err, List, ℕ, sym, ap, subst, take}
 use Rattle.std.specs.Prelude.{IfOk}
 use Rattle.std.proofs.lemmas.Result.{err_from_is_err_and}
 use Rattle.pb_file.specs.declared.search.SearchErr.{SearchErr}

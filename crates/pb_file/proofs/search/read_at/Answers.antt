@@ -1,4 +1,4 @@
-use Rattle.std.proofs.Common.{◌≡◌, ◌∙◌, ◌+◌, None, List, ℕ, refl, sym, ap, subst, arith, take, drop, length}
+use Rattle.std.proofs.Common.{◌≡◌, ◌∙◌, ◌+◌, None, ℕ, sym, ap, subst, take, drop, length}
 use Rattle.pb_lines.specs.File.{HasNoSample}
 use Rattle.pb_file.specs.Walk.{Walk, with_sample}
 use Rattle.pb_file.specs.Parting.{IsLineAt}

@@ -1,4 +1,4 @@
-use Rattle.std.proofs.Common.{◌≡◌, ◌∙◌, [], None, List, ℕ, refl, sym, ap, subst, take}
+use Rattle.std.proofs.Common.{◌≡◌, ◌∙◌, None, ℕ, sym, ap, subst, take}
 use Rattle.pb_lines.specs.File.{IsBadAt}
 use Rattle.pb_file.specs.Walk.{Walk}
 use Rattle.pb_file.proofs.Walking.{bad_at}

@@ -1,4 +1,4 @@
-use Rattle.std.proofs.Common.{◌≡◌, arith, rules}
+use Rattle.std.proofs.Common.{rules}
 use Rattle.pb_wire.proofs.ShortLemmas.{fixed32_short}
 use Rattle.pb_wire.proofs.reading.read_short_fixed32.Goals as goal
 

@@ -1,4 +1,4 @@
-use Rattle.std.proofs.Common.{◌≡◌, arith, rules}
+use Rattle.std.proofs.Common.{rules}
 use Rattle.pb_wire.proofs.ShortLemmas.{number_short}
 use Rattle.pb_wire.proofs.reading.read_short_number.Goals as goal
 

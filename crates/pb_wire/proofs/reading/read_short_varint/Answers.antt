@@ -1,6 +1,6 @@
-use Rattle.std.proofs.Common.{◌≡◌, ◌-◌, ◌+◌, length, arith, sym, ◌∙◌}
+use Rattle.std.proofs.Common.{◌-◌, arith}
 use Rattle.pb_wire.proofs.ReadLemmas.{one_byte}
-use Rattle.pb_wire.proofs.ShortLemmas.{Bytes, short2, short3, short4, short5}
+use Rattle.pb_wire.proofs.ShortLemmas.{short2, short3, short4, short5}
 use Rattle.pb_wire.proofs.reading.read_short_varint.Goals as goal
 
 pub returns-then-b0-lt128-clause-read : goal.returns-then-b0-lt128-clause-read

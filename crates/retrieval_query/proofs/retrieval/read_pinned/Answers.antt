@@ -1,4 +1,3 @@
-use Rattle.std.proofs.Common.{subst, List, ℕ}
 use Rattle.retrieval_query.proofs.Answered.{reads_stand}
 use Rattle.retrieval_query.proofs.retrieval.read_pinned.Goals as goal
 

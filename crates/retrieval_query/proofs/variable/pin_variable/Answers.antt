@@ -1,7 +1,4 @@
-use Rattle.std.proofs.Common.{◌≡◌, ◌∙◌, ℕ, List, subst}
-use Rattle.act_model.specs.declared.acts.Act.TheVariants.{Pin}
 use Rattle.act_model.specs.declared.acts.Answer.TheVariants.{Pinned}
-use Rattle.act_model.specs.History.{MadeOne}
 use Rattle.retrieval_query.proofs.Pinning.{pin_held, tail_events}
 use Rattle.retrieval_query.proofs.variable.pin_variable.Goals as goal
 

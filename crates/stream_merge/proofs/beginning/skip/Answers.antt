@@ -1,9 +1,8 @@
-use Rattle.std.proofs.Common.{◌≡◌, ℕ, ◌+◌, List, Option, Some, refl, sym, ap, subst, take, ◌∙◌, Err}
+use Rattle.std.proofs.Common.{◌≡◌, ℕ, ◌+◌, List, Option, Some, sym, ap, subst, take, ◌∙◌, Err}
 use Rattle.std.proofs.lemmas.Result.{err_from_is_err_and}
 use Rattle.pb_file.specs.declared.search.SearchErr.{SearchErr}
 use Rattle.pb_file.specs.declared.search.SearchErr.TheVariants as search_err
 use Rattle.pb_file.proofs.Reading.{same_err}
-use Rattle.std.specs.Prelude.{OnOk}
 use Rattle.pb_lines.specs.File.{IsFile, HasNoHeader}
 use Rattle.pb_file.specs.Walk.{behind}
 use Rattle.stream_merge.specs.Beginning.{BeginsWell, BeginsFrom}

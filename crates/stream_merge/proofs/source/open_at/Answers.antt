@@ -3,7 +3,7 @@ use Rattle.std.proofs.lemmas.Result.{err_from_is_err_and}
 use Rattle.pb_lines.specs.File.{IsFile, HasNoHeader}
 use Rattle.pb_file.specs.Walk.{behind}
 use Rattle.stream_merge.specs.declared.pieces.Merged.TheVariants as merged
-use Rattle.stream_merge.specs.Reading.{IsReadAs, IsBadFor}
+use Rattle.stream_merge.specs.Reading.{IsReadAs}
 use Rattle.stream_merge.specs.Beginning.{IsAtLine, BeginsWell}
 use Rattle.stream_merge.proofs.Pulling.{begun_there, begins_as, head_place, told_damaged, err_same}
 use Rattle.stream_merge.proofs.SoFar.{unread_at}

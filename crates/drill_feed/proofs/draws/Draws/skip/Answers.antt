@@ -1,4 +1,4 @@
-use Rattle.std.proofs.Common.{◌≡◌, sym, ap, ◌∙◌}
+use Rattle.std.proofs.Common.{sym, ap, ◌∙◌}
 use Rattle.drill_feed.specs.Workload.{next_draw}
 use Rattle.drill_feed.proofs.Drawing.{drawn_more, drawn_none}
 use Rattle.drill_feed.proofs.draws.Draws.skip.Goals as goal

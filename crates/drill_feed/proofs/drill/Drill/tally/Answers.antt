@@ -1,4 +1,4 @@
-use Rattle.std.proofs.Common.{◌≡◌, ◌+◌, ◌-◌, ◌*◌, ℕ, Some, length, arith, ap, sym, ◌∙◌}
+use Rattle.std.proofs.Common.{◌≡◌, ◌-◌, ◌*◌, ℕ, Some, length, arith, ap, sym, ◌∙◌}
 use Rattle.drill_feed.specs.Workload.{samples, second_at}
 use Rattle.drill_feed.proofs.Moments.{moment_at, moment_is, samples_many}
 use Rattle.drill_feed.proofs.drill.Drill.tally.Goals as goal

@@ -1,7 +1,6 @@
 use Rattle.std.proofs.Common.{◌≡◌, arith, refl, sym, ap, subst, ◌∙◌, take, ℕ}
 use Rattle.pb_file.specs.Block.{IsPieceOf}
 use Rattle.pb_file.specs.Walk.{Walk}
-use Rattle.pb_file.specs.Skip.{BeginsBehind}
 use Rattle.pb_file.proofs.Skipping.{behind_line, behind_end}
 use Rattle.pb_file.proofs.walk.FileWalk.line_behind.Goals as goal
 

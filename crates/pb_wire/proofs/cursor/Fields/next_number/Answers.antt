@@ -1,4 +1,3 @@
-use Rattle.std.proofs.Common.{◌≡◌, ◌<◌, length, arith}
 use Rattle.pb_wire.specs.Message.{Entry, varint}
 use Rattle.pb_wire.specs.Reading.{field_at}
 use Rattle.pb_wire.specs.Cursor.{Cursor}

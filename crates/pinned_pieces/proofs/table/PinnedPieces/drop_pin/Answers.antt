@@ -1,4 +1,4 @@
-use Rattle.std.proofs.Common.{◌≡◌, ap, sym, ◌∙◌, Ok}
+use Rattle.std.proofs.Common.{ap, sym, ◌∙◌}
 use Rattle.std.specs.FinMap as map
 use Rattle.pin_table.specs.Pinned.{dropped}
 use Rattle.pinned_pieces.proofs.PinLemmas.{removed, agree_removed, granted_alike}

@@ -1,11 +1,10 @@
-use Rattle.std.proofs.Common.{◌≡◌, Ok, Some, List, map, refl, ap, sym, ◌∙◌, subst, Result}
+use Rattle.std.proofs.Common.{◌≡◌, Ok, Some, List, map, ap, ◌∙◌, subst, Result}
 use Rattle.std.specs.FinMap as maps
-use Rattle.std.specs.Ordering.{nat_cmp}
 use Rattle.std.specs.Prelude.{OnOk}
 use Rattle.disk_model.specs.Files.{Name}
 use Rattle.pin_table.specs.Pinned.{PinState, dropped}
 use Rattle.pin_table.specs.declared.table.PinErr.{PinErr}
-use Rattle.pinned_pieces.specs.Pieces.{PinOf, named, file_of, Agree}
+use Rattle.pinned_pieces.specs.Pieces.{PinOf, file_of}
 use Rattle.pinned_pieces.proofs.PinLemmas.{inserted, agree_inserted, undone, dropped_made}
 use Rattle.pinned_pieces.proofs.table.PinnedPieces.pin.Goals as goal
 

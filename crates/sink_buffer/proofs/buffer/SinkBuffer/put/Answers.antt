@@ -1,4 +1,4 @@
-use Rattle.std.proofs.Common.{◌≡◌, List, [], ℕ}
+use Rattle.std.proofs.Common.{◌≡◌, []}
 use Rattle.sink_buffer.proofs.Sending.{on_err, front_of_piece, front_kept, sends_piece}
 use Rattle.sink_buffer.proofs.buffer.SinkBuffer.put.Goals as goal
 

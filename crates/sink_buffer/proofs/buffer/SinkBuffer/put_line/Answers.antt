@@ -1,4 +1,4 @@
-use Rattle.std.proofs.Common.{◌∷◌, [], ◌++◌, List, ℕ}
+use Rattle.std.proofs.Common.{◌∷◌, [], ◌++◌}
 use Rattle.sink_buffer.proofs.Sending.{on_err, front_then, front_kept, sends_all}
 use Rattle.sink_buffer.proofs.buffer.SinkBuffer.put_line.Goals as goal
 

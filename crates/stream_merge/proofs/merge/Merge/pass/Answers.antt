@@ -1,5 +1,4 @@
 use Rattle.std.proofs.Common.{◌≡◌, ℕ, ◌++◌, ◌∷◌, [], List, Some, length, sym, ap, ◌∙◌, subst}
-use Rattle.series_model.specs.declared.sample.Sample.{Sample}
 use Rattle.stream_merge.specs.declared.merge.Merge.{Merge}
 use Rattle.stream_merge.specs.declared.source.Source.{Source}
 use Rattle.stream_merge.specs.Source.{passed}
