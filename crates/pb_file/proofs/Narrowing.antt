@@ -8,7 +8,7 @@ use Rattle.line_escape.specs.Unescaping.{HasNoNewline}
 use Rattle.series_model.specs.declared.sample.Sample.{Sample}
 use Rattle.series_model.specs.Series.{IsRising, RisesFrom, before}
 use Rattle.series_model.proofs.RisingLists.{RisesFrom-front, RisesFrom-rest}
-use Rattle.series_model.proofs.AnswerLemmas.{before-append}
+use Rattle.series_model.proofs.AnswerLemmas.{before-append, before_none}
 use Rattle.payload_info.specs.declared.info.PayloadInfo.{PayloadInfo}
 use Rattle.pb_lines.specs.Sample.{IsSampleLine}
 use Rattle.pb_lines.proofs.Unique.{one_moment}
@@ -256,13 +256,6 @@ before_all n [] all = refl
 before_all n (x ∷ xs) all =
     let first : x.t < n = all.0 in
     let more : before n xs ≡ xs = before_all n xs all.1 in
-    grind (arith, nat_tests)
-
-pub before_none : (n k : ℕ) (xs : List Sample) → RisesFrom k xs → n ≤ k → before n xs ≡ []
-before_none n k [] rises low = refl
-before_none n k (x ∷ xs) rises low =
-    let first : k ≤ x.t = rises.0 in
-    let more : before n xs ≡ [] = before_none n (x.t + 1) xs rises.1 (omega arith) in
     grind (arith, nat_tests)
 
 before_parts : (n : ℕ) (xs ys : List Sample) → AllByRecursion (λ x. x.t < n) xs → RisesFrom n ys → before n (xs ++ ys) ≡ xs

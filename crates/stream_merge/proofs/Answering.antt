@@ -7,7 +7,7 @@ use Rattle.series_model.specs.declared.sample.Query.{Query}
 use Rattle.series_model.specs.Series.{end_of, RisesFrom, IsRising, before, over, taken, taken_from}
 use Rattle.series_model.specs.Retrieval.{answer}
 use Rattle.series_model.proofs.RisingLists.{RisesFrom-taken_from, RisesFrom-lower, taken_over, taken_from-append}
-use Rattle.series_model.proofs.AnswerLemmas.{answer_of_rest, answer_of_front}
+use Rattle.series_model.proofs.AnswerLemmas.{answer_of_rest, answer_of_front, before_none}
 use Rattle.series_model.proofs.OverLemmas.{over_rising}
 use Rattle.pb_wire.specs.declared.payload.PayloadType.{PayloadType}
 use Rattle.stream_merge.specs.Pieces.{NamedBytes}
@@ -37,17 +37,10 @@ whole ty ps lists tail q are last = ap (λ (x : List Sample). answer x q) (sym (
 
 -- ONE STEP
 
-pub no_before : (from n : ℕ) (xs : List Sample) → RisesFrom n xs → from ≤ n → before from xs ≡ []
-no_before from n [] rises low = refl
-no_before from n (x ∷ xs) rises low =
-    let first : n ≤ x.t = rises.0 in
-    let more : before from xs ≡ [] = no_before from (x.t + 1) xs rises.1 (omega arith) in
-    grind (arith, nat_tests)
-
 -- a sample of the interval comes first
 pub first_within : (q : Query) (s : Sample) (n : ℕ) (xs : List Sample) → RisesFrom n xs → s.t < n → q.from ≤ s.t → s.t ≤ q.to → answer (s ∷ xs) q ≡ s ∷ answer xs q
 first_within q s n xs rises low from to =
-    let none : before q.from xs ≡ [] = no_before q.from n xs rises (omega arith) in
+    let none : before q.from xs ≡ [] = before_none q.from n xs rises (omega arith) in
     grind (arith, nat_tests)
 
 -- one that is later ends the answer
@@ -57,7 +50,7 @@ none_left q s n xs rises low from to = answer_of_front [] (s ∷ xs) q s.t (omeg
 -- one that is earlier comes first where none is that isn't later
 pub first_held : (q : Query) (h : Sample) (n : ℕ) (xs : List Sample) → RisesFrom n xs → q.from ≤ n → h.t < q.from → answer (h ∷ xs) q ≡ h ∷ answer xs q
 first_held q h n xs rises from early =
-    let none : before q.from xs ≡ [] = no_before q.from n xs rises from in
+    let none : before q.from xs ≡ [] = before_none q.from n xs rises from in
     grind (arith, nat_tests)
 
 -- the next sample is taken, or not

@@ -22,8 +22,9 @@ use Rattle.stream_merge.specs.Reads.{HasReadOpen, HasGiven}
 use Rattle.stream_merge.proofs.SoFar.{one_read, read_line}
 use Rattle.stream_merge.proofs.Answered.{given_step}
 use Rattle.stream_merge.proofs.Pulling.{begun_on, line_read}
-use Rattle.stream_merge.proofs.Answering.{flat, no_before}
+use Rattle.stream_merge.proofs.Answering.{flat}
 use Rattle.stream_merge.proofs.Giving.{step_within}
+use Rattle.series_model.proofs.AnswerLemmas.{before_none}
 
 -- OF THE OPEN PIECE
 
@@ -66,7 +67,7 @@ placed_behind : (n from t : ℕ) (line : List ℕ) (here rest : List Sample) →
 placed_behind n from t line here rest placed is low =
     let R : List Sample → Type 0 = λ l. RisesFrom n l in
     let rises = (subst R is placed.0).1 in
-    (rises, omega (arith, ap length (no_before from (t + 1) rest rises (omega (arith, low)))))
+    (rises, omega (arith, ap length (before_none from (t + 1) rest rises (omega (arith, low)))))
 
 -- the merge once it passed a sample
 abbrev pub merge_behind : {R : Type 0} → Merge R → ℕ → List ℕ → Merge R

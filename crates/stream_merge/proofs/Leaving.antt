@@ -9,9 +9,9 @@ use Rattle.series_model.specs.declared.sample.Query.{Query}
 use Rattle.series_model.specs.Series.{end_of, end_from, RisesFrom, IsRising, before, since, taken_from}
 use Rattle.series_model.specs.Retrieval.{answer}
 use Rattle.series_model.proofs.RisingLists.{RisesFrom-append, RisesFrom-lower, RisesFrom-since, RisesFrom-taken_from, end_from-append, since_all, taken_from-append}
-use Rattle.series_model.proofs.AnswerLemmas.{answer_of_rest, before-append}
+use Rattle.series_model.proofs.AnswerLemmas.{answer_of_rest, before-append, before_none}
 use Rattle.stream_merge.specs.Beginning.{early_count, IsPlaced, AnswersAs, IsFirstOrEarly}
-use Rattle.stream_merge.proofs.Answering.{takes, drops, no_before}
+use Rattle.stream_merge.proofs.Answering.{takes, drops}
 
 -- SPLIT AT A MOMENT
 
@@ -21,7 +21,7 @@ split_at n k (x ∷ xs) rises =
     elim (cases_lt x.t n) [
       | inl less ↦ (let more = split_at n (x.t + 1) xs rises.1 in grind (arith, nat_tests))
       | inr late ↦
-          (let none : before n xs ≡ [] = no_before n (x.t + 1) xs rises.1 (omega (arith, late)) in
+          (let none : before n xs ≡ [] = before_none n (x.t + 1) xs rises.1 (omega (arith, late)) in
           let all : since n xs ≡ xs = since_all n (x.t + 1) xs rises.1 (omega (arith, late)) in
           grind (arith, nat_tests))
     ]
@@ -53,7 +53,7 @@ early_least from s = elim (cases_lt s.t from) [ inl less ↦ omega (arith, early
 -- behind the last one that is earlier none is
 pub early_last : (from k : ℕ) (s : Sample) (xs : List Sample) → RisesFrom k xs → early_count from (s ∷ since from xs) ≤ 1
 early_last from k s xs rises =
-    let none : before from (since from xs) ≡ [] = no_before from from (since from xs) (RisesFrom-since k from xs rises) (omega arith) in
+    let none : before from (since from xs) ≡ [] = before_none from from (since from xs) (RisesFrom-since k from xs rises) (omega arith) in
     omega (arith, early_cons from s (since from xs), early_least from s, ap length none)
 
 -- WHAT IS LEFT OUT

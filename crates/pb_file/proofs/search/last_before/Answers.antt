@@ -5,7 +5,7 @@ use Rattle.pb_file.specs.declared.search.SearchErr.TheVariants as search_err
 use Rattle.pb_file.proofs.Reading.{same_err}
 use Rattle.series_model.specs.Series.{before}
 use Rattle.pb_file.specs.Search.{IsLastLine}
-use Rattle.pb_file.proofs.Narrowing.{before_none}
+use Rattle.series_model.proofs.AnswerLemmas.{before_none}
 use Rattle.pb_file.proofs.search.last_before.Goals as goal
 
 pub returns-then-t-eq0-clause-place : goal.returns-then-t-eq0-clause-place
