@@ -13,7 +13,7 @@ pub mod Keeping
 mod Loading
 mod LoadingBoth
 mod LoadingEach
-mod Meaning
+pub mod Meaning
 mod NamedErrs
 pub mod OneReading
 mod Owned

@@ -1,6 +1,5 @@
 -- The bytes of a change, read from the front.
-use Rattle.std.proofs.Common.{◌≡◌, ℕ, ◌*◌, ◌<◌, ◌≤◌, ◌^◌, List, ◌∷◌, ◌++◌, length, take, drop, refl, sym, ◌∙◌, ap, arith, append_assoc, length-append}
-use Rattle.std.proofs.lemmas.List.{take_at, drop_at}
+use Rattle.std.proofs.Common.{◌≡◌, ℕ, ◌*◌, ◌<◌, ◌≤◌, ◌^◌, List, ◌∷◌, ◌++◌, length, sym, ◌∙◌, ap, arith, append_assoc, length-append}
 use Rattle.std.proofs.lemmas.Nat.{from_le_bytes-to_le_bytes_4, from_le_bytes-to_le_bytes_8}
 use Rattle.std.specs.Int.{from_le_bytes, to_le_bytes, w32, w64}
 use Rattle.partition_names.specs.declared.granularity.Granularity.{Granularity}
@@ -13,12 +12,7 @@ use Rattle.store_manifest.specs.declared.entry.Change.TheVariants.{Set, Drop}
 use Rattle.store_manifest.specs.Batches.{members_of}
 use Rattle.store_manifest.specs.Numbers.{IsSized}
 use Rattle.store_manifest.specs.Reading.{IsFront}
-
-split_same : (s t u v : List ℕ) → length s ≡ length t → s ++ u ≡ t ++ v → (s ≡ t) × (u ≡ v)
-split_same s t u v long same = (
-  sym (take_at s u (length s) refl) ∙ ap (λ (l : List ℕ). take (length s) l) same ∙ take_at t v (length s) (sym long),
-  sym (drop_at s u (length s) refl) ∙ ap (λ (l : List ℕ). drop (length s) l) same ∙ drop_at t v (length s) (sym long),
-)
+use Rattle.gate_journal.proofs.Meaning.{split_same}
 
 pub length_32 : (n : ℕ) → length (to_le_bytes w32 n) ≡ 4
 length_32 n = omega arith
