@@ -21,19 +21,20 @@ use Rattle.tier_store.specs.Retiring.{IsFree, Leaves, Stays, names_in, oldest_en
 use Rattle.tier_store.specs.Seen.{Seen}
 use Rattle.tier_store.specs.Stores.{Stores}
 use Rattle.tier_store.specs.declared.limbo.Retired.{Retired}
-use Rattle.tier_store.proofs.Staying.{same_name, own_name, stay_by, stay_cases, stay_from}
+use Rattle.tier_store.proofs.Staying.{stay_by, stay_cases, stay_from}
 use Rattle.tier_store.proofs.Sparing.{more_shown}
 use Rattle.tier_store.proofs.There.{row_listed}
+use Rattle.disk_model.proofs.Lookups.{is_same-true, is_same-same}
 
 -- NAMES
 
 leaves_from : (files : List Retired) (name : Name) → list_any (λ (r : Retired). is_same r.name name) files ≡ true → Leaves files name
 leaves_from files name any =
     let found = Any-from_list_any (λ (r : Retired). is_same r.name name) files any in
-    (found.1, (found.0, found.2, found.3), same_name found.1.name name found.4)
+    (found.1, (found.0, found.2, found.3), is_same-true found.1.name name found.4)
 
 leaves_to : (files : List Retired) (name : Name) → Leaves files name → list_any (λ (r : Retired). is_same r.name name) files ≡ true
-leaves_to files name l = list_any-from_Any (λ (r : Retired). is_same r.name name) files (l.1.0, l.0, l.1.1, l.1.2, subst (λ (n : Name). is_same l.0.name n ≡ true) l.2 (own_name l.0.name))
+leaves_to files name l = list_any-from_Any (λ (r : Retired). is_same r.name name) files (l.1.0, l.0, l.1.1, l.1.2, subst (λ (n : Name). is_same l.0.name n ≡ true) l.2 (is_same-same l.0.name))
 
 no_name : (name : Name) → Contains [] name → ⊥
 no_name name (k, lt, is) = omega (arith, lt)

@@ -33,8 +33,8 @@ use Rattle.tier_store.proofs.Dropped.{Longer, by_files, contains_filter, entry_i
 use Rattle.tier_store.proofs.Places.{manifest_at, manifest_of, within_three}
 use Rattle.tier_store.proofs.Revival.{known_open, limbo_name}
 use Rattle.tier_store.proofs.Showing.{ListsTo, Spares, after_spares, after_to, doubts_held, has_held, known_spares, known_to, name_listed}
-use Rattle.tier_store.proofs.Staying.{own_name, same_name}
 use Rattle.tier_store.proofs.WholeCalls.{filed_fewer, name_at, safe_fewer, spared_whole}
+use Rattle.disk_model.proofs.Lookups.{is_same-true, is_same-same}
 
 -- NAMES THAT ARE LISTED
 
@@ -45,11 +45,11 @@ lists_name place s n = list_any (λ (e : Entry). is_same (file_of (place + 1, s.
 lists_so : (place : ℕ) (s : Stores) (n : Name) → lists_name place s n ≡ true → ListsTo place s n 0
 lists_so place s n is =
     let found = Any-from_list_any (λ (e : Entry). is_same (file_of (place + 1, s.rows) e) n) (map entry_of (list_at place s)) is in
-    record { entry = found.1; within = (found.0, found.2, found.3); named = same_name (file_of (place + 1, s.rows) found.1) n found.4; longer = omega arith }
+    record { entry = found.1; within = (found.0, found.2, found.3); named = is_same-true (file_of (place + 1, s.rows) found.1) n found.4; longer = omega arith }
 
 so_lists : (place : ℕ) (s : Stores) (n : Name) → ListsTo place s n 0 → lists_name place s n ≡ true
 so_lists place s n to =
-    list_any-from_Any (λ (e : Entry). is_same (file_of (place + 1, s.rows) e) n) (map entry_of (list_at place s)) (to.within.0, to.entry, to.within.1, to.within.2, subst (λ (x : Name). is_same x n ≡ true) (sym to.named) (own_name n))
+    list_any-from_Any (λ (e : Entry). is_same (file_of (place + 1, s.rows) e) n) (map entry_of (list_at place s)) (to.within.0, to.entry, to.within.1, to.within.2, subst (λ (x : Name). is_same x n ≡ true) (sym to.named) (is_same-same n))
 
 both_true : (a b : Bool) → not (a && b) ≡ false → (a ≡ true) × (b ≡ true)
 both_true true true is = (refl, refl)

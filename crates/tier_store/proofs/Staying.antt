@@ -1,13 +1,11 @@
 -- What stays of limbo, and what the removal of files leaves of the stores.
-use Rattle.std.proofs.Common.{◌≡◌, ◌⊎◌, inl, inr, Bool, true, false, cond, ◌||◌, nat_eq, ℕ, zero, suc, ◌<◌, ◌+◌, List, [], ◌∷◌, length, map, take, get_or, Some, None, refl, sym, ◌∙◌, ap, subst, arith}
+use Rattle.std.proofs.Common.{◌≡◌, ◌⊎◌, inl, inr, Bool, true, false, cond, ◌||◌, ℕ, zero, suc, ◌<◌, ◌+◌, List, [], ◌∷◌, length, map, take, get_or, Some, None, refl, sym, ◌∙◌, ap, subst, arith}
 use Rattle.std.specs.Prelude.{All, Contains, slice_get, IsTrue}
 use Rattle.std.specs.FinMap.{FinMap}
 use Rattle.std.specs.Ordering.{nat_cmp}
 use Rattle.std.specs.List.{list_any, filter, slice_index_or}
 use Rattle.std.proofs.lemmas.Bool.Decides.{Decides-eqb, nat_tests}
-use Rattle.std.proofs.lemmas.Slice.Eq.{bytes_eq-Decides}
 use Rattle.std.proofs.lemmas.List.Folds.{Any-from_list_any, list_any-from_Any}
-use Rattle.std.specs.Str.{bytes_eq}
 use Rattle.disk_model.specs.Record.{is_same}
 use Rattle.std.specs.Prelude.{◌==◌, ◌↔◌, not}
 use Rattle.store_manifest.specs.declared.entry.Entry.{Entry}
@@ -34,6 +32,7 @@ use Rattle.tier_store.specs.Change.{IsKnown}
 use Rattle.tier_store.specs.Limbo.{IsOfPlace, LimboStands, ListsPlace, IsListedName, IsPinnedFile, IsNeeded, Stay, StayUnlisted, Spares, Elsewhere, AreFree}
 use Rattle.tier_store.specs.declared.limbo.Retired.{Retired}
 use Rattle.tier_store.proofs.Places.{manifest_of, one_manifest}
+use Rattle.disk_model.proofs.Lookups.{is_same-true, is_same-same}
 
 -- WHAT STAYS
 
@@ -222,24 +221,14 @@ limbo_kept old new limbo keeps same stands = (λ j r lt. of_place (get_or limbo 
 
 -- NAMES
 
-pub same_name : (a b : Name) → is_same a b ≡ true → a ≡ b
-same_name a b same =
-    let store : a.0 ≡ b.0 = (Decides-eqb a.0 b.0).0 (grind (arith, nat_tests)) in
-    let path : a.1 ≡ b.1 = (bytes_eq-Decides a.1 b.1).0 (grind (arith, nat_tests)) in λ i. (store i, path i)
-
-pub own_name : (a : Name) → is_same a a ≡ true
-own_name a =
-    let store : nat_eq a.0 a.0 ≡ true = (Decides-eqb a.0 a.0).1 refl in
-    let path : bytes_eq a.1 a.1 ≡ true = (bytes_eq-Decides a.1 a.1).1 refl in grind (arith, nat_tests)
-
 pub among_is : (names : List Name) (name : Name) → list_any (λ other. is_same other name) names ≡ true → Contains names name
 among_is names name any =
     let found = Any-from_list_any (λ other. is_same other name) names any in
-    let same : found.1 ≡ name = same_name found.1 name found.4 in
+    let same : found.1 ≡ name = is_same-true found.1 name found.4 in
     (found.0, found.2, subst (λ (n : Name). slice_index_or names found.0 n ≡ n) same found.3)
 
 pub is_among : (names : List Name) (name : Name) → Contains names name → list_any (λ other. is_same other name) names ≡ true
-is_among names name found = list_any-from_Any (λ other. is_same other name) names (found.0, name, found.1, found.2, own_name name)
+is_among names name found = list_any-from_Any (λ other. is_same other name) names (found.0, name, found.1, found.2, is_same-same name)
 
 pub not_both : (b : Bool) → not b ≡ true → b ≡ true → ⊥
 not_both true t is = absurd (cc (t))
