@@ -1,27 +1,24 @@
 -- A flush lists of each row the partitions that store 1 listed of it, and further ones behind them.
 use Rattle.std.proofs.Common.{◌≡◌, ℕ, ◌<◌, ◌≤◌, List, [], ◌∷◌, ◌++◌, map, get_or, Bool, true, false, cond, refl, sym, ◌∙◌, ap, arith, append-nil, append_assoc}
 use Rattle.std.specs.List.{AllByRecursion}
-use Rattle.std.specs.Prelude.{All, IsTrue, nat_eq, nat_lt}
+use Rattle.std.specs.Prelude.{All, nat_eq, nat_lt}
 use Rattle.std.proofs.lemmas.Bool.Decides.{nat_tests}
 use Rattle.std.proofs.lemmas.List.Elements.{All-filter, All-head, All-tail, recursion_from_All}
 use Rattle.partition_names.specs.declared.granularity.Granularity.{Granularity}
 use Rattle.partition_names.specs.declared.part.Part.{Part}
 use Rattle.partition_names.specs.Part.{IsPart}
 use Rattle.partition_names.proofs.PartLemmas.{one_part, within}
-use Rattle.store_manifest.specs.Entries.{comes_before, put}
+use Rattle.store_manifest.specs.Entries.{put}
 use Rattle.durable_write.specs.Flush.{EndsRow, PlacesRise, put_all}
 use Rattle.durable_write.specs.Held.{Filed, filed_at}
 use Rattle.durable_write.specs.Plan.{of_row}
-use Rattle.durable_write.proofs.Listed.{all_put, rise_filter, rise_put_all}
+use Rattle.durable_write.proofs.Listed.{Comes, all_put, rise_filter, rise_put_all}
 use Rattle.durable_write.proofs.PutFile.{later, put_other, put_own, sooner}
 use Rattle.tier_store.specs.Moving.{parts_in}
 use Rattle.tier_store.proofs.Rising.{own_series}
 
 abbrev part_of : Filed → Part
 part_of f = f.entry.part
-
-abbrev Comes : Filed → Filed → Type 0
-Comes f h = IsTrue (comes_before (filed_at f) (filed_at h))
 
 abbrev IsOf : Granularity → Filed → Type 0
 IsOf g f = IsPart g f.entry.part

@@ -2,20 +2,15 @@
 use Rattle.std.proofs.Common.{◌≡◌, ℕ, ◌+◌, ◌<◌, ◌≤◌, List, [], ◌∷◌, length, map, take, get_or, sym, ap, ◌∙◌, arith}
 use Rattle.std.specs.List.{sum_by}
 use Rattle.std.specs.List.Sorted.{IsPermutation}
-use Rattle.std.proofs.lemmas.List.{length-append, length-map, get_or-map}
+use Rattle.std.proofs.lemmas.List.{length-map, get_or-map}
 use Rattle.std.proofs.lemmas.List.Sorted.{sum_by-IsPermutation}
 use Rattle.std.proofs.lemmas.List.Sums.{sum_by-cons, sum_by_more, sum_by-take-le}
-use Rattle.pb_lines.specs.File.{lines_of}
-use Rattle.series_model.specs.declared.sample.Sample.{Sample}
 use Rattle.series_model.specs.declared.batch.RowSamples.{RowSamples}
 use Rattle.durable_write.specs.Flush.{bytes_in}
+use Rattle.pb_lines.proofs.Running.{lines_long}
 
 abbrev pub samples_in : RowSamples → ℕ
 samples_in p = length p.samples
-
-lines_long : (xs : List Sample) → length xs ≤ length (lines_of xs)
-lines_long [] = omega arith
-lines_long (x ∷ xs) = omega (arith, lines_long xs, length-append x.line (10 ∷ lines_of xs))
 
 -- each sample takes a newline at least
 bytes_long : (ps : List RowSamples) → sum_by samples_in ps ≤ bytes_in ps

@@ -1,5 +1,5 @@
 -- What an image holds: what crashes leave of a store, what stays, and that it is one thing.
-use Rattle.std.proofs.Common.{◌≡◌, ◌≢◌, ℕ, ◌∙◌, ◌≤◌, List, [], ◌∷◌, map, refl, ap, subst, arith}
+use Rattle.std.proofs.Common.{◌≡◌, ◌≢◌, ℕ, ◌∙◌, ◌≤◌, List, map, refl, ap, subst, arith}
 use Rattle.disk_model.specs.Files.{Name, Files}
 use Rattle.disk_model.specs.Past.{Past, MayLeave, Passes}
 use Rattle.gate_journal.specs.Generations.{IsOwn}
@@ -8,7 +8,6 @@ use Rattle.gate_journal.specs.Kept.{Says}
 use Rattle.gate_journal.proofs.Keeping.{kept_left, says_stays}
 use Rattle.gate_journal.proofs.Owning.{own_store}
 use Rattle.partition_names.specs.declared.granularity.Granularity.{Granularity}
-use Rattle.store_manifest.specs.declared.entry.Entry.{Entry}
 use Rattle.pv_catalog.specs.Rows.{IsCatalogue}
 use Rattle.pv_catalog.specs.Catalogue.{catalogue_name}
 use Rattle.store_manifest.specs.Batches.{Configured, Folds}
@@ -18,6 +17,7 @@ use Rattle.durable_write.specs.Stored.{Holds, AreLong, IsStored}
 use Rattle.durable_write.specs.Writing.{Behind}
 use Rattle.durable_write.proofs.Stays.{safe_stays}
 use Rattle.durable_write.proofs.Frame.{Untouched, catalogue_stays, tier_stays}
+use Rattle.store_manifest.proofs.Committing.{folds_says}
 
 -- a journal's name is of store 0
 pub not_in : (store : ℕ) (name journal : Name) → 1 ≤ store → name ≡ journal → journal.0 ≡ 0 → name.0 ≢ store
@@ -27,25 +27,18 @@ not_in store name journal numbered is zero_store one = let same : name.0 ≡ jou
 pub not_own_in : (store : ℕ) (journal n : Name) → 1 ≤ store → journal.0 ≡ 0 → IsOwn journal n → n.0 ≢ store
 not_own_in store journal n numbered zero_store own one = let same = own_store journal n own in absurd (omega (arith, numbered, same, zero_store, one))
 
-configured_folds : (g : Granularity) (bs : List (List ℕ)) (es : List Entry) → Configured g bs es → Folds g bs es
-configured_folds g [] es configured = absurd configured
-configured_folds g (b ∷ bs) es configured = configured
-
-pub says_folds : (g : Granularity) (entries : List Entry) (name : Name) (image : Files) → Says (Configured g) entries name image → Says (Folds g) entries name image
-says_folds g entries name image says = record { batches = says.batches; has = says.has; means = configured_folds g says.batches entries says.means }
-
 -- whatever a crash leaves of a store holds what it holds
 pub stored_left : (g : Granularity) (catalogue manifest : JournalState) (files : Files) (opened : Name → ℕ) (past : Past) (held : Held) → IsStored g catalogue manifest files opened past held → (image : Files) → MayLeave past image → Holds g image held
 stored_left g catalogue manifest files opened past held stored image left = record {
   rows = subst (λ (n : Name). Says IsCatalogue held.rows n image) stored.rows.named (kept_left IsCatalogue catalogue files opened past held.rows stored.rows.kept image left);
-  lists = says_folds g (map entry_of held.files) (manifest_name held.store) image
+  lists = folds_says g (map entry_of held.files) (manifest_name held.store) image
       (subst (λ (n : Name). Says (Configured g) (map entry_of held.files) n image) stored.tier.named (kept_left (Configured g) manifest files opened past (map entry_of held.files) stored.tier.kept image left));
   filed = stored.tier.valid.filed;
   files = stored.tier.safe.left image left;
 }
 
 pub says_listed : (g : Granularity) (manifest : JournalState) (image : Files) (store : ℕ) (files : List Filed) → manifest.name ≡ manifest_name store → Says (Configured g) (map entry_of files) manifest.name image → Says (Folds g) (map entry_of files) (manifest_name store) image
-says_listed g manifest image store files is says = says_folds g (map entry_of files) (manifest_name store) image (subst (λ (n : Name). Says (Configured g) (map entry_of files) n image) is says)
+says_listed g manifest image store files is says = folds_says g (map entry_of files) (manifest_name store) image (subst (λ (n : Name). Says (Configured g) (map entry_of files) n image) is says)
 
 -- Appending behind the listed lengths, and writing what isn't listed, changes nothing that an image holds.
 pub holds_behind : (g : Granularity) (held : Held) (a c : Files) → Behind held a c → Holds g a held → Holds g c held

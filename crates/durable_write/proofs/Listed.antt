@@ -73,10 +73,10 @@ all_put_all P files (f ∷ fs) all new = all_put_all P (put filed_at f files) fs
 
 -- RISING PLACES STAY SO
 
-abbrev Comes : Filed → Filed → Type 0
+abbrev pub Comes : Filed → Filed → Type 0
 Comes f h = IsTrue (comes_before (filed_at f) (filed_at h))
 
-comes_on : (f h k : Filed) → Comes f h → Comes h k → Comes f k
+pub comes_on : (f h k : Filed) → Comes f h → Comes h k → Comes f k
 comes_on f h k one two = grind (arith, nat_tests)
 
 pub rise_filter : (test : Filed → Bool) (xs : List Filed) → PlacesRise xs → PlacesRise (filter test xs)

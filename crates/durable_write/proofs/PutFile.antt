@@ -4,12 +4,14 @@ use Rattle.std.specs.Prelude.{filter, nat_eq, nat_lt, All, IsTrue}
 use Rattle.std.specs.List.{AllByRecursion}
 use Rattle.std.proofs.lemmas.Bool.{both_ways, cases_order, cond-false, cond-true}
 use Rattle.std.proofs.lemmas.Bool.Decides.{nat_tests}
-use Rattle.std.proofs.lemmas.List.Elements.{filter-append, filter_passes, All-nil, All-cons, All-head, All-tail, All-push, All-filter, All-contains, Contains-push, All-from_recursion, recursion_from_All}
+use Rattle.std.proofs.lemmas.List.Elements.{filter-append, filter_passes, All-nil, All-cons, All-head, All-tail, All-push, All-contains, Contains-push, All-from_recursion, recursion_from_All}
 use Rattle.store_manifest.specs.Entries.{Place, put, comes_before}
 use Rattle.durable_write.specs.Held.{Filed, filed_at}
 use Rattle.durable_write.specs.Flush.{put_all, PlacesRise}
 use Rattle.durable_write.specs.Plan.{of_row, StartBefore, IsLast}
 use Rattle.pb_lines.proofs.FileLines.{all_front, all_rest, all-append}
+use Rattle.durable_write.proofs.Listed.{comes_on, rise_filter}
+pub use Rattle.durable_write.proofs.Listed.{Comes}
 
 -- FILTERS
 
@@ -178,12 +180,6 @@ put_all-push files (x ∷ fs) f = put_all-push (put filed_at x files) fs f
 
 -- PLACES THAT RISE
 
-abbrev pub Comes : Filed → Filed → Type 0
-Comes f h = IsTrue (comes_before (filed_at f) (filed_at h))
-
-comes_on : (f h k : Filed) → Comes f h → Comes h k → Comes f k
-comes_on f h k one two = grind (arith, nat_tests)
-
 rise-push : (fs : List Filed) (f : Filed) → PlacesRise fs → All (λ (h : Filed). Comes h f) fs → PlacesRise (fs ++ f ∷ [])
 rise-push [] f rise all = (All-nil (Comes f), tt)
 rise-push (x ∷ fs) f rise all = (All-push (Comes x) fs f rise.0 (All-head (λ (h : Filed). Comes h f) x fs all), rise-push fs f rise.1 (All-tail (λ (h : Filed). Comes h f) x fs all))
@@ -203,14 +199,6 @@ rise_over (x ∷ fs) h f same rise =
     let P : Place → Type 0 = λ p. IsTrue (comes_before (filed_at x) p) in
     let last : Comes x f = subst P (sym same) (All-contains (Comes x) (fs ++ h ∷ []) h rise.0 (Contains-push fs h)) in
     (All-push (Comes x) fs f (All-front (Comes x) fs (h ∷ []) rise.0) last, rise_over fs h f same rise.1)
-
-rise_filter : (q : Filed → Bool) (xs : List Filed) → PlacesRise xs → PlacesRise (filter q xs)
-rise_filter q [] rise = tt
-rise_filter q (x ∷ xs) rise = by_test (q x) (rise_filter q xs rise.1)
-  where
-    by_test : (b : Bool) → PlacesRise (filter q xs) → PlacesRise (cond b (x ∷ filter q xs) (filter q xs))
-    by_test true rest = (All-filter q (Comes x) xs rise.0, rest)
-    by_test false rest = rest
 
 starts_rise : (row : ℕ) (earlier : List Filed) (h : Filed) → PlacesRise (earlier ++ h ∷ []) → AllByRecursion (λ (f : Filed). nat_eq f.entry.series row ≡ true) (earlier ++ h ∷ []) → StartBefore h.entry.part.start earlier
 starts_rise row [] h rise own = tt

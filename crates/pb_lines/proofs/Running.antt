@@ -70,7 +70,7 @@ pub looked : (ty : PayloadType) (year : ℤ) (after to : ℕ) (bytes rest : List
 looked ty year after to bytes rest run is = omega (arith, is.len, ap length is.text, length-append (lines_of is.samples) rest)
 
 -- each line has a byte at least
-lines_long : (xs : List Sample) → length xs ≤ length (lines_of xs)
+pub lines_long : (xs : List Sample) → length xs ≤ length (lines_of xs)
 lines_long [] = omega arith
 lines_long (s ∷ xs) = omega (arith, lines_long xs, length-append s.line (10 ∷ lines_of xs))
 

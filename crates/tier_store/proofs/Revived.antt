@@ -20,13 +20,13 @@ use Rattle.pv_catalog.specs.declared.row.Row.{Row}
 use Rattle.series_model.specs.Series.{over, since, end_of}
 use Rattle.series_model.specs.declared.batch.RowSamples.{RowSamples}
 use Rattle.series_model.specs.declared.sample.Sample.{Sample}
-use Rattle.store_manifest.specs.Entries.{Place, comes_before, put}
+use Rattle.store_manifest.specs.Entries.{Place, put}
 use Rattle.store_manifest.specs.Manifest.{ManifestState}
 use Rattle.durable_write.specs.Flush.{EndsRow, HasHeaderOf, PlacesRise, file_at, put_all, with_batch}
 use Rattle.durable_write.specs.Held.{Filed, Held, IsFiled, filed_at, samples_of}
 use Rattle.durable_write.specs.Plan.{of_row}
 use Rattle.durable_write.specs.Revival.{AreUnlisted}
-use Rattle.durable_write.proofs.Listed.{all_put, all_put_all, found, rise_filter, rise_put_all}
+use Rattle.durable_write.proofs.Listed.{Comes, all_put, all_put_all, found, rise_filter, rise_put_all}
 use Rattle.durable_write.proofs.PutFile.{later, put_other, put_own, sooner}
 use Rattle.durable_write.proofs.Revival.{listed_stays, one_of_place, put_all_new, put_all_one}
 use Rattle.durable_write.proofs.Steps.{of_files}
@@ -37,9 +37,6 @@ use Rattle.tier_store.specs.Stores.{Stores}
 use Rattle.tier_store.specs.declared.limbo.Retired.{Retired}
 use Rattle.tier_store.proofs.Places.{granularity_at, manifest_at}
 use Rattle.tier_store.proofs.Dropped.{contains_filter}
-
-abbrev Comes : Filed → Filed → Type 0
-Comes f h = IsTrue (comes_before (filed_at f) (filed_at h))
 
 -- THE FILES OF A ROW
 

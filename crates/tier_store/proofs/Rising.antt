@@ -15,7 +15,7 @@ use Rattle.partition_names.proofs.PartLemmas.{one_part, within}
 use Rattle.pv_catalog.specs.declared.row.Row.{Row}
 use Rattle.durable_write.specs.Held.{Filed, IsFiled, samples_of}
 use Rattle.durable_write.specs.Flush.{PlacesRise}
-use Rattle.durable_write.proofs.PutFile.{Comes}
+use Rattle.durable_write.proofs.Listed.{Comes, rise_filter}
 
 abbrev pub own_files : ℕ → List Filed → List Filed
 own_files id files = filter (λ (f : Filed). nat_eq f.entry.series id) files
@@ -24,14 +24,6 @@ abbrev samples_in : List Filed → List Sample
 samples_in files = flat_map (λ (f : Filed). f.samples) files
 
 -- THE ROW'S FILES
-
-rise_filter : (test : Filed → Bool) (xs : List Filed) → PlacesRise xs → PlacesRise (filter test xs)
-rise_filter test [] rise = tt
-rise_filter test (x ∷ xs) rise = by_test (test x) (rise_filter test xs rise.1)
-  where
-    by_test : (b : Bool) → PlacesRise (filter test xs) → PlacesRise (cond b (x ∷ filter test xs) (filter test xs))
-    by_test true rest = (All-filter test (Comes x) xs rise.0, rest)
-    by_test false rest = rest
 
 -- the files of one row, as they are held
 record AreOwn (g : Granularity) (rows : List Row) (id : ℕ) (fs : List Filed) : Type 0 where
