@@ -1,13 +1,13 @@
 -- The choice of a move by what the stores list of a row is the machine's, by its samples.
 use Rattle.std.proofs.Common.{◌≡◌, ◌≢◌, ℕ, ◌+◌, ◌≤◌, ◌<◌, List, [], ◌∷◌, ◌++◌, map, Bool, true, false, cond, Some, None, refl, sym, ◌∙◌, ap, subst, arith, inl, inr, zero, suc, ◌-◌, length, take, min, max}
 use Rattle.std.specs.List.{AllByRecursion, flat_map}
-use Rattle.std.specs.Prelude.{◌&&◌, All, nat_eq, Option, IsSome, count_by, nat_le, slice_get, slice_index}
+use Rattle.std.specs.Prelude.{All, Option, IsSome, count_by, nat_le, slice_get, slice_index}
 use Rattle.std.proofs.lemmas.List.Elements.{All-head, All-tail}
 use Rattle.etl_mover.specs.Move.{MoveState as Moving}
 use Rattle.partition_names.specs.declared.granularity.Granularity.{Granularity}
 use Rattle.partition_names.specs.Part.{IsPart, HoldsMoment}
 use Rattle.series_model.specs.declared.sample.Sample.{Sample}
-use Rattle.store_manifest.specs.Entries.{Place, put as put_at}
+use Rattle.store_manifest.specs.Entries.{put as put_at}
 use Rattle.store_manifest.specs.declared.entry.Entry.{Entry}
 use Rattle.durable_write.specs.Flush.{file_at, put_all}
 use Rattle.durable_write.specs.Held.{Filed, entry_of, filed_at, IsFiled}
@@ -46,6 +46,7 @@ use Rattle.archive_core.specs.MoveChoice.{HaveDurable, AreNumbers, GoesOnBy, fil
 use Rattle.archive_core.proofs.ListEnds.{files_end, last_end, own_entries}
 use Rattle.archive_core.proofs.Lists.{element}
 use Rattle.archive_core.proofs.Windows.{AreApart, all_in, ends_inside, windows, files_held}
+use Rattle.durable_write.proofs.Rows.{file_of_row}
 
 -- a list has the same files of a row as another that had, once the same files of the row are put into both
 pub put_rows : (row : ℕ) (fs xs ys : List Filed) → AllByRecursion (λ (f : Filed). f.entry.series ≡ row) fs → of_row row xs ≡ of_row row ys → of_row row (put_all xs fs) ≡ of_row row (put_all ys fs)
@@ -64,16 +65,6 @@ files_own g row (f ∷ files) all =
 pub ahead_own : (i : ℕ) (tells : Bool) (all : SeenAll) (move : Moving) (files : List Filed) (held : Stores) → RunsBeside i tells all move files held → AllByRecursion (λ (f : Filed). f.entry.series ≡ move.series) files
 ahead_own i tells all move files held runs = files_own move.granularity move.series files (subst (All (λ (e : Entry). IsPart move.granularity e.part × (e.series ≡ move.series))) runs.pending runs.running.pending)
 
--- what is listed in a place is told by the files of its row
-row_place : (p : Place) (xs : List Filed) → file_at p xs ≡ file_at p (of_row p.0 xs)
-row_place p [] = refl
-row_place p (x ∷ xs) = by_tests (nat_eq x.entry.series p.0) (nat_eq x.entry.part.start p.1) refl refl (row_place p xs)
-  where
-    by_tests : (a b : Bool) → nat_eq x.entry.series p.0 ≡ a → nat_eq x.entry.part.start p.1 ≡ b → file_at p xs ≡ file_at p (of_row p.0 xs) → cond (a && b) (Some x) (file_at p xs) ≡ file_at p (cond a (x ∷ of_row p.0 xs) (of_row p.0 xs))
-    by_tests true true own start rest = rw (own, start) refl
-    by_tests true false own start rest = rw (own, start) rest
-    by_tests false b own start rest = rest
-
 -- so files of a row go into the same places of a list that has the same files of it
 pub into_same : (row : ℕ) (copied : List Sample) (files xs ys : List Filed) → AllByRecursion (λ (f : Filed). f.entry.series ≡ row) files → of_row row ys ≡ of_row row xs → GoInto xs copied files → GoInto ys copied files
 into_same row copied files xs ys own same into = record {
@@ -81,7 +72,7 @@ into_same row copied files xs ys own same into = record {
   just = all_of (GetsOne ys copied) files (λ f there none.
       let series : f.entry.series ≡ row = of_all (λ (h : Filed). h.entry.series ≡ row) files f own there in
       let own_same : of_row f.entry.series xs ≡ of_row f.entry.series ys = subst (λ (k : ℕ). of_row k xs ≡ of_row k ys) (sym series) (sym same) in
-      let was : file_at (filed_at f) xs ≡ None = row_place (filed_at f) xs ∙ (ap (file_at (filed_at f)) own_same ∙ (sym (row_place (filed_at f) ys) ∙ none)) in
+      let was : file_at (filed_at f) xs ≡ None = file_of_row (filed_at f) xs ∙ (ap (file_at (filed_at f)) own_same ∙ (sym (file_of_row (filed_at f) ys) ∙ none)) in
       of_all (GetsOne xs copied) files f into.just there was);
 }
 

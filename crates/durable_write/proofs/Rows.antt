@@ -17,7 +17,7 @@ use Rattle.pb_lines.proofs.FileLines.{all_front, all_rest}
 
 -- THE FILE AT A PLACE
 
-file_of_row : (p : Place) (xs : List Filed) → file_at p xs ≡ file_at p (of_row p.0 xs)
+pub file_of_row : (p : Place) (xs : List Filed) → file_at p xs ≡ file_at p (of_row p.0 xs)
 file_of_row p [] = refl
 file_of_row p (x ∷ xs) = by_tests (nat_eq x.entry.series p.0) (nat_eq x.entry.part.start p.1) refl refl (file_of_row p xs)
   where

@@ -13,6 +13,7 @@ use Rattle.store_manifest.specs.Entries.{place, comes_before, InOrder, AreEntrie
 use Rattle.store_manifest.specs.Manifest.{ManifestState}
 use Rattle.durable_write.specs.Plan.{IsLastOf}
 use Rattle.etl_mover.specs.Move.{MoveState, HasBegun, IsMove, StillLists, of_series, part_file}
+use Rattle.store_manifest.proofs.Changes.{order_filter}
 
 -- each comes before all behind it also where some are left out
 filter_front : (P : Entry → Type 0) (p : Entry → Bool) (xs : List Entry) → AllByRecursion P xs → AllByRecursion P (filter p xs)
@@ -23,20 +24,12 @@ filter_front P p (x ∷ xs) all = go (filter_front P p xs all.1) (p x)
     go rest true = (all.0, rest)
     go rest false = rest
 
-filter_order : (p : Entry → Bool) (xs : List Entry) → InOrder xs → InOrder (filter p xs)
-filter_order p [] order = tt
-filter_order p (x ∷ xs) order = go (filter_order p xs order.1) (p x)
-  where
-    go : InOrder (filter p xs) → (b : Bool) → InOrder (cond b (x ∷ filter p xs) (filter p xs))
-    go rest true = (filter_front (λ d. comes_before (place x) (place d) ≡ true) p xs order.0, rest)
-    go rest false = rest
-
-take_front : (P : Entry → Type 0) (n : ℕ) (xs : List Entry) → AllByRecursion P xs → AllByRecursion P (take n xs)
+pub take_front : (P : Entry → Type 0) (n : ℕ) (xs : List Entry) → AllByRecursion P xs → AllByRecursion P (take n xs)
 take_front P zero xs all = tt
 take_front P (suc n) [] all = tt
 take_front P (suc n) (x ∷ xs) all = (all.0, take_front P n xs all.1)
 
-take_order : (n : ℕ) (xs : List Entry) → InOrder xs → InOrder (take n xs)
+pub take_order : (n : ℕ) (xs : List Entry) → InOrder xs → InOrder (take n xs)
 take_order zero xs order = tt
 take_order (suc n) [] order = tt
 take_order (suc n) (x ∷ xs) order = (take_front (λ d. comes_before (place x) (place d) ≡ true) n xs order.0, take_order n xs order.1)
@@ -73,7 +66,7 @@ begun_is source destination number text n move is most nested from to = record {
   parts = subst (All (λ (e : Entry). IsPart source.granularity e.part × (e.series ≡ move.series))) (sym is.parts)
       (subst (λ (s : ℕ). All (λ (e : Entry). IsPart source.granularity e.part × (e.series ≡ s)) (take n (of_series number source.entries))) (sym is.series)
       (All-take (λ (e : Entry). IsPart source.granularity e.part × (e.series ≡ number)) n (of_series number source.entries) (of_parts source.granularity number source.entries from)));
-  in_order = subst InOrder (sym is.parts) (take_order n (of_series number source.entries) (filter_order (λ (e : Entry). nat_eq e.series number) source.entries from.in_order));
+  in_order = subst InOrder (sym is.parts) (take_order n (of_series number source.entries) (order_filter (λ (e : Entry). nat_eq e.series number) source.entries from.in_order));
   few = let long = ap length is.parts in omega (arith, long, length-take n (of_series number source.entries), most);
   at = omega (arith, is.at);
   pending = subst (All (λ (e : Entry). IsPart move.granularity e.part × (e.series ≡ move.series))) (sym is.pending) (All-nil (λ (e : Entry). IsPart move.granularity e.part × (e.series ≡ move.series)));

@@ -29,6 +29,7 @@ use Rattle.etl_mover.specs.Move.{MoveState, IsMove, IsAhead, StillLists, part_fi
 use Rattle.etl_mover.specs.Step.{Advances, IsLongUnopened, IsToRow, HasTargets, target_file}
 use Rattle.etl_mover.specs.Writing.{LeavesFile, WritesFile}
 use Rattle.etl_mover.proofs.Advancing.{after_cases, last_all}
+use Rattle.durable_write.proofs.There.{contains_map}
 
 -- A FILE IS PUT TWICE
 
@@ -97,7 +98,7 @@ put_all-append files (x ∷ xs) ys = put_all-append (put filed_at x files) xs ys
 
 -- THE ENTRIES THAT ARE TO BE LISTED
 
-map_append : (xs ys : List Filed) → map entry_of (xs ++ ys) ≡ map entry_of xs ++ map entry_of ys
+pub map_append : (xs ys : List Filed) → map entry_of (xs ++ ys) ≡ map entry_of xs ++ map entry_of ys
 map_append [] ys = refl
 map_append (x ∷ xs) ys = ap (λ (l : List Entry). x.entry ∷ l) (map_append xs ys)
 
@@ -151,11 +152,6 @@ pub record HasEntry (ahead : Held) (e : Entry) : Type 0 where
   pub within : Contains ahead.files file
   pub entry : file.entry ≡ e
 
-of_entries : (files : List Filed) (e : Entry) → Contains (map entry_of files) e → (f : Filed) × Contains files f × (f.entry ≡ e)
-of_entries [] e (k, low, same) = absurd (omega (arith, low))
-of_entries (x ∷ xs) e (zero, low, same) = (x, (zero, omega arith, refl), same)
-of_entries (x ∷ xs) e (suc k, low, same) = let rest = of_entries xs e (k, omega (arith, low), same) in (rest.0, (suc rest.1.0, omega (arith, rest.1.1), rest.1.2), rest.2)
-
 filter_within : (p : Entry → Bool) (xs : List Entry) (e : Entry) → Contains (filter p xs) e → Contains xs e
 filter_within p [] e has = has
 filter_within p (x ∷ xs) e has = go (p x) (filter_within p xs e) has
@@ -165,7 +161,7 @@ filter_within p (x ∷ xs) e has = go (p x) (filter_within p xs e) has
     go true rest (suc k, low, same) = let has = rest (k, omega (arith, low), same) in (suc has.0, omega (arith, has.1), has.2)
     go false rest has = let has₂ = rest has in (suc has₂.0, omega (arith, has₂.1), has₂.2)
 
-last_of-push : (xs : List Entry) (x : Entry) (o : Option Entry) → last_of (xs ++ x ∷ []) o ≡ Some x
+pub last_of-push : (xs : List Entry) (x : Entry) (o : Option Entry) → last_of (xs ++ x ∷ []) o ≡ Some x
 last_of-push [] x o = refl
 last_of-push (y ∷ ys) x o = last_of-push ys x (Some y)
 
@@ -174,7 +170,7 @@ listed_entry m held series None e are last is = absurd (cc (is))
 listed_entry m held series (Some x) e are last is =
     let same : x ≡ e = cc (is) in
     let within : Contains (filter (λ (d : Entry). nat_eq d.series series) m.entries) x = subst (λ (l : List Entry). Contains l x) (sym last.1) (length last.0, omega (arith, length-append last.0 (x ∷ [])), get_or-append_seam last.0 x [] x) in
-    let file = of_entries held.files x (subst (λ (l : List Entry). Contains l x) are (filter_within (λ (d : Entry). nat_eq d.series series) m.entries x within)) in
+    let file = contains_map held.files x (subst (λ (l : List Entry). Contains l x) are (filter_within (λ (d : Entry). nat_eq d.series series) m.entries x within)) in
     record { file = file.0; within = file.1; entry = file.2 ∙ same }
 
 last_entry : (m : ManifestState) (held ahead : Held) (move : MoveState) (e : Entry) → m.entries ≡ map entry_of held.files → IsAhead move held ahead → IsLastOf m.entries move.series move.listed → last_of move.pending move.listed ≡ Some e → HasEntry ahead e

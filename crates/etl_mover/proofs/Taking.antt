@@ -1,7 +1,7 @@
 -- Lines are taken one after another.
 use Rattle.std.proofs.Common.{◌≡◌, ℕ, ℤ, suc, ◌+◌, ◌<◌, List, [], ◌∷◌, ◌++◌, length, take, drop, get_or, refl, sym, ◌∙◌, ap, subst, arith, append_assoc}
 use Rattle.std.proofs.Math.Seq.{drop-append_seam, drop-cons}
-use Rattle.std.proofs.lemmas.List.{length-append, length-take, take-append-drop}
+use Rattle.std.proofs.lemmas.List.{length-append, length-take, take-append-drop, take_all}
 use Rattle.pb_wire.specs.declared.payload.PayloadType.{PayloadType}
 use Rattle.line_escape.specs.Unescaping.{HasNoNewline}
 use Rattle.series_model.specs.declared.sample.Sample.{Sample}
@@ -65,11 +65,7 @@ takes_all ty year bytes entry len new is none = record {
 }
 
 pub none_torn : (ty : PayloadType) (year : ℤ) (rest : List ℕ) (end : ℕ) → HasNoNewline (take end rest) → end ≡ length rest → IsSampleStart ty year rest → ⊥
-none_torn ty year rest end whole all start = no_line rest start.sample.line start.rest (subst HasNoNewline (ap (λ (n : ℕ). take n rest) all ∙ take_whole rest) whole) start.are
-  where
-    take_whole : (l : List ℕ) → take (length l) l ≡ l
-    take_whole [] = refl
-    take_whole (x ∷ xs) = ap (λ (l : List ℕ). x ∷ l) (take_whole xs)
+none_torn ty year rest end whole all start = no_line rest start.sample.line start.rest (subst HasNoNewline (take_all end rest (omega arith)) whole) start.are
 
 pub none_meant : (ty : PayloadType) (year : ℤ) (rest : List ℕ) (end : ℕ) → end < length rest → get_or rest end 0 ≡ 10 → HasNoNewline (take end rest) → ((t : ℕ) → IsSampleLine ty year (take end rest) t → ⊥) → IsSampleStart ty year rest → ⊥
 none_meant ty year rest end within ten whole none start =

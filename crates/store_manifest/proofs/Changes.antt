@@ -54,7 +54,7 @@ filter_passes p (x ∷ xs) = go (filter_passes p xs) (p x) refl
     go rest true is = (is, rest)
     go rest false is = rest
 
-order_filter : (p : Entry → Bool) (xs : List Entry) → InOrder xs → InOrder (filter p xs)
+pub order_filter : (p : Entry → Bool) (xs : List Entry) → InOrder xs → InOrder (filter p xs)
 order_filter p [] order = tt
 order_filter p (x ∷ xs) order = go (order_filter p xs order.1) (p x)
   where

@@ -3,7 +3,7 @@ use Rattle.std.proofs.Common.{◌≡◌, Bool, true, false, cond, nat_eq, ℕ, z
 use Rattle.std.specs.Prelude.{All, Contains, slice_get}
 use Rattle.std.proofs.lemmas.Bool.Decides.{Decides-eqb, nat_tests}
 use Rattle.std.proofs.lemmas.List.Elements.{All-contains, Contains-append_left, Contains-append_right}
-use Rattle.disk_model.specs.Files.{Name, Files}
+use Rattle.disk_model.specs.Files.{Name}
 use Rattle.disk_model.specs.declared.disk.Disk.{Ghosts}
 use Rattle.gate_journal.specs.Kept.{Says}
 use Rattle.partition_names.specs.declared.granularity.Granularity.{Granularity}
@@ -31,6 +31,7 @@ use Rattle.store_reopen.specs.Reopen.{loaded}
 use Rattle.store_reopen.specs.Steps.{Lists, NewRow, Step, made_by, stepped}
 use Rattle.store_reopen.proofs.Keeping.{is_at, no_more}
 use Rattle.store_reopen.proofs.OneJournal.{one_list_of_rows}
+use Rattle.durable_write.proofs.There.{contains_map}
 
 -- PLACES
 
@@ -114,12 +115,6 @@ still_there (x ∷ xs) more (suc i) row here = still_there xs more i row here
 
 -- FILES
 
--- the file of an entry that a list has
-filed_in : (fs : List Filed) (e : Entry) → Contains (map entry_of fs) e → (f : Filed) × Contains fs f × (f.entry ≡ e)
-filed_in [] e (k, low, is) = absurd (omega (arith, low))
-filed_in (f ∷ fs) e (zero, low, is) = (f, (0, omega arith, refl), is)
-filed_in (f ∷ fs) e (suc k, low, is) = let rest = filed_in fs e (k, omega (arith, low), is) in (rest.0, (suc rest.1.0, omega (arith, rest.1.1), rest.1.2), rest.2)
-
 entry_in : (fs : List Filed) (f : Filed) → Contains fs f → Contains (map entry_of fs) f.entry
 entry_in [] f (k, low, is) = absurd (omega (arith, low))
 entry_in (x ∷ fs) f (zero, low, is) = (0, omega arith, ap entry_of is)
@@ -145,7 +140,7 @@ module _ (g : Granularity) (i : ℕ) (low : i < 3) (held : Stores) (xs : List St
 
   unlisted_before : IsUnlisted (listing_of (tier i (made_by xs held))) n → IsUnlisted (listing_of (tier i held)) n
   unlisted_before unlisted e in_held named =
-      let f = filed_in (list_at i held) e in_held in
+      let f = contains_map (list_at i held) e in_held in
       let k = steps_at xs held i f.0 low f.1 in
       let file = same_file f.0 k.0 (All-contains (IsListed g held.rows) (list_at i held) f.0 was f.1) (All-contains (IsListed g then_rows) (list_at i (made_by xs held)) k.0 now k.1) k.2 in
       unlisted k.0.entry (entry_in (list_at i (made_by xs held)) k.0 k.1) (file ∙ ap (λ (x : Entry). file_of (i + 1, held.rows) x) f.2 ∙ named)

@@ -1,9 +1,9 @@
 -- What is known of the files that turns take.
-use Rattle.std.proofs.Common.{◌≡◌, ◌≢◌, inl, inr, ℕ, ◌<◌, ◌≤◌, ◌+◌, List, [], ◌∷◌, ◌++◌, length, map, Option, Some, sym, ◌∙◌, ap, subst, arith}
+use Rattle.std.proofs.Common.{◌≡◌, ◌≢◌, ℕ, ◌<◌, ◌≤◌, ◌+◌, List, [], ◌∷◌, ◌++◌, length, map, Option, Some, sym, ◌∙◌, ap, subst, arith}
 use Rattle.std.specs.Prelude.{All, IfSome, slice_get}
 use Rattle.std.specs.Option.{option_map}
 use Rattle.std.proofs.lemmas.List.Elements.{All-append, All-cons, All-head, All-map, All-tail}
-use Rattle.std.proofs.lemmas.Option.{same_Some, slice_get-map, slice_get_cases}
+use Rattle.std.proofs.lemmas.Option.{same_Some, slice_get-map}
 use Rattle.disk_model.specs.Files.{Name, Files}
 use Rattle.found_files.specs.Candidate.{IsCandidate}
 use Rattle.found_files.specs.declared.finding.Candidate.{Candidate}
@@ -17,13 +17,14 @@ use Rattle.durable_write.specs.Held.{entry_of}
 use Rattle.tier_store.specs.Change.{IsKnown}
 use Rattle.tier_store.specs.Seen.{granularities}
 use Rattle.tier_store.specs.Stores.{Stores, list_at}
-use Rattle.store_reopen.specs.Adoption.{AreUnlisted, Finds, IsUnlisted, ListsNone, Takes, place_of, row_of}
+use Rattle.store_reopen.specs.Adoption.{Finds, IsUnlisted, ListsNone, Takes, place_of, row_of}
 use Rattle.store_reopen.specs.Adoption as rule
 use Rattle.store_reopen.specs.Finding.{AreUnlistedOf, IsOfPlace}
 use Rattle.store_reopen.specs.Listing.{AllHaveParts, AllMayList, AllUnopened, AreTurns, AtEachTurn, MayList}
 use Rattle.store_reopen.specs.Turns.{IsOfTurn, ListNone, TakesOf, done, takes, other}
 use Rattle.store_reopen.specs.declared.finding.Taken.{Taken}
 use Rattle.store_reopen.specs.declared.finding.Unlisted.{Unlisted}
+use Rattle.tier_store.proofs.Places.{manifest_at}
 
 -- WHAT ROWS LIST
 
@@ -31,16 +32,10 @@ all_unmapped : {X Y : Type 0} (P : X → Type 0) (f : Y → X) (ys : List Y) →
 all_unmapped {X} {Y} P f [] all = λ k d low. absurd (omega (arith, low))
 all_unmapped {X} {Y} P f (y ∷ ys) all = All-cons (λ (z : Y). P (f z)) y ys (All-head P (f y) (map f ys) all) (all_unmapped P f ys (All-tail P (f y) (map f ys) all))
 
-manifest_there : (ms : List ManifestState) (k : ℕ) → k < length ms → (m : ManifestState) × (slice_get ms k ≡ Some m)
-manifest_there ms k low = elim (slice_get_cases ms k).1 [
-  | inl found ↦ (found.0, found.2)
-  | inr behind ↦ absurd (omega (arith, low, behind.0))
-]
-
 module _ (c : CatalogueState) (ms : List ManifestState) (held : Stores) (known : IsKnown c ms held) (place series : ℕ) (low : place ≤ 2) where
   none_held : ListNone place series ms → ListsNone place series held
   none_held none k le =
-      let m = manifest_there ms k (omega (arith, le, low, known.three)) in
+      let m = manifest_at ms k (omega (arith, le, low, known.three)) in
       all_unmapped (λ (e : Entry). e.series ≢ series) entry_of (list_at k held) (subst (λ (es : List Entry). All (λ (e : Entry). e.series ≢ series) es) (known.each k m.0 m.1).entries (none k m.0 le m.1))
 
   none_listed : ListsNone place series held → ListNone place series ms
@@ -127,7 +122,7 @@ all_found image rows ms xs three are = subst (All (IsFoundIn image rows ms)) (sy
   where
     of : (i : ℕ) → i < 3 → All (IsFoundIn image rows ms) (are.each i)
     of i low =
-        let m = manifest_there ms i (omega (arith, low, three)) in
+        let m = manifest_at ms i (omega (arith, low, three)) in
         let found = are.are_each i m.0 m.1 in
         finds_all image rows ms i m.0 m.1 found.names (are.each i) (λ k d low. (found.all.each k d low).0) found.finds
 

@@ -2,7 +2,7 @@
 use Rattle.std.proofs.Common.{◌≡◌, ◌≢◌, inl, inr, ℕ, zero, suc, ◌+◌, ◌≤◌, ◌<◌, List, [], ◌∷◌, ◌++◌, length, take, drop, Some, refl, sym, ◌∙◌, ap, subst, arith, append_assoc, append-nil, true, false, Bool, cond, get_or, map, ◌⊎◌, ◌-◌, Option, None}
 use Rattle.std.specs.Prelude.{All, nat_eq, nat_le, slice_get, Contains, IsTrue, nat_lt, if◌then◌else◌}
 use Rattle.std.specs.List.{AllByRecursion}
-use Rattle.std.proofs.lemmas.Bool.{cases_lt, cond-false, cond-true, eqb-true}
+use Rattle.std.proofs.lemmas.Bool.{cond-false, cond-true, eqb-true}
 use Rattle.std.proofs.lemmas.Bool.Decides.{nat_tests, Decides-eqb}
 use Rattle.std.proofs.lemmas.List.{length-append, take-append-drop, drop-take, drop-drop}
 use Rattle.std.proofs.lemmas.List.Concat.{flat_map-append}
@@ -45,6 +45,8 @@ use Rattle.tier_store.specs.Copied.{IsPartFile, WritesNext, end_after, listed_sa
 use Rattle.tier_store.proofs.CountingPieces.{IsFront, front_of, is_split}
 use Rattle.tier_store.proofs.Dropped.{from_filter, contains_filter}
 use Rattle.etl_mover.specs.Growing.{IsPlaced}
+use Rattle.etl_mover.proofs.Onward.{map_append}
+use Rattle.tier_store.proofs.Rising.{parts_apart}
 use Rattle.partition_names.proofs.PartLemmas as parts
 
 -- A LIST OF FILES AT A PLACE
@@ -264,17 +266,6 @@ pub rise_rest : (fs gs : List Filed) → PlacesRise (fs ++ gs) → PlacesRise gs
 rise_rest [] gs rise = rise
 rise_rest (x ∷ fs) gs rise = rise_rest fs gs rise.1
 
--- parts of one store don't overlap
-pub apart_parts : (g : Granularity) (p r : Part) → IsPart g p → IsPart g r → p.start < r.start → p.end ≤ r.start
-apart_parts g p r is is₂ less = elim (cases_lt r.start p.end) [
-  | inl over ↦
-      let some = parts.within g r is₂ in
-      let same : p ≡ r = parts.one_part g p r r.start is is₂ (omega (arith, less), over) (omega arith, some.1) in
-      let start = ap (λ (x : Part). x.start) same in
-      absurd (omega (arith, start, less))
-  | inr clear ↦ clear
-]
-
 start_less : (q r : Filed) → q.entry.series ≡ r.entry.series → Comes q r → q.entry.part.start < r.entry.part.start
 start_less q r own lt = grind (arith, nat_tests, own, lt)
 
@@ -289,7 +280,7 @@ pub later_all : (g : Granularity) (rows : List Row) (row : ℕ) (q : Filed) (bac
 later_all g rows row q [] n filed end rise all = tt
 later_all g rows row q (r ∷ back) n filed end rise all =
     let less = start_less q r (filed.1 ∙ sym all.0.1) (All-head (Comes q) r back rise.0) in
-    let clear = apart_parts g q.entry.part r.entry.part filed.0.part all.0.0.part less in
+    let clear = parts_apart g q.entry.part r.entry.part filed.0.part all.0.0.part less in
     let low : n ≤ r.entry.part.start = omega (arith, end, clear) in (
       (weaker (λ s. HoldsMoment r.entry.part s.t) (λ s. n ≤ s.t) (λ s in_part. let start = in_part.0 in omega (arith, low, start)) r.samples (recursion_from_All (λ (s : Sample). HoldsMoment r.entry.part s.t) r.samples all.0.0.inside), λ none. cc (none, all.0.0.some)),
       later_all g rows row q back n filed end (All-tail (Comes q) r back rise.0, rise.1.1) all.1,
@@ -301,7 +292,7 @@ earlier_all g rows row [] q back n filed begin rise all = refl
 earlier_all g rows row (f ∷ front) q back n filed begin rise all =
     let before = All-contains (Comes f) (front ++ q ∷ back) q rise.0 (Contains-append_right front (q ∷ back) q (0, omega arith, refl)) in
     let less = start_less f q (all.0.1 ∙ sym filed.1) before in
-    let clear = apart_parts g f.entry.part q.entry.part all.0.0.part filed.0.part less in
+    let clear = parts_apart g f.entry.part q.entry.part all.0.0.part filed.0.part less in
     let high : f.entry.part.end ≤ n = omega (arith, clear, begin) in
     let none = since_earlier n f.samples (weaker (λ s. HoldsMoment f.entry.part s.t) (λ s. s.t < n) (λ s in_part. let end = in_part.1 in omega (arith, high, end)) f.samples (recursion_from_All (λ (s : Sample). HoldsMoment f.entry.part s.t) f.samples all.0.0.inside)) in
     since-append n f.samples (of_files front) ∙ (ap (λ (l : List Sample). l ++ since n (of_files front)) none ∙ earlier_all g rows row front q back n filed begin rise.1 all.1)
@@ -340,10 +331,6 @@ first_files g rows row n xs all = all_front (IsOfRowIn g rows row) (take n (of_r
         by_test : (b : Bool) → nat_eq y.entry.series row ≡ b → AllByRecursion (IsOfRowIn g rows row) (of_row row ys) → AllByRecursion (IsOfRowIn g rows row) (cond b (y ∷ of_row row ys) (of_row row ys))
         by_test true is rest = ((all.0, eqb-true y.entry.series row is), rest)
         by_test false is rest = rest
-
-pub map_append : (xs ys : List Filed) → map entry_of (xs ++ ys) ≡ map entry_of xs ++ map entry_of ys
-map_append [] ys = refl
-map_append (x ∷ xs) ys = ap (λ (l : List Entry). x.entry ∷ l) (map_append xs ys)
 
 -- the file is set among those that are to be listed
 pub record SetsFile (files more : List Filed) (f : Filed) (pending : List Entry) : Type 1 where

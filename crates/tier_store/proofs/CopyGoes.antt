@@ -16,7 +16,7 @@ use Rattle.partition_names.specs.Part.{HoldsMoment, IsPart}
 use Rattle.store_manifest.specs.declared.entry.Entry.{Entry}
 use Rattle.tier_store.specs.Reviving.{GoesBehind, IsRevived, pending_with, reviving, IsNotRevived}
 use Rattle.tier_store.specs.declared.limbo.Retired.{Retired}
-use Rattle.tier_store.proofs.CopyWrites.{last_pushed, listed_here, of_part, Stays, Wrote, all_said, damaged_said, goes_whole, keeps_whole, kept_still, leaves_others, more_said, on_store, shown_still, stays, wrote_it}
+use Rattle.tier_store.proofs.CopyWrites.{listed_here, of_part, Stays, Wrote, all_said, damaged_said, goes_whole, keeps_whole, kept_still, leaves_others, more_said, on_store, shown_still, stays, wrote_it}
 use Rattle.tier_store.proofs.CopyFiles.{Start, after_split}
 use Rattle.disk_model.specs.declared.disk.DiskErr.{DiskErr}
 use Rattle.disk_model.specs.declared.disk.DiskErr.TheVariants.{Fault, Memory}
@@ -45,7 +45,7 @@ use Rattle.pv_catalog.proofs.Standing.{keeps_same}
 use Rattle.tier_store.specs.Revival.{AreWhole, KeepsWhole}
 use Rattle.tier_store.proofs.Revival.{read_whole}
 use Rattle.tier_store.proofs.Showing.{held_same}
-use Rattle.etl_mover.proofs.Onward.{targets}
+use Rattle.etl_mover.proofs.Onward.{targets, last_of-push}
 use Rattle.durable_write.specs.Flush.{with_files}
 use Rattle.durable_write.specs.Plan.{IsLastOf}
 use Rattle.tier_store.proofs.MovedFiles.{has_copied, is_ahead}
@@ -89,7 +89,7 @@ module _ (limbo : List Retired) (store : ℕ) (move : MoveState) where
   starts_same (Some e) p to goes at_hand is holds all =
       let of = All-contains of_move (move.pending ++ e ∷ []) e all (Contains-push move.pending e) in
       let start : e.part.start ≡ to.start = ap (λ (x : Part). x.start) (revived_to e p to goes at_hand is holds of) in
-      ap (λ (o : Option Entry). starts o move.series to p.head_len None) (last_pushed move.pending e move.listed)
+      ap (λ (o : Option Entry). starts o move.series to p.head_len None) (last_of-push move.pending e move.listed)
       ∙ (starts_last e move.series to p.head_len start ∙ sym (starts_some (last_of move.pending move.listed) e move.series to p.head_len start (last_before e p goes at_hand)))
 
   module _ (revived : Option Entry) (goes_behind : GoesBehind limbo store move revived) (all : All of_move (pending_with move.pending revived)) where
@@ -126,7 +126,7 @@ module _ (limbo : List Retired) (store : ℕ) (move : MoveState) where
 sets_rest : (entry : Entry) (ps new : List Entry) (listed : Option Entry) (n : ℕ) → entry.part.start ≡ n → IfSome (last_of ps listed) (λ (l : Entry). l.part.start < n) → SetsLast entry ps new → new ≡ ps ++ entry ∷ []
 sets_rest entry ps new listed n begin less (inr stands) = stands.becomes
 sets_rest entry ps new listed n begin less (inl takes) =
-    let last : last_of ps listed ≡ Some takes.last = ap (λ (l : List Entry). last_of l listed) takes.are ∙ last_pushed takes.rest takes.last listed in
+    let last : last_of ps listed ≡ Some takes.last = ap (λ (l : List Entry). last_of l listed) takes.are ∙ last_of-push takes.rest takes.last listed in
     let low : takes.last.part.start < n = subst (λ (o : Option Entry). IfSome o (λ (l : Entry). l.part.start < n)) last less in
     let same = takes.same in
     absurd (omega (arith, low, same, begin))
@@ -134,7 +134,7 @@ sets_rest entry ps new listed n begin less (inl takes) =
 -- the last of those that are to be listed begins before what lies behind
 pub last_in_pending : (ps : List Entry) (listed : Option Entry) (rest : List Entry) (l e : Entry) → ps ≡ rest ++ l ∷ [] → IfSome (last_of ps listed) (λ (x : Entry). x.part.start < e.part.start) → l.part.start ≡ e.part.start → ⊥
 last_in_pending ps listed rest l e are less same =
-    let last : last_of ps listed ≡ Some l = ap (λ (xs : List Entry). last_of xs listed) are ∙ last_pushed rest l listed in
+    let last : last_of ps listed ≡ Some l = ap (λ (xs : List Entry). last_of xs listed) are ∙ last_of-push rest l listed in
     let low : l.part.start < e.part.start = subst (λ (o : Option Entry). IfSome o (λ (x : Entry). x.part.start < e.part.start)) last less in
     omega (arith, low, same)
 
@@ -252,7 +252,7 @@ module _ (files later : Files) (opened : Name → ℕ) (past : Past) (told : Typ
           refl,
           λ x is_e.
               let one : e ≡ x = cc (is_e) in
-              (entry, ap (λ (l : List Entry). last_of l nm.listed) (sym pending_is ∙ set_here.0) ∙ last_pushed move.pending entry nm.listed, sym set_here.1 ∙ ap (λ (y : Entry). y.part.start) one),
+              (entry, ap (λ (l : List Entry). last_of l nm.listed) (sym pending_is ∙ set_here.0) ∙ last_of-push move.pending entry nm.listed, sym set_here.1 ∙ ap (λ (y : Entry). y.part.start) one),
         );
       }
         where

@@ -36,8 +36,8 @@ use Rattle.tier_store.specs.Revival.{AreWhole, IsAmong, IsOfLimbo, store_with, s
 use Rattle.tier_store.specs.Reviving.{AreBack, IsBehind, IsCovered, IsUncovered, SaysBehind, free_of, is_free, is_nothing, past, reviving}
 use Rattle.tier_store.specs.Seen.{granularities}
 use Rattle.tier_store.specs.declared.limbo.Retired.{Retired}
-use Rattle.tier_store.proofs.CopyFiles.{SetsFile, before_push, earlier_start, last_file, last_in, last_then, none_of_row, put_all_in, stands_behind, apart_parts, end_is, inside_until, since_earlier, weaker, within_row}
-use Rattle.tier_store.proofs.CopyWrites.{last_pushed, begins_within}
+use Rattle.tier_store.proofs.CopyFiles.{SetsFile, before_push, earlier_start, last_file, last_in, last_then, none_of_row, put_all_in, stands_behind, end_is, inside_until, since_earlier, weaker, within_row}
+use Rattle.tier_store.proofs.CopyWrites.{begins_within}
 use Rattle.tier_store.proofs.CopyGoes.{last_in_pending}
 use Rattle.tier_store.proofs.Dropped.{contains_filter, entry_in, from_filter, none_at, one_file}
 use Rattle.tier_store.proofs.MovedFiles.{valid_with}
@@ -56,6 +56,8 @@ use Rattle.tier_store.proofs.Revived.{found_at}
 use Rattle.partition_names.proofs.PartLemmas as parts
 use Rattle.tier_store.proofs.Revived as revived_files
 use Rattle.tier_store.proofs.CopyParts.{runs_by}
+use Rattle.etl_mover.proofs.Onward.{last_of-push}
+use Rattle.tier_store.proofs.Rising.{parts_apart}
 
 -- LISTS
 
@@ -367,7 +369,7 @@ module _ (tells : Bool) (all : SeenAll) (from : ℕ) (move : MoveState) (files :
       runs_with = runs_by (from + 1) tells all all move (reviving move (Some f.entry)) files (files ++ f ∷ []) held refl refl runs running_with (λ m are. let was = runs.parts m are in record { now = was.now; others = was.others; entries = was.entries; parts = was.parts }) (λ some. some) sets.are may_be_listed
 
       pub last_with : IsLastOf (map entry_of (put_all (list_at (from + 1) held) (files ++ f ∷ []))) move.series (last_of (move.pending ++ f.entry ∷ []) move.listed)
-      last_with = subst (IsLastOf (map entry_of (put_all (list_at (from + 1) held) (files ++ f ∷ []))) move.series) (sym (last_pushed move.pending f.entry move.listed)) (last_then move.series (put_all (list_at (from + 1) held) (files ++ f ∷ [])) (of_row move.series ahead) f row_with)
+      last_with = subst (IsLastOf (map entry_of (put_all (list_at (from + 1) held) (files ++ f ∷ []))) move.series) (sym (last_of-push move.pending f.entry move.listed)) (last_then move.series (put_all (list_at (from + 1) held) (files ++ f ∷ [])) (of_row move.series ahead) f row_with)
 
   -- WHAT IS LEFT BESIDE THEM
 
@@ -427,7 +429,7 @@ module _ (tells : Bool) (all : SeenAll) (from : ℕ) (move : MoveState) (files :
             (elim (cases_lt f.1.entry.part.start l.entry.part.start) [
               | inl less ↦ omega (arith, less, start)
               | inr more ↦ elim (cases_lt l.entry.part.start f.1.entry.part.start) [
-                | inl less ↦ let clear = apart_parts move.granularity l.entry.part f.1.entry.part l_part f_part less in let end = holds.1 in absurd (omega (arith, clear, end, begin, n_is, ends, high))
+                | inl less ↦ let clear = parts_apart move.granularity l.entry.part f.1.entry.part l_part f_part less in let end = holds.1 in absurd (omega (arith, clear, end, begin, n_is, ends, high))
                 | inr same ↦
                     let at : filed_at f.1 ≡ filed_at l = let s : f.1.entry.part.start ≡ l.entry.part.start = omega (arith, more, same) in let o : f.1.entry.series ≡ l.entry.series = own_f ∙ sym own in λ i. (o i, s i) in
                     absurd (none_at (put_all (list_at (from + 1) held) files) (filed_at l) f.1 (All-contains (λ (x : Filed). file_at (filed_at x) (put_all (list_at (from + 1) held) files) ≡ None) back l backs.unlisted l_in) f_in at)
@@ -506,7 +508,7 @@ module _ (tells : Bool) (all : SeenAll) (from : ℕ) (move : MoveState) (files :
                   let last_x = ap (λ (y : Entry). y.last) x.3 in
                   let r_start = ap (λ (y : Entry). y.part.start) f_is.1 in
                   let low : e.part.start < r.entry.part.start = subst (λ (o : Option Entry). IfSome o (λ (y : Entry). y.part.start < r.entry.part.start)) is less in
-                  let clear = apart_parts move.granularity x.1.entry.part limbo_f.entry.part x_part (part_of limbo_f f_is.0) (omega (arith, low, start, r_start)) in
+                  let clear = parts_apart move.granularity x.1.entry.part limbo_f.entry.part x_part (part_of limbo_f f_is.0) (omega (arith, low, start, r_start)) in
                   let ends = ends_within to.0.granularity held.rows x.1 x_filed in
                   let n_is = ap end_after is in
                   omega (arith, n_is, last_x, ends, clear)

@@ -31,7 +31,6 @@ use Rattle.tier_store.specs.Stores.{Stores, list_at, tier}
 use Rattle.tier_store.specs.Change.{Has}
 use Rattle.tier_store.specs.Copied.{end_after}
 use Rattle.tier_store.specs.Copying.{CopiesBeside, CopiesFurther, CopiesOrHas, FindsLine, FindsPart, HasLater, IsDamaged, SaysLine, line_of, of_line, with_heads, HasPassedAll, IsAllLater, IsNextPart, KnowsCopied, KnowsHeads, KnowsLengths, PassesParts, PassesRest, left_of, samples_ahead}
-use Rattle.tier_store.specs.Counting.{IsSampleStart}
 use Rattle.tier_store.specs.Finding.{IsBadPart, IsFrom, IsNext, IsUpTo, SaysFile, SplitsAt, no_line, unread}
 use Rattle.tier_store.specs.declared.copying.NextLine.{NextLine}
 use Rattle.tier_store.specs.declared.copying.NextLine.TheVariants as next
@@ -45,6 +44,7 @@ use Rattle.tier_store.proofs.CopyFiles.{end_is, left_more, lines_none, splits_he
 use Rattle.tier_store.proofs.CopyParts.{further, part_in, q_filed, runs_by, some_at}
 use Rattle.tier_store.proofs.MovedFiles.{valid_with}
 use Rattle.tier_store.proofs.Places.{manifest_of}
+use Rattle.etl_mover.specs.Lines.{IsSampleStart}
 
 -- HOW LONG PARTS ARE COPIED
 

@@ -45,7 +45,7 @@ use Rattle.durable_write.specs.Ends.{End}
 use Rattle.tier_store.specs.declared.copying.CopyEnd.{CopyEnd}
 use Rattle.tier_store.specs.declared.copying.LineLeft.{LineLeft}
 use Rattle.std.proofs.lemmas.Option.{same_Some}
-use Rattle.tier_store.proofs.CopyWrites.{last_pushed}
+use Rattle.etl_mover.proofs.Onward.{last_of-push}
 use Rattle.tier_store.specs.declared.copying.CopyEnd.TheVariants as ends
 use Rattle.tier_store.proofs.CopyLimbo as past_files
 
@@ -380,7 +380,7 @@ module _ (tells : Bool) (all : SeenAll) (from : ℕ) (move : MoveState) (files :
       go None says = subst (λ (y : Filed). since (end_after (last_of move.pending move.listed)) y.samples ≢ []) one (first stands)
       go (Some e) says =
           let later = later_some tells all from move files held has is stand retired whole q q_next part at_hand uncovered stands says.0 says.1 says.2 in
-          let ends : says.0.entry.last + 1 ≡ end_after (last_of (move.pending ++ e ∷ []) move.listed) = ap (λ (y : Entry). y.last + 1) says.3 ∙ sym (ap end_after (last_pushed move.pending e move.listed)) in
+          let ends : says.0.entry.last + 1 ≡ end_after (last_of (move.pending ++ e ∷ []) move.listed) = ap (λ (y : Entry). y.last + 1) says.3 ∙ sym (ap end_after (last_of-push move.pending e move.listed)) in
           subst (λ (k : ℕ). since k p.samples ≢ []) ends (subst (λ (y : Filed). since (says.0.entry.last + 1) y.samples ≢ []) one later)
 
   pub turn : (most : ℕ) → IsUncovered all.limbo (from + 2) move.series (last_of move.pending move.listed) q.entry → (IsTrue held.stands → since (end_after (last_of move.pending move.listed)) q.samples ≢ [])

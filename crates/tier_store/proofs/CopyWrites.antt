@@ -40,7 +40,7 @@ use Rattle.tier_store.specs.Pinned.{SeenAll, beside, IsThereTo, KeepsFronts, Kee
 use Rattle.tier_store.specs.Revival.{AreWhole, KeepsWhole, store_with, IsOfLimbo}
 use Rattle.tier_store.specs.declared.limbo.Retired.{Retired}
 use Rattle.tier_store.proofs.Beside.{OnStore, safe_beside}
-use Rattle.tier_store.proofs.CopyFiles.{GoesOnIn, IsLater, IsOfRowIn, PartLeft, SetsFile, SplitsHere, Start, Where, all_in, apart_parts, at_file, earlier_all, end_is, ends_later, first_files, inside_end, inside_until, last_file, last_in, last_then, later_all, later_begins, later_left, left_is, left_now, left_of_part, lines_none, long_there, none_rest, not_whole, now_passed, part_left, place_at, placed, put_all_in, rise_front, rise_rest, rise_row, row_then, samples_then, sets_file, splits_here, starts_before, still_passed, weaker, where_it_goes, whole_where, within_row, writes_next}
+use Rattle.tier_store.proofs.CopyFiles.{GoesOnIn, IsLater, IsOfRowIn, PartLeft, SetsFile, SplitsHere, Start, Where, all_in, at_file, earlier_all, end_is, ends_later, first_files, inside_end, inside_until, last_file, last_in, last_then, later_all, later_begins, later_left, left_is, left_now, left_of_part, lines_none, long_there, none_rest, not_whole, now_passed, part_left, place_at, placed, put_all_in, rise_front, rise_rest, rise_row, row_then, samples_then, sets_file, splits_here, starts_before, still_passed, weaker, where_it_goes, whole_where, within_row, writes_next}
 use Rattle.tier_store.proofs.Dropped.{Longer, by_files, contains_filter, entry_in, from_filter, none_at}
 use Rattle.tier_store.proofs.Left.{all_left, hold_at}
 use Rattle.tier_store.proofs.MovedFiles.{has_copied, same_size, valid_with}
@@ -57,7 +57,7 @@ use Rattle.std.proofs.lemmas.List.{length-append, length-set, length-take, take-
 use Rattle.std.proofs.lemmas.Option.{same_Some, slice_get_within, get_or_from_slice_get}
 use Rattle.std.proofs.Math.Seq.{map-set_same}
 use Rattle.etl_mover.specs.Copying.{last_of, SetsLast, after, behind, starts}
-use Rattle.etl_mover.proofs.Onward.{still_lists}
+use Rattle.etl_mover.proofs.Onward.{still_lists, last_of-push}
 use Rattle.partition_names.specs.declared.part.Part.{Part}
 use Rattle.pb_lines.specs.File.{lines_of}
 use Rattle.pb_lines.proofs.FileLines.{all_front, all_rest, lines_of-append}
@@ -75,6 +75,7 @@ use Rattle.tier_store.proofs.CopyPass.{copied_whole, lengths_finished}
 use Rattle.std.proofs.lemmas.Bool.Decides.{nat_tests}
 use Rattle.tier_store.specs.declared.copying.CopyEnd.TheVariants as ends
 use Rattle.tier_store.specs.Reviving.{free_of, is_free, is_nothing}
+use Rattle.tier_store.proofs.Rising.{parts_apart}
 use Rattle.partition_names.proofs.PartLemmas as parts
 
 -- the stores with the list that a place has
@@ -88,10 +89,6 @@ list_kept (suc (suc (suc i))) s low = absurd (omega (arith, low))
 pub put_cases : (xs fs : List Filed) (f : Filed) → Contains (put_all xs fs) f → Contains xs f ⊎ Contains fs f
 put_cases xs fs f within =
     All-contains (λ (x : Filed). Contains xs x ⊎ Contains fs x) (put_all xs fs) f (all_put_all (λ (x : Filed). Contains xs x ⊎ Contains fs x) xs fs (λ k d lt. inl (Contains-get_or xs k d lt)) (λ k d lt. inr (Contains-get_or fs k d lt))) within
-
-pub last_pushed : (xs : List Entry) (x : Entry) (o : Option Entry) → last_of (xs ++ x ∷ []) o ≡ Some x
-last_pushed [] x o = refl
-last_pushed (y ∷ ys) x o = last_pushed ys x (Some y)
 
 -- what the call tells of the lines, where the disk tells its files
 pub record WroteLines (files later : Files) (opened : Name → ℕ) (past : Past) (move : MoveState) (part : Entry) (start : Start) (entry : Entry) (at len most : ℕ) (Whole : Type 0) : Type 0 where
@@ -772,8 +769,8 @@ module _ {S : Type 0} (files_of : S → Files) (opened_of : S → Name → ℕ) 
           last_is = go sets ∙ ap (λ (e : Entry). Some e) (sym grown.entry_is)
             where
               go : SetsLast entry move.pending nm.pending → last_of nm.pending nm.listed ≡ Some entry
-              go (inl takes) = ap (λ (l : List Entry). last_of l nm.listed) takes.becomes ∙ last_pushed takes.rest entry nm.listed
-              go (inr stands) = ap (λ (l : List Entry). last_of l nm.listed) stands.becomes ∙ last_pushed move.pending entry nm.listed
+              go (inl takes) = ap (λ (l : List Entry). last_of l nm.listed) takes.becomes ∙ last_of-push takes.rest entry nm.listed
+              go (inr stands) = ap (λ (l : List Entry). last_of l nm.listed) stands.becomes ∙ last_of-push move.pending entry nm.listed
 
           last_new : IsLastOf (map entry_of (put_all (list_at (from + 1) held) more)) nm.series (last_of nm.pending nm.listed)
           last_new =
@@ -1136,7 +1133,7 @@ module _ {S : Type 0} (files_of : S → Files) (opened_of : S → Name → ℕ) 
           elim cp.1.writes [
             | inl w ↦
                 let ends = set_ends cp.1.entry move.pending nm.pending w.set in
-                let last : ends_now ≡ cp.1.entry.last + 1 = ap (λ (l : List Entry). end_after (last_of l nm.listed)) ends.1 ∙ ap end_after (last_pushed ends.0 cp.1.entry nm.listed) in
+                let last : ends_now ≡ cp.1.entry.last + 1 = ap (λ (l : List Entry). end_after (last_of l nm.listed)) ends.1 ∙ ap end_after (last_of-push ends.0 cp.1.entry nm.listed) in
                 let filed = (wn.becomes.own stands).filed in
                 let to = filed.to in
                 let of_entry = ap (λ (e : Entry). e.last) wn.entry_is in
@@ -1171,7 +1168,7 @@ module _ {S : Type 0} (files_of : S → Files) (opened_of : S → Name → ℕ) 
               let f = last_file b move.series e (subst (IsLastOf (map entry_of b.files) move.series) same is.last) in
               let filed = All-contains (IsFiled m.granularity b.rows) b.files f.1 (base_valid.filed.filed stands) (within_row b move.series f.0 f.1 f.2) in
               let known = last_all (λ (x : Entry). IsPart move.granularity x.part × (x.series ≡ move.series)) move.pending move.listed e is.runs.running.pending is.runs.running.listed same in
-              let clear = apart_parts move.granularity over.to e.part over.is known.0 before in
+              let clear = parts_apart move.granularity over.to e.part over.is known.0 before in
               let q_is = q_filed tells old from move files held has is line.file line.next part next_is stands in
               let of_part = q_part tells old from move files held has is line.file line.next part next_is in
               let some = parts.within is.runs.fine line.file.entry.part q_is.part in

@@ -1,10 +1,10 @@
 -- Lines are counted one after another, and those of a piece of a file are the next ones of its samples.
 use Rattle.std.proofs.Common.{◌≡◌, inl, inr, ℕ, ℤ, suc, ◌+◌, ◌≤◌, ◌<◌, List, [], ◌∷◌, ◌++◌, length, take, drop, get_or, Bool, true, false, cond, refl, sym, ◌∙◌, ap, subst, arith, append_assoc}
 use Rattle.std.specs.Prelude.{nat_le}
-use Rattle.std.proofs.Math.Seq.{drop-append_seam, drop-cons}
+use Rattle.std.proofs.Math.Seq.{drop-append_seam}
 use Rattle.std.proofs.lemmas.Bool.{cases_lt}
 use Rattle.std.proofs.lemmas.Bool.Decides.{nat_tests}
-use Rattle.std.proofs.lemmas.List.{length-append, length-take, length-drop, take-append-drop, take_all}
+use Rattle.std.proofs.lemmas.List.{length-append, length-take, length-drop}
 use Rattle.pb_wire.specs.declared.payload.PayloadType.{PayloadType}
 use Rattle.line_escape.specs.Unescaping.{HasNoNewline}
 use Rattle.series_model.specs.declared.sample.Sample.{Sample}
@@ -12,8 +12,10 @@ use Rattle.series_model.specs.Series.{since}
 use Rattle.series_model.proofs.RisingLists.{since-append}
 use Rattle.pb_lines.specs.Sample.{IsSampleLine}
 use Rattle.pb_lines.specs.File.{IsSample, AreSamples, lines_of}
-use Rattle.pb_lines.proofs.FileLines.{all-append, lines_of-append, one_line, no_line}
-use Rattle.tier_store.specs.Counting.{IsSampleStart, CountsLines}
+use Rattle.pb_lines.proofs.FileLines.{all-append, lines_of-append}
+use Rattle.tier_store.specs.Counting.{CountsLines}
+use Rattle.etl_mover.proofs.Taking.{line_at}
+use Rattle.etl_mover.specs.Lines.{IsSampleStart}
 
 -- LINE BY LINE
 
@@ -35,10 +37,6 @@ begins_counting ty year bytes n = record { samples = []; rest = bytes; are = tt;
 -- the bytes behind those that were counted
 pub rest_is : (ty : PayloadType) (year : ℤ) (bytes : List ℕ) (n len count : ℕ) (is : IsCounting ty year bytes n len count) → drop len bytes ≡ is.rest
 rest_is ty year bytes n len count is = ap (λ (l : List ℕ). drop len l) is.begin ∙ (ap (λ (k : ℕ). drop k (lines_of is.samples ++ is.rest)) is.long ∙ drop-append_seam (lines_of is.samples) is.rest)
-
--- a line and its newline stand at the front
-pub line_at : (rest : List ℕ) (end : ℕ) → end < length rest → get_or rest end 0 ≡ 10 → rest ≡ take end rest ++ 10 ∷ drop (suc end) rest
-line_at rest end within ten = sym (take-append-drop end rest) ∙ (ap (λ (l : List ℕ). take end rest ++ l) (drop-cons rest end 0 within) ∙ ap (λ (x : ℕ). take end rest ++ x ∷ drop (suc end) rest) ten)
 
 -- one sample more is counted, or not
 one_more : (n : ℕ) (xs : List Sample) (s : Sample) (more : ℕ) → more ≡ length (since n (s ∷ [])) → length (since n (xs ++ s ∷ [])) ≡ length (since n xs) + more
@@ -86,15 +84,3 @@ counts_all ty year bytes n len count is none = record {
 -- since nothing does, since no newline does, or since the line is no sample's
 pub none_at_end : (ty : PayloadType) (year : ℤ) (bytes : List ℕ) (len : ℕ) → length bytes ≤ len → IsSampleStart ty year (drop len bytes) → ⊥
 none_at_end ty year bytes len past start = let long = ap length start.are in omega (arith, long, length-drop len bytes, length-append start.sample.line (10 ∷ start.rest), past)
-
-pub none_torn : (ty : PayloadType) (year : ℤ) (rest : List ℕ) (end : ℕ) → HasNoNewline (take end rest) → end ≡ length rest → IsSampleStart ty year rest → ⊥
-none_torn ty year rest end whole all start = no_line rest start.sample.line start.rest (subst HasNoNewline (take_all end rest (omega arith)) whole) start.are
-
-pub none_meant : (ty : PayloadType) (year : ℤ) (rest : List ℕ) (end : ℕ) → end < length rest → get_or rest end 0 ≡ 10 → HasNoNewline (take end rest) → ((t : ℕ) → IsSampleLine ty year (take end rest) t → ⊥) → IsSampleStart ty year rest → ⊥
-none_meant ty year rest end within ten whole none start =
-    let same = one_line start.sample.line (take end rest) start.rest (drop (suc end) rest) start.is.whole whole (sym start.are ∙ line_at rest end within ten) in
-    none start.sample.t (subst (λ (l : List ℕ). IsSampleLine ty year l start.sample.t) same.0 start.is.meant)
-
--- a line with its newline ends at its first newline
-pub header_ends : (head line : List ℕ) (end : ℕ) → head ≡ line ++ 10 ∷ [] → HasNoNewline line → end < length head → get_or head end 0 ≡ 10 → HasNoNewline (take end head) → take end head ≡ line
-header_ends head line end are whole within ten front = (one_line (take end head) line (drop (suc end) head) [] front whole (sym (line_at head end within ten) ∙ are)).0

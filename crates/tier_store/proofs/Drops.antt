@@ -1,5 +1,5 @@
 -- The oldest entries of a row may be dropped, one after another.
-use Rattle.std.proofs.Common.{◌≡◌, ℕ, zero, suc, List, [], ◌∷◌, ◌==◌, map, take, get_or, filter, Bool, true, false, ◌||◌, refl, ◌∙◌, arith}
+use Rattle.std.proofs.Common.{◌≡◌, ℕ, List, [], ◌∷◌, ◌==◌, map, take, get_or, filter, Bool, true, false, ◌||◌, refl, ◌∙◌, arith}
 use Rattle.std.specs.Prelude.{All, IsTrue}
 use Rattle.std.specs.List.{AllByRecursion, list_any}
 use Rattle.std.proofs.lemmas.Bool.Decides.{nat_tests}
@@ -12,6 +12,7 @@ use Rattle.store_manifest.specs.declared.entry.Entry.{Entry}
 use Rattle.store_manifest.specs.Entries.{Place, place, comes_before, without, is_listed, is_place, AllCanFollow, InOrder}
 use Rattle.tier_store.specs.Retiring.{oldest_entries, drop_entry}
 use Rattle.tier_store.proofs.Removals.{of_series}
+use Rattle.etl_mover.proofs.Beginning.{take_order}
 
 -- an entry behind another is listed still without that one
 listed_still : (entries : List Entry) (p q : Place) → IsTrue (comes_before p q) → IsTrue (is_listed entries q) → IsTrue (is_listed (without place p entries) q)
@@ -33,16 +34,6 @@ drops_follow g (e ∷ es) entries order listed = (listed.0, drops_follow g es (w
     still [] before there = tt
     still (d ∷ ds) before there = (listed_still entries (place e) (place d) before.0 there.0, still ds before.1 there.1)
 
-some_take : (P : Entry → Type 0) (n : ℕ) (es : List Entry) → AllByRecursion P es → AllByRecursion P (take n es)
-some_take P zero es all = tt
-some_take P (suc n) [] all = tt
-some_take P (suc n) (e ∷ es) all = (all.0, some_take P n es all.1)
-
-order_take : (n : ℕ) (es : List Entry) → InOrder es → InOrder (take n es)
-order_take zero es order = tt
-order_take (suc n) [] order = tt
-order_take (suc n) (e ∷ es) order = (some_take (λ (d : Entry). comes_before (place e) (place d) ≡ true) n es order.0, order_take n es order.1)
-
 own_place : (e : Entry) → is_place (place e) (place e) ≡ true
 own_place e = grind (arith, nat_tests)
 
@@ -51,6 +42,6 @@ all_listed entries k d lt = list_any-from_Any (λ (x : Entry). is_place (place x
 
 pub oldest_follow : (g : Granularity) (row n : ℕ) (entries : List Entry) → InOrder entries → AllCanFollow g entries (map drop_entry (oldest_entries row n entries))
 oldest_follow g row n entries order =
-    drops_follow g (oldest_entries row n entries) entries (order_take n (filter (λ (e : Entry). e.series == row) entries) (of_series row entries order).1)
+    drops_follow g (oldest_entries row n entries) entries (take_order n (filter (λ (e : Entry). e.series == row) entries) (of_series row entries order).1)
     (recursion_from_All (λ (e : Entry). IsTrue (is_listed entries (place e))) (oldest_entries row n entries)
     (All-take (λ (e : Entry). IsTrue (is_listed entries (place e))) n (filter (λ (e : Entry). e.series == row) entries) (All-filter (λ (e : Entry). e.series == row) (λ (e : Entry). IsTrue (is_listed entries (place e))) entries (all_listed entries))))

@@ -17,12 +17,13 @@ use Rattle.pb_wire.specs.declared.payload.PayloadType.{PayloadType}
 use Rattle.series_model.specs.Series.{since}
 use Rattle.series_model.specs.declared.sample.Sample.{Sample}
 use Rattle.series_model.proofs.RisingLists.{since-append}
-use Rattle.tier_store.specs.Counting.{IsSampleStart}
 use Rattle.tier_store.specs.Finding.{AreLinesFrom, BeginsWithHeader, GoesOnWith, IsGoodUpTo, IsLaterStart, IsNoSooner, IsTold, IsUpTo, SaysFile, SkipsLines, SplitsAt, no_line}
 use Rattle.tier_store.specs.declared.finding.LaterLines.{LaterLines}
 use Rattle.tier_store.specs.declared.finding.LaterLines.TheVariants.{At, Damaged}
-use Rattle.tier_store.proofs.CountingLines.{IsCounting, line_at, rest_is, sample_at}
+use Rattle.tier_store.proofs.CountingLines.{IsCounting, rest_is, sample_at}
 use Rattle.tier_store.proofs.CountingPieces.{IsBetween, IsPiece, front_of, no_length, piece_of}
+use Rattle.etl_mover.proofs.Taking.{line_at}
+use Rattle.etl_mover.specs.Lines.{IsSampleStart}
 
 -- LINE BY LINE
 

@@ -1,5 +1,5 @@
 -- What is listed to a length stays listed to it, and keeps its bytes, through the calls that change the stores.
-use Rattle.std.proofs.Common.{◌≡◌, ◌⊎◌, inl, inr, false, Bool, ℕ, zero, suc, ◌<◌, ◌≤◌, ◌+◌, ◌++◌, List, [], ◌∷◌, length, map, get_or, Some, refl, sym, ◌∙◌, ap, subst, arith}
+use Rattle.std.proofs.Common.{◌≡◌, ◌⊎◌, inl, inr, false, Bool, ℕ, ◌<◌, ◌≤◌, ◌+◌, ◌++◌, List, [], ◌∷◌, length, map, get_or, Some, refl, sym, ◌∙◌, ap, subst, arith}
 use Rattle.std.specs.Prelude.{Contains, IsTrue, slice_get}
 use Rattle.std.proofs.lemmas.List.Elements.{All-contains, Contains-get_or}
 use Rattle.disk_model.specs.Files.{Name, Files}
@@ -26,7 +26,7 @@ use Rattle.tier_store.specs.Seen.{Seen, seen_on}
 use Rattle.tier_store.specs.Change.{IsKnown, Has, Doubts, IsOpen, HasEither, Call, EndsFrom, Changes, Registers, Renames, Switches}
 use Rattle.tier_store.specs.Pinned.{SeenAll, beside, listing_at, IsHeldTo, NoneShorter, IsNoShorter, IsRetiredTo, IsThereTo, KeepsShown, KeepsFronts}
 use Rattle.tier_store.specs.declared.limbo.Retired.{Retired}
-use Rattle.tier_store.proofs.Places.{within_three, one_manifest, tier_other}
+use Rattle.tier_store.proofs.Places.{within_three, one_manifest, tier_other, manifest_at}
 
 -- LISTS
 
@@ -67,12 +67,6 @@ known_to at s place m name len known here to =
 to_known : (at : Seen) (s : Stores) (place : ℕ) (m : ManifestState) (name : Name) (len : ℕ) → IsKnown at.catalogue at.manifests s → slice_get at.manifests place ≡ Some m → ListsTo place s name len → IsListedTo (listing_at at place m.entries) name len
 to_known at s place m name len known here to =
     subst (λ (r : List Row). Lists place r m.entries name len) (sym known.rows) (subst (λ (es : List Entry). Lists place s.rows es name len) (sym (known.each place m here).entries) to)
-
--- a manifest stands at each of the three places
-manifest_at : (ms : List ManifestState) (place : ℕ) → place < length ms → (m : ManifestState) × (slice_get ms place ≡ Some m)
-manifest_at [] place low = absurd (omega (arith, low))
-manifest_at (m ∷ ms) zero low = (m, refl)
-manifest_at (m ∷ ms) (suc place) low = manifest_at ms place (omega (arith, low))
 
 -- where nothing stands in doubt
 pub has_held : (tells : Bool) (at : Seen) (s : Stores) (place : ℕ) (name : Name) (len : ℕ) → Has tells at s → place < 3 → ListsTo place s name len → IsHeldTo at name len

@@ -1,11 +1,12 @@
 -- How many samples of a file are later than a moment.
-use Rattle.std.specs.Prelude.{◌≡◌, ◌-◌, ◌+◌, ℕ, ℤ, List, ◌∷◌, ◌++◌, length, take, drop, Option, None, Some}
+use Rattle.std.specs.Prelude.{◌≡◌, ◌-◌, ◌+◌, ℕ, ℤ, List, ◌++◌, length, take, drop, Option, None, Some}
 use Rattle.disk_model.specs.Files.{Name, Files, HasFile}
 use Rattle.disk_model.specs.Past.{Past, Passes}
 use Rattle.pb_wire.specs.declared.payload.PayloadType.{PayloadType}
 use Rattle.series_model.specs.declared.sample.Sample.{Sample}
 use Rattle.series_model.specs.Series.{since}
-use Rattle.pb_lines.specs.File.{IsSample, AreSamples, lines_of}
+use Rattle.pb_lines.specs.File.{AreSamples, lines_of}
+use Rattle.etl_mover.specs.Lines.{IsSampleStart}
 
 -- the first moment that is later than this one, and 0 where there is none
 abbrev pub behind : Option ℕ → ℕ
@@ -17,13 +18,6 @@ pub record ReadsDisk (files later : Files) (opened after : Name → ℕ) (old ne
   pub same : later ≡ files
   pub same_opened : after ≡ opened
   pub any_moment : Passes (λ a b. b ≡ a) old new
-
--- at the front stands a whole line of a sample of this type and year
-pub record IsSampleStart (ty : PayloadType) (year : ℤ) (bytes : List ℕ) : Type 0 where
-  pub sample : Sample
-  pub rest : List ℕ
-  pub are : bytes ≡ sample.line ++ 10 ∷ rest
-  pub is : IsSample ty year sample
 
 -- So many bytes are the lines of all samples that stand at the front one after another, and so many of these are not earlier than n.
 pub record CountsLines (ty : PayloadType) (year : ℤ) (bytes : List ℕ) (n len count : ℕ) : Type 0 where

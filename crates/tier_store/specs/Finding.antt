@@ -8,9 +8,9 @@ use Rattle.pb_lines.specs.File.{IsSample, AreSamples, lines_of}
 use Rattle.pb_lines.specs.Header.{IsHeaderLine}
 use Rattle.series_model.specs.Series.{since}
 use Rattle.series_model.specs.declared.sample.Sample.{Sample}
-use Rattle.tier_store.specs.Counting.{IsSampleStart}
 use Rattle.tier_store.specs.declared.finding.LaterLines.{LaterLines}
 use Rattle.tier_store.specs.declared.finding.LaterLines.TheVariants.{At, Damaged}
+use Rattle.etl_mover.specs.Lines.{IsSampleStart}
 
 -- at the front stands a whole line of a sample of this type and year that is not earlier than n
 pub record IsLaterStart (ty : PayloadType) (year : ℤ) (n : ℕ) (bytes : List ℕ) : Type 0 where
