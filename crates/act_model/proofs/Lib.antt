@@ -31,4 +31,4 @@ mod LivesLaws
 mod AnswerLaws
 mod ToldLaws
 mod ExampleLaws
-mod Places
+pub mod Places

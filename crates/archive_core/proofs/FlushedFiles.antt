@@ -6,11 +6,10 @@ use Rattle.std.proofs.lemmas.Bool.{cases_lt}
 use Rattle.std.proofs.lemmas.Bool.Decides.{nat_tests}
 use Rattle.std.proofs.lemmas.List.{append_cancel_left, length-append}
 use Rattle.std.proofs.lemmas.List.Concat.{flat_map-append}
-use Rattle.std.proofs.lemmas.List.Elements.{All-contains, All-filter, All-from_recursion, Contains-append_right, Contains-get_or, filter_passes}
+use Rattle.std.proofs.lemmas.List.Elements.{All-contains, All-from_recursion, Contains-append_right, Contains-get_or}
 use Rattle.partition_names.specs.declared.granularity.Granularity.{Granularity}
 use Rattle.partition_names.proofs.PartLemmas.{one_part, within}
 use Rattle.pb_lines.specs.File.{lines_of}
-use Rattle.pb_lines.proofs.FileLines.{lines_of-append}
 use Rattle.pv_catalog.specs.declared.row.Row.{Row}
 use Rattle.series_model.specs.Series.{RisesFrom}
 use Rattle.series_model.specs.declared.sample.Sample.{Sample}
@@ -20,11 +19,11 @@ use Rattle.durable_write.specs.Flush.{EndsRow, PlacesRise, file_at, put_all}
 use Rattle.durable_write.specs.Held.{Filed, IsFiled, IsListed, filed_at, samples_of}
 use Rattle.durable_write.specs.Plan.{of_row}
 use Rattle.durable_write.specs.Revival.{AreUnlisted}
-use Rattle.durable_write.proofs.Listed.{found, rise_filter, rise_put_all}
+use Rattle.durable_write.proofs.Listed.{found, rise_put_all}
 use Rattle.durable_write.proofs.PutFile.{sooner}
 use Rattle.durable_write.proofs.Revival.{listed_stays, one_of_place}
 use Rattle.durable_write.proofs.Steps.{of_files}
-use Rattle.tier_store.proofs.Revived.{row_within, row_put_all, split, cut}
+use Rattle.tier_store.proofs.Revived.{row_put_all, cut, longer_front, lines_within, in_row, own_split}
 use Rattle.archive_core.specs.Growing.{FilesGoOn, HasMore}
 
 -- a file of the row is among the row's files
@@ -39,19 +38,6 @@ passes_in row (x ∷ xs) f own within = by_test (nat_eq x.entry.series row) refl
     by_test false is (suc k, low, at) rest = rest (k, omega (arith, low), at)
 
 -- LISTS OF SAMPLES
-
--- of two fronts of one list the longer begins with the shorter
-longer_front : (xs ys us vs : List Sample) → xs ++ us ≡ ys ++ vs → length ys ≤ length xs → (rest : List Sample) × (xs ≡ ys ++ rest)
-longer_front xs [] us vs is le = (xs, refl)
-longer_front [] (y ∷ ys) us vs is le = absurd (omega (arith, le))
-longer_front (x ∷ xs) (y ∷ ys) us vs is le =
-    let head : x ≡ y = cc in
-    let tail : xs ++ us ≡ ys ++ vs = cc in
-    let rest = longer_front xs ys us vs tail (omega (arith, le)) in
-    (rest.0, ap (λ (l : List Sample). x ∷ l) rest.1 ∙ ap (λ (z : Sample). z ∷ (ys ++ rest.0)) head)
-
-lines_within : (xs rest : List Sample) → length (lines_of xs) ≤ length (lines_of (xs ++ rest))
-lines_within xs rest = omega (arith, ap length (lines_of-append xs rest), length-append (lines_of xs) (lines_of rest))
 
 -- THE FLUSH
 
@@ -85,22 +71,12 @@ module _ (g : Granularity) (rows : List Row) (listed limbo written : List Filed)
   ends_listed : All (EndsRow listed) written
   ends_listed k d lt i e low = All-contains (λ (x : Filed). x.entry.series ≡ (get_or written k d).entry.series → x.entry.part.start ≤ (get_or written k d).entry.part.start) both (get_or listed i e) (ends k d lt) (listed_in (get_or listed i e) (Contains-get_or listed i e low))
 
-  in_row : (xs : List Filed) (f : Filed) → Contains (of_row row xs) f → Contains xs f × (f.entry.series ≡ row)
-  in_row xs f within = (
-    All-contains (Contains xs) (of_row row xs) f (All-filter (λ (x : Filed). nat_eq x.entry.series row) (Contains xs) xs (λ k d lt. Contains-get_or xs k d lt)) within,
-    (let test : nat_eq f.entry.series row ≡ true = All-contains (λ (x : Filed). nat_eq x.entry.series row ≡ true) (of_row row xs) f (filter_passes (λ (x : Filed). nat_eq x.entry.series row) xs) within in grind (arith, nat_tests, test)),
-  )
-
-  own_split : (xs : List Filed) (n : ℕ) → PlacesRise xs → All (λ (k : Filed). k.entry.series ≡ row → k.entry.part.start ≤ n) xs
-      → ((sooner n (of_row row xs) ≡ of_row row xs) × AllByRecursion (λ (k : Filed). k.entry.part.start < n) (of_row row xs)) ⊎ ((x : Filed) × (x.entry.part.start ≡ n) × Contains (of_row row xs) x × (of_row row xs ≡ sooner n (of_row row xs) ++ x ∷ []))
-  own_split xs n up all = split row n (of_row row xs) (rise_filter (λ (x : Filed). nat_eq x.entry.series row) xs up) (filter_passes (λ (x : Filed). nat_eq x.entry.series row) xs) (row_within row n xs all)
-
   module _ (f : Filed) (fs : List Filed) (are : of_row row written ≡ f ∷ fs) where
     abbrev n : ℕ
     n = f.entry.part.start
 
     f_in : Contains written f × (f.entry.series ≡ row)
-    f_in = in_row written f (subst (λ (l : List Filed). Contains l f) (sym are) (0, omega arith, refl))
+    f_in = in_row row written f (subst (λ (l : List Filed). Contains l f) (sym are) (0, omega arith, refl))
 
     up_to : All (λ (k : Filed). k.entry.series ≡ row → k.entry.part.start ≤ n) both
     up_to = subst (λ (r : ℕ). All (λ (k : Filed). k.entry.series ≡ r → k.entry.part.start ≤ n) both) f_in.1 (All-contains (EndsRow both) written f ends f_in.0)
@@ -181,7 +157,7 @@ module _ (g : Granularity) (rows : List Row) (listed limbo written : List Filed)
         ]
 
     both_last : (y : Filed) → y.entry.part.start ≡ n → Contains listed y → y.entry.series ≡ row → of_row row both ≡ sooner n (of_row row both) ++ y ∷ []
-    both_last y start y_in y_row = go (own_split both n both_rise up_to)
+    both_last y start y_in y_row = go (own_split row both n both_rise up_to)
       where
         there : Contains (of_row row both) y
         there = passes_in row both y (grind (arith, nat_tests, y_row)) (listed_in y y_in)
@@ -189,17 +165,17 @@ module _ (g : Granularity) (rows : List Row) (listed limbo written : List Filed)
         go : ((sooner n (of_row row both) ≡ of_row row both) × AllByRecursion (λ (k : Filed). k.entry.part.start < n) (of_row row both)) ⊎ ((x : Filed) × (x.entry.part.start ≡ n) × Contains (of_row row both) x × (of_row row both ≡ sooner n (of_row row both) ++ x ∷ [])) → of_row row both ≡ sooner n (of_row row both) ++ y ∷ []
         go (inl before) = let lt = All-contains (λ (k : Filed). k.entry.part.start < n) (of_row row both) y (All-from_recursion (λ (k : Filed). k.entry.part.start < n) (of_row row both) before.1) there in absurd (omega (arith, lt, start))
         go (inr (x, x_start, x_in, x_are)) =
-            let of = in_row both x x_in in
+            let of = in_row row both x x_in in
             let same : x ≡ y = one_of_place both y x both_rise (listed_in y y_in) of.0 (λ i. ((of.1 ∙ sym y_row) i, (x_start ∙ sym start) i)) in
             subst (λ (z : Filed). of_row row both ≡ sooner n (of_row row both) ++ z ∷ []) same x_are
 
     goes_some : FilesGoOn stands end (of_row row listed) (of_row row (put_all listed written))
-    goes_some = go (own_split listed n rise listed_up_to)
+    goes_some = go (own_split row listed n rise listed_up_to)
       where
         go : ((sooner n (of_row row listed) ≡ of_row row listed) × AllByRecursion (λ (k : Filed). k.entry.part.start < n) (of_row row listed)) ⊎ ((x : Filed) × (x.entry.part.start ≡ n) × Contains (of_row row listed) x × (of_row row listed ≡ sooner n (of_row row listed) ++ x ∷ [])) → FilesGoOn stands end (of_row row listed) (of_row row (put_all listed written))
         go (inl all) = inl (f ∷ fs, now ∙ ap (λ (l : List Filed). l ++ (f ∷ fs)) all.0)
         go (inr (y, start, y_within, y_are)) =
-            let of = in_row listed y y_within in
+            let of = in_row row listed y y_within in
             let len = longer_now y start of.0 of.1 in
             inr (record {
               front = sooner n (of_row row listed);

@@ -40,7 +40,7 @@ use Rattle.archive_core.proofs.LimboLists.{contains_filter, from_filter}
 use Rattle.archive_core.proofs.ListEnds.{own_entries}
 use Rattle.archive_core.proofs.Windows.{files_held, all_in}
 use Rattle.archive_core.proofs.MoveChanges.{before_oldest, end_put}
-use Rattle.archive_core.proofs.MoveLimbo.{HaveMachine, from_put, have_durable, later_same, none_put, own_free, own_part, same_back, has_file, back_at, back_inside, none_window, own_named, some_window, GoTogether, put_append, put_together, rises_before, same_filter, since_late, RevivesAs, revives, GoesWith, window_has}
+use Rattle.archive_core.proofs.MoveLimbo.{HaveMachine, from_put, have_durable, later_same, none_put, own_free, own_part, same_back, has_file, back_at, back_inside, none_window, own_named, some_window, GoTogether, put_append, put_together, rises_before, same_filter, RevivesAs, revives, GoesWith, window_has}
 use Rattle.archive_core.proofs.SameNames.{all_of, contains_cases, contains_head, contains_tail, of_all}
 use Rattle.archive_core.proofs.MoveChoice.{ahead_own, from_zero}
 use Rattle.archive_core.proofs.PutFirst.{holds_at}
@@ -59,6 +59,7 @@ use Rattle.archive_core.specs.LimboTies.{filed_of}
 use Rattle.archive_core.proofs.Opens.{told_tells}
 use Rattle.archive_core.proofs.PinMade.{lines_same}
 use Rattle.std.proofs.lemmas.List.Folds.{Any-from_list_any, list_any-from_Any}
+use Rattle.tier_store.proofs.CopyLimbo.{since_low}
 
 -- TESTS OF LISTS
 
@@ -247,7 +248,7 @@ module _ (tells : Bool) (at : Seen) (limbo : List Retired) (m : Machine) (held :
         let later = since end xs in
         same_filter (λ (s : Sample). nat_le (end_of (samples_at back move.row s.t)) s.t) (is_later own) later
         (all_of (λ (s : Sample). nat_le (end_of (samples_at back move.row s.t)) s.t ≡ is_later own s) later (λ s there.
-        later_same tells at limbo m held have told to n managed move.row r here retired whole ahead leads back in_limbo end covers s (of_all (λ (x : Sample). end ≤ x.t) later s (since_late end xs) there)))
+        later_same tells at limbo m held have told to n managed move.row r here retired whole ahead leads back in_limbo end covers s (of_all (λ (x : Sample). end ≤ x.t) later s (since_low end xs) there)))
 
     pub left_remains : (count : ℕ) → move.to ≡ move_end held move.store move.row count
         → past back move.row (since (end_of (samples_of move.row ahead)) (all_in (oldest (index_of move.store) move.row count held))) ≡ remaining m r move

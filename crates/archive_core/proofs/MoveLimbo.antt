@@ -5,7 +5,7 @@ use Rattle.std.specs.Prelude.{◌&&◌, Contains, filter, nat_le, ◌==◌, ◌�
 use Rattle.std.proofs.lemmas.Bool.Decides.{nat_tests}
 use Rattle.partition_names.specs.declared.part.Part.{Part}
 use Rattle.series_model.specs.declared.sample.Sample.{Sample}
-use Rattle.series_model.specs.Series.{end_from, end_of, since, RisesFrom}
+use Rattle.series_model.specs.Series.{end_from, end_of, RisesFrom}
 use Rattle.series_model.proofs.RisingLists.{end_from-ge}
 use Rattle.act_model.specs.Limbo.{FileState, revived, put, files_of}
 use Rattle.act_model.specs.MoveStep.{is_later}
@@ -75,15 +75,6 @@ same_test false false to from = refl
 pub same_filter : (p q : Sample → Bool) (xs : List Sample) → AllByRecursion (λ (s : Sample). p s ≡ q s) xs → filter p xs ≡ filter q xs
 same_filter p q [] same = refl
 same_filter p q (x ∷ xs) same = (λ k. cond (same.0 k) (x ∷ filter p xs) (filter p xs)) ∙ ap (λ (ys : List Sample). cond (q x) (x ∷ ys) ys) (same_filter p q xs same.1)
-
--- what is taken from a moment on is no earlier
-pub since_late : (n : ℕ) (xs : List Sample) → AllByRecursion (λ (s : Sample). n ≤ s.t) (since n xs)
-since_late n [] = tt
-since_late n (x ∷ xs) = by_test (nat_le n x.t) refl (since_late n xs)
-  where
-    by_test : (b : Bool) → nat_le n x.t ≡ b → AllByRecursion (λ (s : Sample). n ≤ s.t) (since n xs) → AllByRecursion (λ (s : Sample). n ≤ s.t) (cond b (x ∷ since n xs) (since n xs))
-    by_test true is rest = (grind (arith, nat_tests, is), rest)
-    by_test false is rest = rest
 
 -- a list that has a sample ends behind where it ends from anywhere sooner
 pub end_lower : (n : ℕ) (xs : List Sample) → end_of xs ≤ end_from n xs

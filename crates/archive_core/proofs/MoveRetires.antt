@@ -1,8 +1,8 @@
 -- The files of a retirement as files of the machine: which of them may go to limbo.
-use Rattle.std.proofs.Common.{◌≡◌, ◌≢◌, inl, inr, ℕ, zero, suc, ◌+◌, ◌<◌, ◌≤◌, List, [], ◌∷◌, ◌++◌, map, take, true, false, Option, Some, refl, sym, ◌∙◌, ap, subst, arith, Bool, cond}
+use Rattle.std.proofs.Common.{◌≡◌, ◌≢◌, inl, inr, ℕ, zero, suc, ◌+◌, ◌<◌, ◌≤◌, List, [], ◌∷◌, ◌++◌, map, take, true, false, Option, Some, refl, sym, ◌∙◌, ap, subst, arith}
 use Rattle.std.specs.FinMap.{get}
 use Rattle.std.specs.List.{AllByRecursion}
-use Rattle.std.specs.Prelude.{◌==◌, ◌&&◌, All, Contains, nat_eq, slice_get, filter}
+use Rattle.std.specs.Prelude.{◌==◌, ◌&&◌, All, Contains, nat_eq, slice_get}
 use Rattle.std.proofs.lemmas.Bool.Decides.{Decides-eqb, nat_tests}
 use Rattle.std.proofs.lemmas.List.{take-map}
 use Rattle.std.proofs.lemmas.List.Elements.{All-head, All-tail, All-take}
@@ -48,7 +48,6 @@ use Rattle.archive_core.proofs.SameNames.{all_of, contains_cases, get_all, of_al
 use Rattle.act_model.proofs.Puts.{window-append}
 use Rattle.archive_core.proofs.MoveChoice.{from_zero}
 use Rattle.archive_core.proofs.LimboTying.{tier_there}
-use Rattle.act_model.proofs.Rows.{of_filter}
 
 -- FILES OF A ROW
 
@@ -88,14 +87,6 @@ there_at p (g ∷ limbo) f there same = elim (contains_cases g limbo f there) [
 ]
 
 -- THE FILES OF A RETIREMENT
-
-pub filter_apart : (test : FileState → Bool) (xs : List FileState) → PlacesDiffer xs → PlacesDiffer (filter test xs)
-filter_apart test [] differ = tt
-filter_apart test (x ∷ xs) differ = by_test (test x) (filter_apart test xs differ.1)
-  where
-    by_test : (b : Bool) → PlacesDiffer (filter test xs) → PlacesDiffer (cond b (x ∷ filter test xs) (filter test xs))
-    by_test true rest = (of_filter (IsElsewhere x) test xs differ.0, rest)
-    by_test false rest = rest
 
 module _ (i : ℕ) (store : Store) where
   -- a file of the row as one of the machine

@@ -66,7 +66,7 @@ use Rattle.store_manifest.specs.Manifest.{ManifestState}
 use Rattle.store_manifest.specs.declared.entry.Entry.{Entry}
 use Rattle.durable_write.specs.Held.{Filed, entry_of}
 use Rattle.durable_write.specs.Plan.{of_row}
-use Rattle.tier_store.proofs.OpeningPieces.{begins_there}
+use Rattle.tier_store.proofs.OpeningPieces.{begins_there, asked_some}
 use Rattle.tier_store.proofs.Places.{manifest_at}
 use Rattle.tier_store.proofs.Rising.{own_series}
 use Rattle.act_model.specs.Rule.{index_of}
@@ -320,15 +320,6 @@ pins_failed tells p q name query Memory = tt
 
 -- A PIECE IS OPENED
 
--- a pin that is granted is there
-granted : (who : ℕ) (found : Option PinOf) (own : PinOf) → asked who found ≡ Ok own → found ≡ Some own
-granted who None own is = absurd (cc (is))
-granted who (Some pin) own is = by_test (nat_eq pin.owner who) is
-  where
-    by_test : (b : Bool) → ◌≡◌ {A = Result PinOf PinErr} (cond b (Ok pin) (Err (err.NotYours pin.owner))) (Ok own) → Some pin ≡ Some own
-    by_test true is = let same : pin ≡ own = cc in ap (λ (x : PinOf). Some x) same
-    by_test false is = absurd (cc (is))
-
 module _ (R : Type 0) (tells reader_tells : Bool) (bytes : R → List ℕ) (faults : R → ℕ) (p q : Parts) (who pin i : ℕ) (given : Answer R) (still : q.pinned ≡ p.pinned) (stand : PinsStand tells (beside p.at p.limbo) p.pinned) where
   -- how it is answered
   abbrev Opened : Answer R → Type 0
@@ -373,7 +364,7 @@ module _ (R : Type 0) (tells reader_tells : Bool) (bytes : R → List ℕ) (faul
     where
       by_piece : (own : PinOf) → asked who (get p.pinned pin) ≡ Ok own → (o : Option PinnedFile) → slice_get own.pieces i ≡ o → Opened given
       by_piece own is None none = subst Opened (sym (lacks own is none)) still
-      by_piece own is (Some file) here = by_kind own file (granted who (get p.pinned pin) own is) here (opened_as tells reader_tells bytes faults (beside p.at p.limbo) file given (opened own file is here))
+      by_piece own is (Some file) here = by_kind own file (asked_some who (get p.pinned pin) own is) here (opened_as tells reader_tells bytes faults (beside p.at p.limbo) file given (opened own file is here))
 
       by_asked : (r : Result PinOf PinErr) → asked who (get p.pinned pin) ≡ r → Opened given
       by_asked (Err e) is = subst Opened (sym (refused e is)) (refused_opening e)

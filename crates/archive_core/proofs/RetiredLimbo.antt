@@ -45,12 +45,13 @@ use Rattle.archive_core.proofs.LimboSwept.{pinned_there, there_pinned, stay_diff
 use Rattle.archive_core.proofs.Lists.{element, map_in, map_out}
 use Rattle.archive_core.proofs.MoveChanges.{retire_holds}
 use Rattle.archive_core.proofs.MoveCovers.{ends_move}
-use Rattle.archive_core.proofs.MoveRetires.{own, own_name, owns_differ, part_partition, retires_with, filter_apart}
+use Rattle.archive_core.proofs.MoveRetires.{own, own_name, owns_differ, part_partition, retires_with}
 use Rattle.archive_core.proofs.Windows.{index_low}
 use Rattle.archive_core.proofs.PinsSwept.{pinned_stay}
 use Rattle.archive_core.proofs.PinTies.{KeepsNames, names_made, pins_stay}
 use Rattle.archive_core.proofs.SameNames.{all_of}
 use Rattle.archive_core.proofs.RetiredRows.{unlisted_there}
+use Rattle.act_model.proofs.Places.{places_filter}
 
 -- ROWS KEEP THEIR NAMES
 
@@ -225,7 +226,7 @@ module _ (tells : Bool) (old new : Seen) (limbo left : List Retired) (m : Machin
     told_retires : Retires m change into
     told_retires =
         retires_with old.catalogue old.manifests held m have sound told i r here store moves n to (ends told) into (λ f there. (let one = into_from f there in (one.0, one.1, one.2))) (λ h there is. into_has h there (own_pinned h there is))
-        (filter_apart stays all_owns (owns_differ old.catalogue old.manifests held m have sound told i r here store moves n to (ends told)))
+        (places_filter stays all_owns (owns_differ old.catalogue old.manifests held m have sound told i r here store moves n to (ends told)))
 
     told_pinned : AllByRecursion (IsPinned m) into
     told_pinned = all_of (IsPinned m) into (λ f there. (let one = into_from f there in subst (λ (x : FileState). IsPinned m x) one.2 (pinned_own one.0 one.1 (stays_pinned one.0 one.1 (subst (λ (x : FileState). stays x ≡ true) (sym one.2) one.3)))))

@@ -37,7 +37,7 @@ use Rattle.durable_write.proofs.Names.{name_cases}
 -- WHAT IS PINNED
 
 -- a pin that is granted is there
-asked_some : (owner : ℕ) (found : Option PinOf) (p : PinOf) → asked owner found ≡ Ok p → found ≡ Some p
+pub asked_some : (owner : ℕ) (found : Option PinOf) (p : PinOf) → asked owner found ≡ Ok p → found ≡ Some p
 asked_some owner None p is = absurd (cc (is))
 asked_some owner (Some pin) p is = by_test (nat_eq pin.owner owner) is
   where

@@ -155,7 +155,7 @@ batch_front row xs (p ∷ ps) = by_test (nat_eq p.row row) (batch_front row (ove
     by_test false its rest = rest
 
 -- of two fronts of one list the longer begins with the shorter
-longer_front : (xs ys us vs : List Sample) → xs ++ us ≡ ys ++ vs → length ys ≤ length xs → (rest : List Sample) × (xs ≡ ys ++ rest)
+pub longer_front : (xs ys us vs : List Sample) → xs ++ us ≡ ys ++ vs → length ys ≤ length xs → (rest : List Sample) × (xs ≡ ys ++ rest)
 longer_front xs [] us vs is le = (xs, refl)
 longer_front [] (y ∷ ys) us vs is le = absurd (omega (arith, le))
 longer_front (x ∷ xs) (y ∷ ys) us vs is le =
@@ -164,7 +164,7 @@ longer_front (x ∷ xs) (y ∷ ys) us vs is le =
     let rest = longer_front xs ys us vs tail (omega (arith, le)) in
     (rest.0, ap (λ (l : List Sample). x ∷ l) rest.1 ∙ ap (λ (z : Sample). z ∷ (ys ++ rest.0)) head)
 
-lines_within : (xs rest : List Sample) → length (lines_of xs) ≤ length (lines_of (xs ++ rest))
+pub lines_within : (xs rest : List Sample) → length (lines_of xs) ≤ length (lines_of (xs ++ rest))
 lines_within xs rest = omega (arith, ap length (lines_of-append xs rest), length-append (lines_of xs) (lines_of rest))
 
 -- A FILE BY ITS MOMENT
@@ -212,6 +212,17 @@ none_revived limbo row (s ∷ samples) none = All-head (λ (x : Sample). samples
 
 -- THE FLUSH
 
+-- a row's files are of all files, and of the row
+pub in_row : (row : ℕ) (xs : List Filed) (f : Filed) → Contains (of_row row xs) f → Contains xs f × (f.entry.series ≡ row)
+in_row row xs f within = (
+  All-contains (Contains xs) (of_row row xs) f (All-filter (λ (x : Filed). nat_eq x.entry.series row) (Contains xs) xs (λ k d lt. Contains-get_or xs k d lt)) within,
+  (let test : nat_eq f.entry.series row ≡ true = All-contains (λ (x : Filed). nat_eq x.entry.series row ≡ true) (of_row row xs) f (filter_passes (λ (x : Filed). nat_eq x.entry.series row) xs) within in grind (arith, nat_tests, test)),
+)
+
+pub own_split : (row : ℕ) (xs : List Filed) (n : ℕ) → PlacesRise xs → All (λ (k : Filed). k.entry.series ≡ row → k.entry.part.start ≤ n) xs
+    → ((sooner n (of_row row xs) ≡ of_row row xs) × AllByRecursion (λ (k : Filed). k.entry.part.start < n) (of_row row xs)) ⊎ ((x : Filed) × (x.entry.part.start ≡ n) × Contains (of_row row xs) x × (of_row row xs ≡ sooner n (of_row row xs) ++ x ∷ []))
+own_split row xs n rise all = split row n (of_row row xs) (rise_filter (λ (x : Filed). nat_eq x.entry.series row) xs rise) (filter_passes (λ (x : Filed). nat_eq x.entry.series row) xs) (row_within row n xs all)
+
 -- what is known of a row's files, in the store and in limbo, and of what is written of it
 record IsOver (g : Granularity) (rows : List Row) (listed limbo written : List Filed) (row : ℕ) (batch : List RowSamples) : Type 0 where
   rise : PlacesRise listed
@@ -231,13 +242,6 @@ module _ (g : Granularity) (rows : List Row) (listed limbo written : List Filed)
 
   both_rise : PlacesRise both
   both_rise = rise_put_all listed limbo is_over.rise
-
-  -- a row's files are of all files, and of the row
-  in_row : (xs : List Filed) (f : Filed) → Contains (of_row row xs) f → Contains xs f × (f.entry.series ≡ row)
-  in_row xs f within = (
-    All-contains (Contains xs) (of_row row xs) f (All-filter (λ (x : Filed). nat_eq x.entry.series row) (Contains xs) xs (λ k d lt. Contains-get_or xs k d lt)) within,
-    (let test : nat_eq f.entry.series row ≡ true = All-contains (λ (x : Filed). nat_eq x.entry.series row ≡ true) (of_row row xs) f (filter_passes (λ (x : Filed). nat_eq x.entry.series row) xs) within in grind (arith, nat_tests, test)),
-  )
 
   of_its_row : (xs : List Filed) (f : Filed) → Contains xs f → f.entry.series ≡ row → Contains (of_row row xs) f
   of_its_row xs f within own = contains_filter (λ (x : Filed). nat_eq x.entry.series row) xs f within (grind (arith, nat_tests, own))
@@ -302,10 +306,6 @@ module _ (g : Granularity) (rows : List Row) (listed limbo written : List Filed)
       subst (λ (l : List Filed). samples_of row (put_all listed written) ≡ of_files (cut l listed_files) ++ of_files l) are
       (ap of_files (row_put_all row written listed is_over.rises ends_listed) ∙ flat_map-append (λ (f : Filed). f.samples) (cut (of_row row written) listed_files) (of_row row written))
 
-  own_split : (xs : List Filed) (n : ℕ) → PlacesRise xs → All (λ (k : Filed). k.entry.series ≡ row → k.entry.part.start ≤ n) xs
-      → ((sooner n (of_row row xs) ≡ of_row row xs) × AllByRecursion (λ (k : Filed). k.entry.part.start < n) (of_row row xs)) ⊎ ((x : Filed) × (x.entry.part.start ≡ n) × Contains (of_row row xs) x × (of_row row xs ≡ sooner n (of_row row xs) ++ x ∷ []))
-  own_split xs n rise all = split row n (of_row row xs) (rise_filter (λ (x : Filed). nat_eq x.entry.series row) xs rise) (filter_passes (λ (x : Filed). nat_eq x.entry.series row) xs) (row_within row n xs all)
-
   abbrev IsAdded : Type 0
   IsAdded = samples_of row (put_all listed written) ≡ of_files listed_files ++ (revived limbo row more ++ more)
 
@@ -318,7 +318,7 @@ module _ (g : Granularity) (rows : List Row) (listed limbo written : List Filed)
     n = f.entry.part.start
 
     F_in : (k : Filed) → Contains (f ∷ fs) k → Contains written k × (k.entry.series ≡ row)
-    F_in k within = in_row written k (subst (λ (l : List Filed). Contains l k) (sym are) within)
+    F_in k within = in_row row written k (subst (λ (l : List Filed). Contains l k) (sym are) within)
 
     f_in : Contains written f × (f.entry.series ≡ row)
     f_in = F_in f (0, omega arith, refl)
@@ -425,7 +425,7 @@ module _ (g : Granularity) (rows : List Row) (listed limbo written : List Filed)
                 ∙ ap (λ (l : List Sample). of_files listed_files ++ (l ++ more)) (sym back)))
 
     added_some : IsAdded
-    added_some = go (own_split both n both_rise up_to) (own_split listed n is_over.rise listed_up_to)
+    added_some = go (own_split row both n both_rise up_to) (own_split row listed n is_over.rise listed_up_to)
       where
         go : ((sooner n all_files ≡ all_files) × AllByRecursion (λ (k : Filed). k.entry.part.start < n) all_files) ⊎ ((x : Filed) × (x.entry.part.start ≡ n) × Contains all_files x × (all_files ≡ sooner n all_files ++ x ∷ []))
             → ((sooner n listed_files ≡ listed_files) × AllByRecursion (λ (k : Filed). k.entry.part.start < n) listed_files) ⊎ ((x : Filed) × (x.entry.part.start ≡ n) × Contains listed_files x × (listed_files ≡ sooner n listed_files ++ x ∷ [])) → IsAdded
@@ -433,11 +433,11 @@ module _ (g : Granularity) (rows : List Row) (listed limbo written : List Filed)
             at_none (append_cancel_left all_samples (of_files (f ∷ fs)) more (ap (λ (l : List Filed). of_files l ++ of_files (f ∷ fs)) (sym before.0) ∙ full_is (f ∷ fs) are)) all.0
             (λ l l_in own start. let lt = All-contains (λ (k : Filed). k.entry.part.start < n) all_files l (All-from_recursion (λ (k : Filed). k.entry.part.start < n) all_files before.1) (of_its_row both l (limbo_in l l_in) own) in absurd (omega (arith, lt, start)))
         go (inl before) (inr (y, start, y_in, y_are)) =
-            let of = in_row listed y y_in in
+            let of = in_row row listed y y_in in
             let lt = All-contains (λ (k : Filed). k.entry.part.start < n) all_files y (All-from_recursion (λ (k : Filed). k.entry.part.start < n) all_files before.1) (of_its_row both y (listed_in y of.0) of.1) in
             absurd (omega (arith, lt, start))
         go (inr (x, start, x_in, x_are)) (inl all) =
-            let of = in_row both x x_in in
+            let of = in_row row both x x_in in
             elim (in_either x of.0) [
               | inl there ↦
                   let lt = All-contains (λ (k : Filed). k.entry.part.start < n) listed_files x (All-from_recursion (λ (k : Filed). k.entry.part.start < n) listed_files all.1) (of_its_row listed x there of.1) in
@@ -445,8 +445,8 @@ module _ (g : Granularity) (rows : List Row) (listed limbo written : List Filed)
               | inr there ↦ at_limbo x start of.0 of.1 x_are there all.0
             ]
         go (inr (x, start, x_in, x_are)) (inr (y, start_y, y_in, y_are)) =
-            let of = in_row both x x_in in
-            let of_y = in_row listed y y_in in
+            let of = in_row row both x x_in in
+            let of_y = in_row row listed y y_in in
             let same : y ≡ x = one_of_place both x y both_rise of.0 (listed_in y of_y.0) (same_at y x (of_y.1 ∙ sym of.1) (start_y ∙ sym start)) in
             at_listed x start of.0 of.1 x_are (subst (Contains listed) same of_y.0) (subst (λ (z : Filed). listed_files ≡ sooner n listed_files ++ z ∷ []) same y_are)
 
