@@ -17,11 +17,11 @@ use Rattle.act_model.proofs.MadeLaws.{append_size}
 use Rattle.act_model.proofs.RowActs.{before_batch}
 use Rattle.act_model.proofs.StepLaws.{settled_sound}
 
-no_bytes : (xs : List Sample) → size_of xs ≡ 0 → xs ≡ []
+pub no_bytes : (xs : List Sample) → size_of xs ≡ 0 → xs ≡ []
 no_bytes [] none = refl
 no_bytes (x ∷ xs) none = absurd (omega arith)
 
-no_rows : (rows : List RowState) (i : ℕ) (row : RowState) → held_bytes rows ≡ 0 → slice_get rows i ≡ Some row → row.tail ≡ []
+pub no_rows : (rows : List RowState) (i : ℕ) (row : RowState) → held_bytes rows ≡ 0 → slice_get rows i ≡ Some row → row.tail ≡ []
 no_rows [] i row none here = absurd cc
 no_rows (x ∷ rows) zero row none here = let same : x ≡ row = cc in let one : size_of row.tail ≡ 0 = subst (λ (r : RowState). size_of r.tail ≡ 0) same (omega arith) in no_bytes row.tail one
 no_rows (x ∷ rows) (suc i) row none here = no_rows rows i row (omega arith) here
@@ -76,7 +76,7 @@ after_flush m limit s high =
         let later : RisesFrom (end_of (durable row)) (row.tail ++ []) = rw (append-nil row.tail) (s.each_row i row here).later in
         ap (λ w. since (end_of w) row.tail) is ∙ (ap (λ w. since (end_of row.tail) w) (sym (append-nil row.tail)) ∙ since_front (end_of (durable row)) row.tail [] later)
 
-abbrev flushed_as : ℕ → ℕ → ℕ → Reply
+abbrev pub flushed_as : ℕ → ℕ → ℕ → Reply
 flushed_as samples left doors = Flushed samples left doors
 
 left_in : {samples left doors a b c : ℕ} → flushed_as samples left doors ≡ flushed_as a b c → left ≡ b

@@ -48,10 +48,10 @@ own_one who e is = grind (arith, nat_tests)
 pub mine-append : (who : ℕ) (xs ys : List Entry) → mine who (xs ++ ys) ≡ mine who xs ++ mine who ys
 mine-append who xs ys = ap (λ (w : List Entry). map done_of w) (filter-append (λ e. e.who == who) xs ys) ∙ map-append done_of (own who xs) (own who ys)
 
-mine_other : (who : ℕ) (e : Entry) (es : List Entry) → (e.who == who) ≡ false → mine who (e ∷ es) ≡ mine who es
+pub mine_other : (who : ℕ) (e : Entry) (es : List Entry) → (e.who == who) ≡ false → mine who (e ∷ es) ≡ mine who es
 mine_other who e es is = rw is refl
 
-mine_same : (who : ℕ) (e : Entry) (es : List Entry) → (e.who == who) ≡ true → mine who (e ∷ es) ≡ done_of e ∷ mine who es
+pub mine_same : (who : ℕ) (e : Entry) (es : List Entry) → (e.who == who) ≡ true → mine who (e ∷ es) ≡ done_of e ∷ mine who es
 mine_same who e es is = rw is refl
 
 -- where one's own list is cut, the whole list is cut

@@ -9,6 +9,7 @@ use Rattle.act_model.specs.Machine.{held_bytes}
 use Rattle.act_model.specs.Rows.{is_empty, size_of}
 use Rattle.archive_halves.specs.Intake.{IntakeRow, known_at, tail_at, as_row, batch_from, bytes_in}
 use Rattle.archive_halves.proofs.KnownRows.{Ascends, HasEvents}
+use Rattle.act_model.proofs.FlushLeft.{no_bytes}
 
 empty_tail : (xs : List Sample) → is_empty xs ≡ true → xs ≡ []
 empty_tail [] is = refl
@@ -75,10 +76,6 @@ batch_bytes limit (k ∷ rows) taken = by_tests (nat_le limit taken) (is_empty k
     by_tests true c one two = omega arith
     by_tests false true one two = omega arith
     by_tests false false one two = omega arith
-
-no_bytes : (xs : List Sample) → size_of xs ≡ 0 → xs ≡ []
-no_bytes [] none = refl
-no_bytes (x ∷ xs) none = absurd (omega arith)
 
 no_tails : (rows : List IntakeRow) (r : ℕ) → held_bytes (map as_row rows) ≡ 0 → tail_at rows r ≡ []
 no_tails [] r none = refl

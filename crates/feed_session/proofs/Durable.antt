@@ -23,7 +23,7 @@ use Rattle.act_model.specs.Machine.{Machine, find_row, held_bytes, place, same_b
 use Rattle.act_model.specs.Offer.{OfferStep, gains, offered, offered_to}
 use Rattle.act_model.specs.Outcome.{Outcome, refused_at_once, refused, runs, faults_first, faults_between, faults_within, faults_removing, wants_memory, wants_memory_settled}
 use Rattle.act_model.specs.Reply.{Reply}
-use Rattle.act_model.specs.Rows.{RowState, accepted, durable, number_of, size_of, standing}
+use Rattle.act_model.specs.Rows.{RowState, accepted, durable, number_of, standing}
 use Rattle.act_model.specs.Sound.{IsSound}
 use Rattle.act_model.specs.Step.{MayAsk, Step}
 use Rattle.act_model.proofs.Histories.{cut_at, runs_onward, runs_sound, steps_at}
@@ -37,6 +37,7 @@ use Rattle.feed_session.specs.Session.{EndsIn, IsFlushed, acts_of}
 use Rattle.feed_session.specs.declared.end.Fed.{Fed}
 use Rattle.feed_session.specs.declared.end.Fed.TheVariants as fed
 use Rattle.feed_session.proofs.Asked.{done_as}
+use Rattle.act_model.proofs.FlushLeft.{no_rows, flushed_as}
 
 -- WHAT STAYS
 
@@ -140,18 +141,6 @@ module _ (name : List ℕ) (ty : PayloadType) (s : Sample) (now : ℕ) (m : Mach
 
 -- THE FLUSH
 
-no_bytes : (xs : List Sample) → size_of xs ≡ 0 → xs ≡ []
-no_bytes [] none = refl
-no_bytes (x ∷ xs) none = absurd (omega arith)
-
-no_tail : (rows : List RowState) (i : ℕ) (row : RowState) → held_bytes rows ≡ 0 → slice_get rows i ≡ Some row → row.tail ≡ []
-no_tail [] i row none here = absurd cc
-no_tail (x ∷ rows) zero row none here = let same : x ≡ row = cc in let one : size_of row.tail ≡ 0 = subst (λ (r : RowState). size_of r.tail ≡ 0) same (omega arith) in no_bytes row.tail one
-no_tail (x ∷ rows) (suc i) row none here = no_tail rows i row (omega arith) here
-
-abbrev flushed_as : ℕ → ℕ → ℕ → Reply
-flushed_as samples left doors = Flushed samples left doors
-
 left_is : {samples left doors a b c : ℕ} → flushed_as samples left doors ≡ flushed_as a b c → b ≡ left
 left_is is = cc
 
@@ -172,7 +161,7 @@ flush_tells limit old new reply samples left doors (wants_memory_settled p settl
 -- with an empty intake all that is accepted is durable
 all_durable : (m : Machine) (name : List ℕ) (x : Sample) → held_bytes m.rows ≡ 0 → HasSample accepted m name x → HasSample durable m name x
 all_durable m name x none h =
-    let empty : h.row.tail ≡ [] = no_tail m.rows h.place h.row none h.here in
+    let empty : h.row.tail ≡ [] = no_rows m.rows h.place h.row none h.here in
     let same : accepted h.row ≡ durable h.row = ap (λ (l : List Sample). durable h.row ++ since (end_of (durable h.row)) l) empty ∙ append-nil (durable h.row) in
     record { place = h.place; row = h.row; here = h.here; named = h.named; has = subst (λ (l : List Sample). Contains l x) same h.has }
 

@@ -13,7 +13,7 @@ use Rattle.act_model.specs.declared.acts.Act.TheVariants.{MoveBegin, MoveStep, S
 use Rattle.act_model.specs.declared.acts.Answer.TheVariants.{NoRow, Flushed, Memory}
 use Rattle.event_types.specs.declared.about.State.TheVariants.{Retired}
 use Rattle.act_model.specs.Reply.{Reply}
-use Rattle.act_model.specs.Rows.{RowState, Store, Short, Medium, Long, durable, accepted, size_of, is_running, period_of, tier, with_tier, next_store}
+use Rattle.act_model.specs.Rows.{RowState, Store, Short, Medium, Long, durable, accepted, is_running, period_of, tier, with_tier, next_store}
 use Rattle.act_model.specs.Limbo.{FileState, files_of, put}
 use Rattle.act_model.specs.Machine.{Machine, MoveState, Change, AddsRow, SetsState, Renames, Appends, Publishes, Unlists, held_bytes}
 use Rattle.act_model.specs.Changes.{made, changed, at, of_row, published, retired, without_held, Settles, no_doubt, as_not_made, as_made}
@@ -28,6 +28,7 @@ use Rattle.act_model.specs.Step.{Step, store_of}
 use Rattle.act_model.specs.History.{Entry, Runs}
 use Rattle.act_model.proofs.Rows.{Came, from_row, is_new, came}
 use Rattle.act_model.proofs.MadeLaws.{IsFresh, fresh, fresh_over, added_fresh}
+use Rattle.act_model.proofs.FlushLeft.{no_rows}
 
 -- no row has a tail
 abbrev pub IsDrained : Machine → Type 0
@@ -129,15 +130,6 @@ runs_drained [] old new all p d = subst (λ m. IsDrained m) (sym p) d
 runs_drained (e ∷ es) old new all p d = runs_drained es p.1 new all.1 p.3 (step_drained e.who e.act old p.1 e.answer all.0 p.2 d)
 
 -- A FLUSH THAT LEAVES NOTHING
-
-no_bytes : (xs : List Sample) → size_of xs ≡ 0 → xs ≡ []
-no_bytes [] none = refl
-no_bytes (x ∷ xs) none = absurd (omega arith)
-
-no_rows : (rows : List RowState) (i : ℕ) (row : RowState) → held_bytes rows ≡ 0 → slice_get rows i ≡ Some row → row.tail ≡ []
-no_rows [] i row none here = absurd cc
-no_rows (x ∷ rows) zero row none here = let same : x ≡ row = cc in let one : size_of row.tail ≡ 0 = subst (λ (r : RowState). size_of r.tail ≡ 0) same (omega arith) in no_bytes row.tail one
-no_rows (x ∷ rows) (suc i) row none here = no_rows rows i row (omega arith) here
 
 pub flush_drains : (limit : ℕ) (old new : Machine) (answer : Reply) (samples doors : ℕ) → FlushStep limit old answer new → answer ≡ Flushed samples 0 doors → IsDrained new
 flush_drains limit old new answer samples doors (refused_at_once answer' p) is = absurd cc

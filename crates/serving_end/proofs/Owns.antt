@@ -10,13 +10,7 @@ use Rattle.act_model.specs.declared.acts.Act.TheVariants.{Register, Pause, Resum
 use Rattle.act_model.specs.History.{Entry, Done, done_of, mine}
 use Rattle.act_model.specs.Roles.{is_of_link}
 use Rattle.serving_end.specs.Rounds.{IsShift}
-use Rattle.act_model.proofs.Histories.{mine-append}
-
-mine_other : (who : ℕ) (e : Entry) (es : List Entry) → (e.who == who) ≡ false → mine who (e ∷ es) ≡ mine who es
-mine_other who e es is = rw is refl
-
-mine_same : (who : ℕ) (e : Entry) (es : List Entry) → (e.who == who) ≡ true → mine who (e ∷ es) ≡ done_of e ∷ mine who es
-mine_same who e es is = rw is refl
+use Rattle.act_model.proofs.Histories.{mine_same, mine_other}
 
 -- DOORS THAT ARE DONE
 
