@@ -70,7 +70,7 @@ fresh_lines change rows row (fresh_over k name old by here is) = rw is (record {
 
 -- LINES AND BYTES
 
-since_lines : (P : Sample → Type 0) (n : ℕ) (xs : List Sample) → AllByRecursion P xs → AllByRecursion P (since n xs)
+pub since_lines : (P : Sample → Type 0) (n : ℕ) (xs : List Sample) → AllByRecursion P xs → AllByRecursion P (since n xs)
 since_lines P n [] all = tt
 since_lines P n (x ∷ xs) all = by_test (nat_le n x.t) (since_lines P n xs all.1)
   where
@@ -78,7 +78,7 @@ since_lines P n (x ∷ xs) all = by_test (nat_le n x.t) (since_lines P n xs all.
     by_test true more = (all.0, more)
     by_test false more = more
 
-since_size : (n : ℕ) (xs : List Sample) → size_of (since n xs) ≤ size_of xs
+pub since_size : (n : ℕ) (xs : List Sample) → size_of (since n xs) ≤ size_of xs
 since_size n [] = omega arith
 since_size n (x ∷ xs) = by_test (nat_le n x.t) (since_size n xs)
   where

@@ -39,7 +39,7 @@ pin_removed all n k other here = by_test (k == n) refl
 -- PIN
 
 -- no file of limbo is of a listed partition, so each begins with a listed piece
-listed_sound : (rule : Rule) (rows : List RowState) (limbo : List FileState) (i : ℕ) (row : RowState) → slice_get rows i ≡ Some row → AllByRecursion (IsUnlisted rows) limbo → (piece : FileState) → IsListedPiece rule i row piece → PieceSound rule rows limbo piece
+pub listed_sound : (rule : Rule) (rows : List RowState) (limbo : List FileState) (i : ℕ) (row : RowState) → slice_get rows i ≡ Some row → AllByRecursion (IsUnlisted rows) limbo → (piece : FileState) → IsListedPiece rule i row piece → PieceSound rule rows limbo piece
 listed_sound rule rows limbo i row here all piece l =
     record {
       here = (let low : i < length rows = slice_get_within rows i row here in let own : piece.row ≡ i = l.own in omega arith);

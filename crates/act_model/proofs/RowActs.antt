@@ -38,12 +38,12 @@ use Rattle.act_model.proofs.TailLaws.{Gain, no_gain, one_gain, RowTail, same_tai
 use Rattle.act_model.proofs.ChangeLaws.{at_row}
 use Rattle.act_model.proofs.StepLaws.{Acts-sound, Ends-sound, own_change}
 
-all_fewer : (moves : FinMap nat_cmp MoveState) (n : ℕ) (move : MoveState) → get (all_go moves) n ≡ Some move → get moves n ≡ Some move
+pub all_fewer : (moves : FinMap nat_cmp MoveState) (n : ℕ) (move : MoveState) → get (all_go moves) n ≡ Some move → get moves n ≡ Some move
 all_fewer moves n move here = here
 
 -- REGISTER
 
-same_bytes-refl : (xs : List ℕ) → same_bytes xs xs ≡ true
+pub same_bytes-refl : (xs : List ℕ) → same_bytes xs xs ≡ true
 same_bytes-refl [] = refl
 same_bytes-refl (x ∷ xs) = let one : (x == x) ≡ true = grind (arith, nat_tests) in rw one (same_bytes-refl xs)
 
@@ -107,12 +107,12 @@ state_sound wrong to never name old new answer s step =
 
 -- RENAME
 
-paused_is : (s : State) → is_paused s ≡ true → s ≡ Paused
+pub paused_is : (s : State) → is_paused s ≡ true → s ≡ Paused
 paused_is Running is = absurd cc
 paused_is Paused is = refl
 paused_is Retired is = absurd cc
 
-none_is : (xs : List Sample) → is_empty xs ≡ true → xs ≡ []
+pub none_is : (xs : List Sample) → is_empty xs ≡ true → xs ≡ []
 none_is [] is = refl
 none_is (s ∷ xs) is = absurd cc
 
@@ -309,7 +309,7 @@ pub act_follows : (m : Machine) (end : Outcome) → IsSound m → RowAct m end �
 act_follows m end s (stays_act answer) t f = f
 act_follows m end s (row_act answer i f row here tail bytes) t follows = tails_follow m (at i f) s (at_tails m i f row s here tail) bytes t follows
 
-append_bytes : (xs : List Sample) (s : Sample) → size_of (xs ++ s ∷ []) ≡ size_of xs + (length s.line + 1)
+pub append_bytes : (xs : List Sample) (s : Sample) → size_of (xs ++ s ∷ []) ≡ size_of xs + (length s.line + 1)
 append_bytes [] s = omega arith
 append_bytes (x ∷ xs) s = let more = append_bytes xs s in omega arith
 
@@ -327,10 +327,10 @@ tried_is P m row s now kept dropped full good = by_reason (admit_after row.next 
     by_reason None is = rw is (by_room (nat_lt room (held_bytes m.rows + (length s.line + 1))) refl is)
 
 -- the type of a number
-abbrev types : List PayloadType
+abbrev pub types : List PayloadType
 types = ScalarString ∷ ScalarShort ∷ ScalarFloat ∷ ScalarEnum ∷ ScalarByte ∷ ScalarInt ∷ ScalarDouble ∷ WaveformString ∷ WaveformShort ∷ WaveformFloat ∷ WaveformEnum ∷ WaveformByte ∷ WaveformInt ∷ WaveformDouble ∷ []
 
-own_number : (ty : PayloadType) → slice_get types (number_of ty) ≡ Some ty
+pub own_number : (ty : PayloadType) → slice_get types (number_of ty) ≡ Some ty
 own_number ScalarString = refl
 own_number ScalarShort = refl
 own_number ScalarFloat = refl
@@ -346,7 +346,7 @@ own_number WaveformByte = refl
 own_number WaveformInt = refl
 own_number WaveformDouble = refl
 
-one_type : (a b : PayloadType) → number_of a ≡ number_of b → a ≡ b
+pub one_type : (a b : PayloadType) → number_of a ≡ number_of b → a ≡ b
 one_type a b same = by_some (sym (own_number a) ∙ (ap (λ n. slice_get types n) same ∙ own_number b))
   where
     by_some : Some a ≡ Some b → a ≡ b
@@ -371,10 +371,10 @@ is_up row ty none = by_running (is_running row.state) refl
     by_running true is = is
     by_running false is = absurd (let bad = rw is at none in cc)
 
-gains_bytes : (m : Machine) (i : ℕ) (f : RowState → RowState) (s : Sample) → ((row : RowState) → (f row).tail ≡ row.tail ++ s ∷ []) → held_bytes m.rows + (length s.line + 1) ≤ room → held_bytes (each (at i f) 0 m.rows) ≤ 67108864
+pub gains_bytes : (m : Machine) (i : ℕ) (f : RowState → RowState) (s : Sample) → ((row : RowState) → (f row).tail ≡ row.tail ++ s ∷ []) → held_bytes m.rows + (length s.line + 1) ≤ room → held_bytes (each (at i f) 0 m.rows) ≤ 67108864
 gains_bytes m i f s is fits = let more = at_bytes i 0 f m.rows (length s.line + 1) (λ row. let one = append_bytes row.tail s in let same = ap size_of (is row) in omega arith) in omega arith
 
-same_bytes_at : (m : Machine) (i : ℕ) (f : RowState → RowState) → ((row : RowState) → (f row).tail ≡ row.tail) → held_bytes m.rows ≤ 67108864 → held_bytes (each (at i f) 0 m.rows) ≤ 67108864
+pub same_bytes_at : (m : Machine) (i : ℕ) (f : RowState → RowState) → ((row : RowState) → (f row).tail ≡ row.tail) → held_bytes m.rows ≤ 67108864 → held_bytes (each (at i f) 0 m.rows) ≤ 67108864
 same_bytes_at m i f is fits = let more = at_bytes i 0 f m.rows 0 (λ row. let same = ap size_of (is row) in omega arith) in omega arith
 
 offered_to_act : (m : Machine) (i : ℕ) (row : RowState) (ty : PayloadType) (s : Sample) (now : ℕ) → IsSound m → slice_get m.rows i ≡ Some row → IsEvent ty s → RowAct m (offered_to m i row ty s now)

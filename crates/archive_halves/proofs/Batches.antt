@@ -1,6 +1,6 @@
 -- A machine whose tails are a batch's samples that are later than what is durable is sound, where the batch was looked at.
 use Rattle.std.proofs.Common.{◌≡◌, ℕ, ◌+◌, ◌<◌, ◌≤◌, List, [], ◌∷◌, ◌++◌, Option, Some, None, Bool, true, false, cond, refl, ap, sym, ◌∙◌, subst, arith}
-use Rattle.std.specs.Prelude.{slice_get, nat_eq, nat_le}
+use Rattle.std.specs.Prelude.{slice_get, nat_eq}
 use Rattle.std.specs.List.{AllByRecursion}
 use Rattle.std.proofs.lemmas.Bool.Decides.{nat_tests}
 use Rattle.series_model.specs.declared.batch.RowSamples.{RowSamples}
@@ -21,6 +21,7 @@ use Rattle.archive_halves.specs.StoreStep.{later_than, ends_in, tailed, with_bat
 use Rattle.archive_halves.proofs.Closing.{IsClosed, is_base}
 use Rattle.archive_halves.proofs.Durables.{durable_in}
 use Rattle.archive_halves.proofs.Retailed.{FromRow, retailed}
+use Rattle.act_model.proofs.MadeLaws.{since_lines, since_size}
 
 -- what a Look told of a batch, beside the rows and the doubt: of a row that is closed it has nothing that isn't durable
 pub record BatchFits (rows : List RowState) (doubt : Option Change) (batch : List RowSamples) : Type 0 where
@@ -43,27 +44,11 @@ later_row ends (p ∷ batch) i = by_test (nat_eq p.row i) refl (later_row ends b
         ap (λ k. since (ends k) p.samples ++ of_row i (later_than ends batch)) same ∙ (ap (λ w. since (ends i) p.samples ++ w) more ∙ sym (since-append (ends i) p.samples (of_row i batch)))
     by_test false is more = more
 
-pub all_since : (P : Sample → Type 0) (n : ℕ) (xs : List Sample) → AllByRecursion P xs → AllByRecursion P (since n xs)
-all_since P n [] all = tt
-all_since P n (x ∷ xs) all = by_test (nat_le n x.t) (all_since P n xs all.1)
-  where
-    by_test : (b : Bool) → AllByRecursion P (since n xs) → AllByRecursion P (cond b (x ∷ since n xs) (since n xs))
-    by_test true more = (all.0, more)
-    by_test false more = more
-
 -- BYTES
-
-pub size_since : (n : ℕ) (xs : List Sample) → size_of (since n xs) ≤ size_of xs
-size_since n [] = omega arith
-size_since n (x ∷ xs) = by_test (nat_le n x.t) (size_since n xs)
-  where
-    by_test : (b : Bool) → size_of (since n xs) ≤ size_of xs → size_of (cond b (x ∷ since n xs) (since n xs)) ≤ size_of (x ∷ xs)
-    by_test true more = omega arith
-    by_test false more = omega arith
 
 later_bytes : (ends : ℕ → ℕ) (batch : List RowSamples) → bytes_in (later_than ends batch) ≤ bytes_in batch
 later_bytes ends [] = omega arith
-later_bytes ends (p ∷ batch) = let one = size_since (ends p.row) p.samples in let more = later_bytes ends batch in omega arith
+later_bytes ends (p ∷ batch) = let one = since_size (ends p.row) p.samples in let more = later_bytes ends batch in omega arith
 
 size_append : (xs ys : List Sample) → size_of (xs ++ ys) ≡ size_of xs + size_of ys
 size_append [] ys = omega arith
@@ -139,7 +124,7 @@ batch_sound m batch s none fits =
           here = o.1;
           same = record { short = refl; medium = refl; long = refl; name = refl; about = refl; state = refl; base = refl };
           later = RisesFrom-since 0 n (of_row i batch) (fits.rising i);
-          lines = record { tail = all_since (IsEvent o.0.about.ty) n (of_row i batch) (fits.lines i o.0 o.1); held = (s.lines i o.0 o.1).held };
+          lines = record { tail = since_lines (IsEvent o.0.about.ty) n (of_row i batch) (fits.lines i o.0 o.1); held = (s.lines i o.0 o.1).held };
           none = λ b. fits.closed i o.0 o.1 (is_base b);
         })
 

@@ -5,7 +5,6 @@ use Rattle.std.proofs.lemmas.Bool.Decides.{nat_tests}
 use Rattle.event_types.specs.declared.about.Method.{Method}
 use Rattle.event_types.specs.declared.about.Method.TheVariants.{Monitor, Scan}
 use Rattle.pb_wire.specs.declared.payload.PayloadType.{PayloadType}
-use Rattle.pb_wire.specs.declared.payload.PayloadType.TheVariants.{ScalarString, ScalarShort, ScalarFloat, ScalarEnum, ScalarByte, ScalarInt, ScalarDouble, WaveformString, WaveformShort, WaveformFloat, WaveformEnum, WaveformByte, WaveformInt, WaveformDouble}
 use Rattle.series_model.specs.Admission.{admit_before, admit_after}
 use Rattle.series_model.specs.declared.admission.Reason.{Reason}
 use Rattle.series_model.specs.declared.sample.Sample.{Sample}
@@ -15,13 +14,12 @@ use Rattle.act_model.specs.Event.{IsEvent}
 use Rattle.act_model.specs.Machine.{Machine, find_row, held_bytes}
 use Rattle.act_model.specs.Offer.{room, gains, with_held, offered_to, offered}
 use Rattle.act_model.specs.Outcome.{Outcome}
-use Rattle.act_model.specs.Rows.{RowState, number_of, standing, is_running, period_of, size_of}
+use Rattle.act_model.specs.Rows.{RowState, number_of, standing, is_running, period_of}
 use Rattle.act_model.specs.Sound.{IsHeld}
 use Rattle.act_model.specs.Tick.{moved_on, ticked_due, ticked}
 use Rattle.act_model.proofs.Onward.{each_forward}
-use Rattle.act_model.proofs.RowActs.{tried_is}
+use Rattle.act_model.proofs.RowActs.{tried_is, one_type, gains_bytes, same_bytes_at}
 use Rattle.act_model.proofs.Rows.{length-each}
-use Rattle.act_model.proofs.TailLaws.{at_bytes}
 
 -- what becomes of a row: one that runs may gain a sample
 pub data RowGains (row new : RowState) : Type 0 where
@@ -54,32 +52,6 @@ gains_at m p f row fits here gain bytes = record { each_row = λ i r there. let 
     by_test i r there true is = let same : i ≡ p = grind (arith, nat_tests) in let one : row ≡ r = some_same (sym here ∙ (ap (λ n. slice_get m.rows n) (sym same) ∙ there)) in subst (λ x. RowGains x (f x)) one gain
     by_test i r there false is = same_row refl refl (fits.held i r there)
 
--- the type of a number
-abbrev types : List PayloadType
-types = ScalarString ∷ ScalarShort ∷ ScalarFloat ∷ ScalarEnum ∷ ScalarByte ∷ ScalarInt ∷ ScalarDouble ∷ WaveformString ∷ WaveformShort ∷ WaveformFloat ∷ WaveformEnum ∷ WaveformByte ∷ WaveformInt ∷ WaveformDouble ∷ []
-
-own_number : (ty : PayloadType) → slice_get types (number_of ty) ≡ Some ty
-own_number ScalarString = refl
-own_number ScalarShort = refl
-own_number ScalarFloat = refl
-own_number ScalarEnum = refl
-own_number ScalarByte = refl
-own_number ScalarInt = refl
-own_number ScalarDouble = refl
-own_number WaveformString = refl
-own_number WaveformShort = refl
-own_number WaveformFloat = refl
-own_number WaveformEnum = refl
-own_number WaveformByte = refl
-own_number WaveformInt = refl
-own_number WaveformDouble = refl
-
-one_type : (a b : PayloadType) → number_of a ≡ number_of b → a ≡ b
-one_type a b same = by_some (sym (own_number a) ∙ (ap (λ n. slice_get types n) same ∙ own_number b))
-  where
-    by_some : Some a ≡ Some b → a ≡ b
-    by_some is = cc
-
 -- the first three reasons don't apply: the row runs, and the type is its own
 right_type : (row : RowState) (ty : PayloadType) → admit_before (Some (standing row)) (number_of ty) ≡ None → (is_running row.state ≡ true) × (row.about.ty ≡ ty)
 right_type row ty none = by_running (is_running row.state) refl none
@@ -91,16 +63,6 @@ right_type row ty none = by_running (is_running row.state) refl none
     by_running : (b : Bool) → is_running row.state ≡ b → admit_before (Some (standing row)) (number_of ty) ≡ None → (is_running row.state ≡ true) × (row.about.ty ≡ ty)
     by_running true is none = by_type (number_of row.about.ty == number_of ty) refl is none
     by_running false is none = absurd (let bad = rw is at none in cc)
-
-append_bytes : (xs : List Sample) (s : Sample) → size_of (xs ++ s ∷ []) ≡ size_of xs + (length s.line + 1)
-append_bytes [] s = omega arith
-append_bytes (x ∷ xs) s = let more = append_bytes xs s in omega arith
-
-gains_bytes : (m : Machine) (i : ℕ) (f : RowState → RowState) (s : Sample) → ((row : RowState) → (f row).tail ≡ row.tail ++ s ∷ []) → held_bytes m.rows + (length s.line + 1) ≤ room → held_bytes (each (at i f) 0 m.rows) ≤ 67108864
-gains_bytes m i f s is fits = let more = at_bytes i 0 f m.rows (length s.line + 1) (λ row. let one = append_bytes row.tail s in let same = ap size_of (is row) in omega arith) in omega arith
-
-same_bytes_at : (m : Machine) (i : ℕ) (f : RowState → RowState) → ((row : RowState) → (f row).tail ≡ row.tail) → held_bytes m.rows ≤ 67108864 → held_bytes (each (at i f) 0 m.rows) ≤ 67108864
-same_bytes_at m i f is fits = let more = at_bytes i 0 f m.rows 0 (λ row. let same = ap size_of (is row) in omega arith) in omega arith
 
 offered_to_gains : (m : Machine) (i : ℕ) (row : RowState) (ty : PayloadType) (s : Sample) (now : ℕ) → Fits m → slice_get m.rows i ≡ Some row → IsEvent ty s → Good m (offered_to m i row ty s now)
 offered_to_gains m i row ty s now fits here event = by_reason (admit_before (Some (standing row)) (number_of ty)) refl

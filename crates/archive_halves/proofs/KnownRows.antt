@@ -11,8 +11,8 @@ use Rattle.act_model.specs.Sound.{IsHeld}
 use Rattle.archive_halves.specs.Intake.{IntakeRow, known_at, as_row, kept_row, kept_rows, trimmed, first_known, taken_over, with_row, with_rows}
 use Rattle.archive_halves.specs.Store.{Registered}
 use Rattle.series_model.specs.Sampling.{first_cell}
-use Rattle.archive_halves.proofs.Batches.{all_since, size_since}
 use Rattle.archive_halves.proofs.Gaining.{RowGains, same_row, one_more}
+use Rattle.act_model.proofs.MadeLaws.{since_lines, since_size}
 
 -- numbers rise, from a number on
 abbrev pub Ascends : ℕ → List IntakeRow → Type 0
@@ -118,11 +118,11 @@ trimmed_ascends ends n (k ∷ ks) up = (up.0, trimmed_ascends ends (k.row + 1) k
 
 pub trimmed_lines : (ends : ℕ → ℕ) (ks : List IntakeRow) → AllByRecursion HasEvents ks → AllByRecursion HasEvents (map (trimmed ends) ks)
 trimmed_lines ends [] lines = tt
-trimmed_lines ends (k ∷ ks) lines = ((all_since (IsEvent k.about.ty) (ends k.row) k.tail lines.0.0, lines.0.1), trimmed_lines ends ks lines.1)
+trimmed_lines ends (k ∷ ks) lines = ((since_lines (IsEvent k.about.ty) (ends k.row) k.tail lines.0.0, lines.0.1), trimmed_lines ends ks lines.1)
 
 pub trimmed_bytes : (ends : ℕ → ℕ) (ks : List IntakeRow) → held_bytes (map as_row (map (trimmed ends) ks)) ≤ held_bytes (map as_row ks)
 trimmed_bytes ends [] = omega arith
-trimmed_bytes ends (k ∷ ks) = let one = size_since (ends k.row) k.tail in let more = trimmed_bytes ends ks in omega arith
+trimmed_bytes ends (k ∷ ks) = let one = since_size (ends k.row) k.tail in let more = trimmed_bytes ends ks in omega arith
 
 -- a row that was known before is of the same variable, with what was accepted, and no change of it is forgotten
 pub record SameKnown (k new : IntakeRow) : Type 0 where

@@ -10,10 +10,7 @@ use Rattle.act_model.specs.Rows.{is_empty, size_of}
 use Rattle.archive_halves.specs.Intake.{IntakeRow, known_at, tail_at, as_row, batch_from, bytes_in}
 use Rattle.archive_halves.proofs.KnownRows.{Ascends, HasEvents}
 use Rattle.act_model.proofs.FlushLeft.{no_bytes}
-
-empty_tail : (xs : List Sample) → is_empty xs ≡ true → xs ≡ []
-empty_tail [] is = refl
-empty_tail (x ∷ xs) is = absurd cc
+use Rattle.act_model.proofs.RowActs.{none_is}
 
 -- nothing of a smaller number
 batch_below : (limit n r : ℕ) (rows : List IntakeRow) (taken : ℕ) → Ascends n rows → r < n → of_row r (batch_from limit rows taken) ≡ []
@@ -101,7 +98,7 @@ batch_whole limit n r (k ∷ rows) taken up all =
         → of_row r (cond b [] (cond c (batch_from limit rows taken) (record { row = k.row; samples = k.tail } ∷ batch_from limit rows (taken + size_of k.tail)))) ≡ tail_at (k ∷ rows) r
     by_tests true full c is d own most one two below = sym (no_tails (k ∷ rows) r (omega arith))
     by_tests false full true is true own most one two below =
-        below taken (let at : k.row ≡ r = grind (arith, nat_tests) in omega arith) ∙ (sym (empty_tail k.tail is) ∙ sym (head_tail k rows r own))
+        below taken (let at : k.row ≡ r = grind (arith, nat_tests) in omega arith) ∙ (sym (none_is k.tail is) ∙ sym (head_tail k rows r own))
     by_tests false full true is false own most one two below = one (omega arith) ∙ sym (rest_tail k rows r own)
     by_tests false full false is true own most one two below =
         let at : k.row ≡ r = grind (arith, nat_tests) in

@@ -1,49 +1,26 @@
 -- A pin and details over the tail of a Look keep the machine sound.
-use Rattle.std.proofs.Common.{◌≡◌, ◌≢◌, ℕ, ◌+◌, ◌<◌, List, [], length, Option, Some, None, Bool, true, false, refl, ap, sym, ◌∙◌, subst, arith, append-nil, inl, inr}
+use Rattle.std.proofs.Common.{◌≡◌, ◌≢◌, ℕ, ◌+◌, List, Option, Some, None, Bool, true, false, refl, ap, sym, ◌∙◌, subst, arith, inl, inr}
 use Rattle.std.specs.Prelude.{slice_get, ◌⊎◌, ◌==◌, if◌then◌else◌}
-use Rattle.std.specs.FinMap.{FinMap, get, insert}
-use Rattle.std.specs.Ordering.{nat_cmp}
+use Rattle.std.specs.FinMap.{get, insert}
 use Rattle.std.specs.List.{AllByRecursion}
-use Rattle.std.proofs.lemmas.Option.{slice_get_within}
 use Rattle.series_model.specs.declared.sample.Query.{Query}
 use Rattle.series_model.specs.declared.sample.Sample.{Sample}
-use Rattle.series_model.specs.Archive.{IsPrefix}
 use Rattle.act_model.specs.Changes.{each, at}
 use Rattle.act_model.specs.Details.{details_refused, Describes}
-use Rattle.act_model.specs.Limbo.{FileState, tier_at}
-use Rattle.act_model.specs.Machine.{Machine, MoveState, PinState, Change, find_row}
+use Rattle.act_model.specs.Limbo.{FileState}
+use Rattle.act_model.specs.Machine.{Machine, PinState, Change, find_row}
 use Rattle.act_model.specs.Outcome.{Acts, all_go}
 use Rattle.act_model.specs.Pin.{Pins, pins, IsListedPiece, IsPieceOf}
 use Rattle.act_model.specs.Reply.{Reply}
-use Rattle.act_model.specs.Rows.{RowState, Store, Short, Medium, Long, tier, window, is_empty}
+use Rattle.act_model.specs.Rows.{RowState, Store, Short, Medium, Long, tier, window}
 use Rattle.act_model.specs.Rule.{Rule}
-use Rattle.act_model.specs.Sound.{MayMake, EndedMove, IsUnlisted, PieceSound, IsSound}
-use Rattle.act_model.proofs.PinActs.{pin_inserted, other_pins}
-use Rattle.act_model.proofs.Rows.{of_all, of_place, each_get}
+use Rattle.act_model.specs.Sound.{MayMake, EndedMove, PieceSound, IsSound}
+use Rattle.act_model.proofs.PinActs.{pin_inserted, other_pins, listed_sound}
+use Rattle.act_model.proofs.Rows.{of_all, each_get}
 use Rattle.act_model.proofs.StepLaws.{Acts-sound, same_sound}
 use Rattle.archive_halves.specs.Intake.{RowLook}
 use Rattle.archive_halves.specs.StoreStep.{tail_rows, tail_of, OverTail}
-
--- a listed piece is there: its file isn't in limbo
-listed_sound : (rule : Rule) (rows : List RowState) (limbo : List FileState) (i : ℕ) (row : RowState) → slice_get rows i ≡ Some row → AllByRecursion (IsUnlisted rows) limbo → (piece : FileState) → IsListedPiece rule i row piece → PieceSound rule rows limbo piece
-listed_sound rule rows limbo i row here all piece l =
-    record {
-      here = (let low : i < length rows = slice_get_within rows i row here in let own : piece.row ≡ i = l.own in omega arith);
-      partition = l.partition;
-      extend = of_place (IsUnlisted rows) (λ f. f.part ≡ piece.part → IsPrefix piece.samples f.samples) piece.row piece.store limbo (λ f a b bare same. absurd (listed f a b bare same)) all;
-      backed = λ other there. let same : row ≡ other = by_some (sym here ∙ (ap (λ n. slice_get rows n) (sym l.own) ∙ there)) in inl (subst (λ r. IsPrefix piece.samples (window piece.part (tier r piece.store))) same ([], sym (append-nil piece.samples ∙ l.samples)));
-    }
-  where
-    by_some : {a b : RowState} → Some a ≡ Some b → a ≡ b
-    by_some is = cc
-
-    listed : (f : FileState) → f.row ≡ piece.row → f.store ≡ piece.store → IsUnlisted rows f → f.part ≡ piece.part → ⊥
-    listed f a b bare same =
-        let there : tier_at rows f.row f.store ≡ tier row piece.store = ap (λ n. tier_at rows n f.store) (a ∙ l.own) ∙ (rw here (ap (λ w. tier row w) b)) in
-        let files : window f.part (tier_at rows f.row f.store) ≡ piece.samples = ap (λ w. window w (tier_at rows f.row f.store)) same ∙ (ap (λ w. window piece.part w) there ∙ sym l.samples) in
-        let none : is_empty piece.samples ≡ true = ap is_empty (sym files) ∙ bare in
-        let some : is_empty piece.samples ≡ false = l.some in
-        cc
+use Rattle.act_model.proofs.RowActs.{all_fewer}
 
 -- the row without the tail of the Look: another tail is no matter to its pieces
 other_tail : (xs : List Sample) (row : RowState) (store : Store) → tier (record row { tail = xs }) store ≡ tier row store
@@ -106,9 +83,6 @@ pinned_sound {who} look mid end new s (pins i row pin pieces found here free lea
         let sound = of_all (IsPieceOf mid.rule (tail_rows look mid) i row) (PieceSound mid.rule mid.rows mid.limbo) pieces own_sound (listed t) in
         subst (λ (p : PinState). AllByRecursion (PieceSound mid.rule mid.rows mid.limbo) p.pieces) (sym same'.1) (subst (λ w. AllByRecursion (PieceSound mid.rule mid.rows mid.limbo) w) (sym has) sound)
     by_case made t n other (inr there) has = s.pinned t n other there.1
-
-all_fewer : (moves : FinMap nat_cmp MoveState) (n : ℕ) (move : MoveState) → get (all_go moves) n ≡ Some move → get moves n ≡ Some move
-all_fewer moves n move here = here
 
 pub pins_keep : (who : ℕ) (query : Query) (look : RowLook) (old new : Machine) (reply : Reply) → IsSound old → Acts (details_refused look.name) (OverTail look (Pins who look.name query)) (λ m. None) all_go old reply new → IsSound new
 pins_keep who query look old new reply s step =

@@ -4,9 +4,8 @@ use Rattle.std.specs.Prelude.{◌⊎◌, ◌==◌, ◌&&◌, nat_le, slice_get}
 use Rattle.std.proofs.lemmas.Bool.Decides.{nat_tests}
 use Rattle.std.proofs.lemmas.Option.{same_Some}
 use Rattle.event_types.specs.declared.about.State.{State}
-use Rattle.event_types.specs.declared.about.State.TheVariants.{Running, Paused, Retired}
+use Rattle.event_types.specs.declared.about.State.TheVariants.{Paused}
 use Rattle.pv_name.specs.Key.{key_of}
-use Rattle.series_model.specs.declared.sample.Sample.{Sample}
 use Rattle.series_model.specs.Series.{since, end_of}
 use Rattle.act_model.specs.Changes.{changed_rows, made, Settles}
 use Rattle.act_model.specs.Machine.{Machine, Change, Renames, find_row, place, same_bytes}
@@ -17,7 +16,7 @@ use Rattle.act_model.specs.Reply.{Reply}
 use Rattle.act_model.specs.Rows.{RowState, durable, is_empty, is_paused}
 use Rattle.act_model.specs.Sound.{MayRename, IsSound}
 use Rattle.act_model.proofs.Onward.{onward_settled, onward_made}
-use Rattle.act_model.proofs.RowActs.{register_may}
+use Rattle.act_model.proofs.RowActs.{register_may, paused_is, none_is}
 use Rattle.act_model.proofs.StepLaws.{settled_sound, settled_none, same_sound, own_change, with_doubt}
 use Rattle.archive_halves.specs.Intake.{RowLook}
 use Rattle.archive_halves.specs.Store.{appended}
@@ -42,10 +41,6 @@ same_bytes_is (x ∷ xs) (y ∷ ys) same = by_head (x == y) refl same (same_byte
     by_head true is rest more = let head : x ≡ y = grind (arith, nat_tests) in let tail = more rest in cc
     by_head false is rest more = absurd cc
 
-pub same_bytes-refl : (a : List ℕ) → same_bytes a a ≡ true
-same_bytes-refl [] = refl
-same_bytes-refl (x ∷ xs) = let one : (x == x) ≡ true = grind (arith, nat_tests) in rw one (same_bytes-refl xs)
-
 -- the row at a place passes
 place_passes : (p : RowState → Bool) (k : ℕ) (rows : List RowState) (i : ℕ) → place p k rows ≡ Some i → (j : ℕ) × (i ≡ k + j) × ((row : RowState) × (slice_get rows j ≡ Some row) × (p row ≡ true))
 place_passes p k [] i here = absurd cc
@@ -65,15 +60,6 @@ found_name m name i row found here =
     ap (λ (r : RowState). r.name) (sym same) ∙ same_bytes_is x.2.0.name name x.2.2
 
 -- WHAT ISN'T REFUSED
-
-paused_is : (s : State) → is_paused s ≡ true → s ≡ Paused
-paused_is Running is = absurd cc
-paused_is Paused is = refl
-paused_is Retired is = absurd cc
-
-none_is : (xs : List Sample) → is_empty xs ≡ true → xs ≡ []
-none_is [] is = refl
-none_is (s ∷ xs) is = absurd cc
 
 -- the row is paused, hasn't changed since the Look, and all of its tail is durable
 pub record MayGoOn (number : ℕ → State → ℕ) (newname : List ℕ) (look : RowLook) (m : Machine) (i : ℕ) : Type 0 where
