@@ -1,6 +1,6 @@
 -- The acts on rows keep the machine sound.
 use Rattle.std.proofs.Common.{◌≡◌, ℕ, ◌+◌, ◌<◌, ◌≤◌, List, [], ◌∷◌, ◌++◌, length, Option, Some, None, zero, suc, Bool, true, false, cond, refl, ap, sym, ◌∙◌, arith, subst, append-nil}
-use Rattle.std.specs.Prelude.{◌-◌, ◌^◌, min, ◌==◌, nat_eq, nat_lt, nat_le, slice_get, if◌then◌else◌}
+use Rattle.std.specs.Prelude.{◌-◌, ◌^◌, min, ◌==◌, ◌&&◌, nat_eq, nat_lt, nat_le, slice_get, if◌then◌else◌}
 use Rattle.std.proofs.lemmas.Bool.Decides.{nat_tests}
 use Rattle.std.specs.List.{AllByRecursion}
 use Rattle.std.specs.Ordering.{nat_cmp}
@@ -46,6 +46,16 @@ all_fewer moves n move here = here
 pub same_bytes-refl : (xs : List ℕ) → same_bytes xs xs ≡ true
 same_bytes-refl [] = refl
 same_bytes-refl (x ∷ xs) = let one : (x == x) ≡ true = grind (arith, nat_tests) in rw one (same_bytes-refl xs)
+
+pub same_bytes_is : (a b : List ℕ) → same_bytes a b ≡ true → a ≡ b
+same_bytes_is [] [] same = refl
+same_bytes_is [] (y ∷ ys) same = absurd cc
+same_bytes_is (x ∷ xs) [] same = absurd cc
+same_bytes_is (x ∷ xs) (y ∷ ys) same = by_head (x == y) refl same (same_bytes_is xs ys)
+  where
+    by_head : (b : Bool) → (x == y) ≡ b → (b && same_bytes xs ys) ≡ true → (same_bytes xs ys ≡ true → xs ≡ ys) → (x ∷ xs) ≡ (y ∷ ys)
+    by_head true is rest more = let head : x ≡ y = grind (arith, nat_tests) in let tail = more rest in cc
+    by_head false is rest more = absurd cc
 
 place_none : (p : RowState → Bool) (i : ℕ) (rows : List RowState) (j : ℕ) (row : RowState) → place p i rows ≡ None → slice_get rows j ≡ Some row → p row ≡ false
 place_none p i [] j row none here = absurd cc

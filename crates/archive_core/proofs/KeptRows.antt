@@ -1,6 +1,6 @@
 -- The rows in memory beside the machine's.
 use Rattle.std.proofs.Common.{◌≡◌, ◌≢◌, ◌⊎◌, inl, inr, ℕ, zero, suc, ◌<◌, ◌≤◌, ◌+◌, List, [], ◌∷◌, length, take, drop, max, cond, Option, Some, None, Bool, true, false, refl, sym, ◌∙◌, ap, subst, arith}
-use Rattle.std.specs.Prelude.{◌==◌, ◌&&◌, slice_get, slice_set, map, IfSome, nat_le, nat_lt, if◌then◌else◌}
+use Rattle.std.specs.Prelude.{◌==◌, slice_get, slice_set, map, IfSome, nat_le, nat_lt, if◌then◌else◌}
 use Rattle.std.proofs.lemmas.Bool.Decides.{nat_tests}
 use Rattle.std.proofs.lemmas.Option.{same_Some, slice_get_within}
 use Rattle.append_buffer.specs.Tails.{TailState, tail_at}
@@ -23,6 +23,7 @@ use Rattle.archive_core.specs.declared.memory.RowMemory.{RowMemory}
 use Rattle.archive_core.specs.Memory.{IsRowOf, IsRowAt, AreRowsOf, cell_in, period_in, sampling_by}
 use Rattle.archive_core.proofs.Lists.{same_or_not, get_set_same, element}
 use Rattle.durable_write.proofs.Three.{get_set_other}
+use Rattle.act_model.proofs.RowActs.{same_bytes_is, same_bytes-refl}
 
 -- a row of the catalogue has its row of the machine
 pub row_there : (rows : List Row) (kept : List RowMemory) (ts : List TailState) (rs : List RowState) → AreRowsOf rows kept ts rs → (i : ℕ) (row : Row) → slice_get rows i ≡ Some row → (r : RowState) × (slice_get rs i ≡ Some r) × (r.name ≡ row.name)
@@ -50,20 +51,6 @@ sampling_cell Monitor = refl
 sampling_cell (Scan period) = refl
 
 -- NAMES
-
-pub same_bytes_is : (a b : List ℕ) → same_bytes a b ≡ true → a ≡ b
-same_bytes_is [] [] is = refl
-same_bytes_is [] (y ∷ ys) is = absurd (cc (is))
-same_bytes_is (x ∷ xs) [] is = absurd (cc (is))
-same_bytes_is (x ∷ xs) (y ∷ ys) is = by_test (x == y) refl is (same_bytes_is xs ys)
-  where
-    by_test : (b : Bool) → (x == y) ≡ b → (b && same_bytes xs ys) ≡ true → (same_bytes xs ys ≡ true → xs ≡ ys) → x ∷ xs ≡ y ∷ ys
-    by_test true one rest later = let head : x ≡ y = grind (arith, nat_tests) in let tail = later rest in cc (head, tail)
-    by_test false one rest later = absurd (cc (rest))
-
-pub same_bytes_self : (a : List ℕ) → same_bytes a a ≡ true
-same_bytes_self [] = refl
-same_bytes_self (x ∷ xs) = let head : (x == x) ≡ true = grind (arith, nat_tests) in rw head (same_bytes_self xs)
 
 -- the row that is found passes, and where none is found none does
 pub data Placed (p : RowState → Bool) (k : ℕ) (rs : List RowState) (n : ℕ) : Type 0 where
@@ -98,7 +85,7 @@ find_is m rows kept ts name found are is only = by_place (find_row m name) refl
     by_found (Some i) same is none =
         let there = row_there rows kept ts m.rows are i is.row is.here in
         let name_is : there.0.name ≡ name = there.2 ∙ is.is in
-        let passes : same_bytes there.0.name name ≡ true = ap (λ n. same_bytes n name) name_is ∙ same_bytes_self name in
+        let passes : same_bytes there.0.name name ≡ true = ap (λ n. same_bytes n name) name_is ∙ same_bytes-refl name in
         let fails : same_bytes there.0.name name ≡ false = place_none (λ row. same_bytes row.name name) 0 m.rows none i there.0 there.1 in
         absurd (cc (passes, fails))
 

@@ -18,7 +18,7 @@ use Rattle.tier_store.specs.Stores.{Stores}
 use Rattle.act_model.specs.Machine.{Machine, AddsRow, place, find_row, with_key, same_bytes}
 use Rattle.act_model.specs.Register.{register_refused, Registers}
 use Rattle.act_model.specs.Rows.{RowState}
-use Rattle.act_model.proofs.RowActs.{register_may}
+use Rattle.act_model.proofs.RowActs.{register_may, same_bytes_is, same_bytes-refl}
 use Rattle.act_model.proofs.StepLaws.{with_doubt}
 use Rattle.archive_core.specs.declared.memory.Doubt.TheVariants as kind
 use Rattle.archive_core.specs.declared.memory.RowMemory.{RowMemory}
@@ -28,7 +28,7 @@ use Rattle.archive_core.specs.Parts.{Parts}
 use Rattle.archive_core.specs.Stands.{Stands, Rests}
 use Rattle.archive_core.proofs.Growth.{register_grows}
 use Rattle.archive_core.proofs.Changing.{Makes}
-use Rattle.archive_core.proofs.KeptRows.{Placed, placed, place_some, place_none, same_bytes_is, same_bytes_self, row_at}
+use Rattle.archive_core.proofs.KeptRows.{Placed, placed, place_some, place_none, row_at}
 use Rattle.archive_core.proofs.Lists.{element}
 use Rattle.archive_core.proofs.Making.{register_holds}
 use Rattle.archive_core.proofs.Settled.{rests_has}
@@ -85,7 +85,7 @@ module _ (tells : Bool) (p : Parts) (m : Machine) (s : Stands tells p m) (name :
   pub find_some : (i : ℕ) → HasName rows i name → find_row m name ≡ Some i
   find_some i has =
       let r = name_there i has in
-      unique_place (λ (q : RowState). same_bytes q.name name) m.rows i r.0 r.1 (ap (λ (n : List ℕ). same_bytes n name) r.2 ∙ same_bytes_self name)
+      unique_place (λ (q : RowState). same_bytes q.name name) m.rows i r.0 r.1 (ap (λ (n : List ℕ). same_bytes n name) r.2 ∙ same_bytes-refl name)
       (λ j q got is. same_key i r.0 r.1 (ap key_of r.2) j q got (ap key_of (same_bytes_is q.name name is)))
 
   find_none : ((j : ℕ) → HasName rows j name → ⊥) → find_row m name ≡ None
@@ -94,7 +94,7 @@ module _ (tells : Bool) (p : Parts) (m : Machine) (s : Stands tells p m) (name :
   key_some : (i : ℕ) → HasKey rows i (key_of name) → with_key m name ≡ Some i
   key_some i has =
       let r = key_there i has in
-      unique_place (λ (q : RowState). same_bytes (key_of q.name) (key_of name)) m.rows i r.0 r.1 (ap (λ (n : List ℕ). same_bytes n (key_of name)) r.2 ∙ same_bytes_self (key_of name))
+      unique_place (λ (q : RowState). same_bytes (key_of q.name) (key_of name)) m.rows i r.0 r.1 (ap (λ (n : List ℕ). same_bytes n (key_of name)) r.2 ∙ same_bytes-refl (key_of name))
       (λ j q got is. same_key i r.0 r.1 r.2 j q got (same_bytes_is (key_of q.name) (key_of name) is))
 
   key_none : ((j : ℕ) → HasKey rows j (key_of name) → ⊥) → with_key m name ≡ None

@@ -25,10 +25,9 @@ use Rattle.archive_halves.proofs.Closing.{is_base, may_be_base}
 use Rattle.archive_halves.proofs.IntakeLaws.{intake_did, tail_known}
 use Rattle.archive_halves.proofs.Joined.{A, T, Legal, accepted_more, WasAt, IsJoined}
 use Rattle.archive_halves.proofs.KnownRows.{Ascends}
-use Rattle.archive_halves.proofs.Renaming.{same_bytes_is}
 use Rattle.archive_halves.proofs.Stepping.{half_back, half_forth, IsClosedAt}
 use Rattle.archive_halves.proofs.Telling.{look_told}
-use Rattle.act_model.proofs.RowActs.{same_bytes-refl}
+use Rattle.act_model.proofs.RowActs.{same_bytes-refl, same_bytes_is}
 
 -- LISTS
 

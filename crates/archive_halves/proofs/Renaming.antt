@@ -1,6 +1,6 @@
 -- A variable gets a new name by what a Look told: what isn't refused, and that the machine stays sound.
 use Rattle.std.proofs.Common.{◌≡◌, ℕ, ◌+◌, ◌<◌, ◌≤◌, List, [], ◌∷◌, length, Option, Some, None, Bool, true, false, cond, suc, refl, ap, sym, ◌∙◌, subst, arith, inl, inr}
-use Rattle.std.specs.Prelude.{◌⊎◌, ◌==◌, ◌&&◌, nat_le, slice_get}
+use Rattle.std.specs.Prelude.{◌⊎◌, nat_le, slice_get}
 use Rattle.std.proofs.lemmas.Bool.Decides.{nat_tests}
 use Rattle.std.proofs.lemmas.Option.{same_Some}
 use Rattle.event_types.specs.declared.about.State.{State}
@@ -16,7 +16,7 @@ use Rattle.act_model.specs.Reply.{Reply}
 use Rattle.act_model.specs.Rows.{RowState, durable, is_empty, is_paused}
 use Rattle.act_model.specs.Sound.{MayRename, IsSound}
 use Rattle.act_model.proofs.Onward.{onward_settled, onward_made}
-use Rattle.act_model.proofs.RowActs.{register_may, paused_is, none_is}
+use Rattle.act_model.proofs.RowActs.{register_may, paused_is, none_is, same_bytes_is}
 use Rattle.act_model.proofs.StepLaws.{settled_sound, settled_none, same_sound, own_change, with_doubt}
 use Rattle.archive_halves.specs.Intake.{RowLook}
 use Rattle.archive_halves.specs.Store.{appended}
@@ -30,16 +30,6 @@ use Rattle.archive_halves.proofs.Settling.{HasDoubtedTails, Went, Closes, acts_w
 use Rattle.archive_halves.proofs.StoreSound.{likes_sound}
 
 -- ROWS BY NAME
-
-pub same_bytes_is : (a b : List ℕ) → same_bytes a b ≡ true → a ≡ b
-same_bytes_is [] [] same = refl
-same_bytes_is [] (y ∷ ys) same = absurd cc
-same_bytes_is (x ∷ xs) [] same = absurd cc
-same_bytes_is (x ∷ xs) (y ∷ ys) same = by_head (x == y) refl same (same_bytes_is xs ys)
-  where
-    by_head : (b : Bool) → (x == y) ≡ b → (b && same_bytes xs ys) ≡ true → (same_bytes xs ys ≡ true → xs ≡ ys) → (x ∷ xs) ≡ (y ∷ ys)
-    by_head true is rest more = let head : x ≡ y = grind (arith, nat_tests) in let tail = more rest in cc
-    by_head false is rest more = absurd cc
 
 -- the row at a place passes
 place_passes : (p : RowState → Bool) (k : ℕ) (rows : List RowState) (i : ℕ) → place p k rows ≡ Some i → (j : ℕ) × (i ≡ k + j) × ((row : RowState) × (slice_get rows j ≡ Some row) × (p row ≡ true))

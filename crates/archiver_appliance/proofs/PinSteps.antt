@@ -30,9 +30,10 @@ use Rattle.archive_core.specs.Parts.{Parts}
 use Rattle.archive_core.specs.Stands.{Stands}
 use Rattle.archive_core.proofs.Making.{kept_to}
 use Rattle.archive_core.proofs.Wholes.{accepted_held}
-use Rattle.archive_core.proofs.KeptRows.{Placed, placed, place_none, place_some, row_there, same_bytes_is, same_bytes_self}
+use Rattle.archive_core.proofs.KeptRows.{Placed, placed, place_none, place_some, row_there}
 use Rattle.archiver_appliance.specs.Acting.{IsOpenedOn}
 use Rattle.archiver_appliance.specs.Retrieving.{HasNone}
+use Rattle.act_model.proofs.RowActs.{same_bytes_is, same_bytes-refl}
 
 -- ALL ARE ONE'S OWN
 
@@ -167,7 +168,7 @@ found_name m name i row found here = by_placed (place_some (λ (r : RowState). s
 pub none_has : (tells : Bool) (p : Parts) (m : Machine) (name : List ℕ) → Stands tells p m → find_row m name ≡ None → HasNone p.at.catalogue.rows name
 none_has tells p m name stands none i has =
     let there = row_there p.at.catalogue.rows p.kept p.tails m.rows stands.rows i has.row has.here in
-    let passes : same_bytes there.0.name name ≡ true = ap (λ (n : List ℕ). same_bytes n name) (there.2 ∙ has.is) ∙ same_bytes_self name in
+    let passes : same_bytes there.0.name name ≡ true = ap (λ (n : List ℕ). same_bytes n name) (there.2 ∙ has.is) ∙ same_bytes-refl name in
     let fails : same_bytes there.0.name name ≡ false = place_none (λ (r : RowState). same_bytes r.name name) 0 m.rows none i there.0 there.1 in
     cc (passes, fails)
 

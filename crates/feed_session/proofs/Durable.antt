@@ -1,6 +1,6 @@
 -- A kept sample is accepted, what is accepted stays so, and the flush at the end makes all of it durable.
 use Rattle.std.proofs.Common.{◌≡◌, ◌∙◌, ap, sym, refl, subst, ℕ, ◌+◌, ◌≤◌, List, [], ◌∷◌, ◌++◌, zero, suc, append_assoc, append-nil, arith, Bool, true, false, Option, Some, None, inl, inr}
-use Rattle.std.specs.Prelude.{◌==◌, ◌&&◌, slice_get}
+use Rattle.std.specs.Prelude.{◌==◌, slice_get}
 use Rattle.std.specs.List.{Contains}
 use Rattle.std.proofs.lemmas.Bool.Decides.{nat_tests}
 use Rattle.std.proofs.lemmas.List.Elements.{Contains-append_left, Contains-append_right, Contains-push}
@@ -28,7 +28,7 @@ use Rattle.act_model.specs.Sound.{IsSound}
 use Rattle.act_model.specs.Step.{MayAsk, Step}
 use Rattle.act_model.proofs.Histories.{cut_at, runs_onward, runs_sound, steps_at}
 use Rattle.act_model.proofs.Onward.{each_forward}
-use Rattle.act_model.proofs.RowActs.{tried_is}
+use Rattle.act_model.proofs.RowActs.{tried_is, same_bytes_is}
 use Rattle.act_model.proofs.StepOnward.{step_onward}
 use Rattle.act_model.proofs.StepSound.{step_sound}
 use Rattle.feed_session.specs.Asks.{flush_all}
@@ -56,18 +56,6 @@ durable_on a b name x told on h =
 
 -- AN OFFER
 
-same_bytes_are : (xs ys : List ℕ) → same_bytes xs ys ≡ true → xs ≡ ys
-same_bytes_are [] [] is = refl
-same_bytes_are [] (y ∷ ys) is = absurd cc
-same_bytes_are (x ∷ xs) [] is = absurd cc
-same_bytes_are (x ∷ xs) (y ∷ ys) is = by_first (x == y) refl is (λ rest. same_bytes_are xs ys rest)
-  where
-    by_first : (b : Bool) → (x == y) ≡ b → (b && same_bytes xs ys) ≡ true → (same_bytes xs ys ≡ true → xs ≡ ys) → x ∷ xs ≡ y ∷ ys
-    by_first true same rest more =
-        let first : x ≡ y = grind (arith, nat_tests) in
-        ap (λ (n : ℕ). n ∷ xs) first ∙ ap (λ (l : List ℕ). y ∷ l) (more rest)
-    by_first false same rest more = absurd cc
-
 -- the row that was found passes the test
 place_passes : (p : RowState → Bool) (k : ℕ) (rows : List RowState) (i : ℕ) → place p k rows ≡ Some i → (j : ℕ) × (i ≡ k + j) × ((row : RowState) → slice_get rows j ≡ Some row → p row ≡ true)
 place_passes p k [] i is = absurd cc
@@ -91,7 +79,7 @@ found_is_named : (m : Machine) (name : List ℕ) (i : ℕ) (row : RowState) → 
 found_is_named m name i row found here =
     let passes = place_passes (λ (r : RowState). same_bytes r.name name) 0 m.rows i found in
     let same : i ≡ passes.0 = omega (arith, passes.1) in
-    same_bytes_are row.name name (passes.2 row (subst (λ (n : ℕ). slice_get m.rows n ≡ Some row) same here))
+    same_bytes_is row.name name (passes.2 row (subst (λ (n : ℕ). slice_get m.rows n ≡ Some row) same here))
 
 module _ (name : List ℕ) (ty : PayloadType) (s : Sample) (now : ℕ) (m : Machine) (sound : IsSound m) where
   abbrev Keeps : Outcome → Type 0

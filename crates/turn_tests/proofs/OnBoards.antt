@@ -30,6 +30,7 @@ use Rattle.act_model.specs.Unpin.{pin_refused, refused_unpin, unpins}
 use Rattle.act_model.proofs.StepSound.{step_sound}
 use Rattle.turn_tests.specs.declared.board.Board.{Board}
 use Rattle.turn_tests.specs.Boards.{BoardStands, StepsTo, pin_of}
+use Rattle.act_model.proofs.RowActs.{same_bytes-refl}
 
 -- THE FIRST STATE
 
@@ -87,10 +88,6 @@ first_stands board none = (
 )
 
 -- STEPS
-
-same_self : (xs : List ℕ) → same_bytes xs xs ≡ true
-same_self [] = refl
-same_self (x ∷ xs) = let first : (x == x) ≡ true = grind (arith, nat_tests) in rw (first, same_self xs) refl
 
 -- an act that may want memory wants it, and nothing changes
 memory_step : (who : ℕ) (act : Act) (m : Machine) → is_answer_to act Memory ≡ true → Step who act m Memory m
@@ -179,7 +176,7 @@ module _ (who : ℕ) (board : Board) where
       let p : PinState = record { owner = who; pieces = [] } in
       let n = record m { pins = insert m.pins 0 p } in
       let free : get m.pins 0 ≡ None = st.pins 0 ∙ ap (λ (o : Option ℕ). pin_of o 0) none in
-      let found : find_row m board.name ≡ Some 0 = rw (st.rows, same_self board.name) refl in
+      let found : find_row m board.name ≡ Some 0 = rw (st.rows, same_bytes-refl board.name) refl in
       let here : slice_get m.rows 0 ≡ Some own = ap (λ (l : List RowState). slice_get l 0) st.rows in
       let may : details_refused board.name m ≡ None = rw found refl in
       let untold = st.untold in
