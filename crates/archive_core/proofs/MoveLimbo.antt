@@ -41,7 +41,6 @@ use Rattle.tier_store.specs.Seen.{Seen, granularities}
 use Rattle.tier_store.specs.Stores.{Stores, list_at}
 use Rattle.tier_store.specs.declared.limbo.Retired.{Retired}
 use Rattle.tier_store.specs.Reviving.{AreBack}
-use Rattle.tier_store.proofs.Dropped.{one_file as one_of_list}
 use Rattle.tier_store.proofs.Places.{one_manifest}
 use Rattle.tier_store.proofs.Rising.{own_series}
 use Rattle.tier_store.proofs.Staying.{as_filed, listed_place, retired_listed}
@@ -60,6 +59,7 @@ use Rattle.archive_core.proofs.Opens.{told_tells}
 use Rattle.archive_core.proofs.PinMade.{lines_same, same_front}
 use Rattle.archive_core.proofs.Windows.{AreApart, all_in, row_apart, windows}
 use Rattle.archive_core.proofs.LimboSwept.{one_store, store_itself}
+use Rattle.durable_write.proofs.Revival.{one_of_place as one_of_list}
 use Rattle.durable_write.specs.Held as held_files
 use Rattle.store_manifest.specs.Entries as entries
 

@@ -66,12 +66,13 @@ use Rattle.store_manifest.specs.Manifest.{ManifestState}
 use Rattle.store_manifest.specs.declared.entry.Entry.{Entry}
 use Rattle.durable_write.specs.Held.{Filed, entry_of}
 use Rattle.durable_write.specs.Plan.{of_row}
-use Rattle.tier_store.proofs.OpeningPieces.{begins_there, asked_some}
+use Rattle.tier_store.proofs.OpeningPieces.{asked_some}
 use Rattle.tier_store.proofs.Places.{manifest_at}
 use Rattle.tier_store.proofs.Rising.{own_series}
 use Rattle.act_model.specs.Rule.{index_of}
 use Rattle.archive_core.specs.Leaving.{IsPieceOfRow, LeavesPins}
 use Rattle.archive_core.proofs.Lists.{map_in, map_out}
+use Rattle.store_files.proofs.Stays.{front_file}
 
 -- what an answer says is so, or memory was wanting
 pub says_kind : {R : Type 0} (says : Answer R → Stores → Type 0) (held : Stores) (given : Answer R) → SaysOf says (end_of_answer given) held → (given ≡ answer.Memory) ⊎ says given held
@@ -342,7 +343,7 @@ module _ (R : Type 0) (tells reader_tells : Bool) (bytes : R → List ℕ) (faul
         len_is = len_is;
         told = λ told. let read = reads told in (read.0, ap length read.1 ∙ (shown.len ∙ sym len_is));
         bytes = λ told.
-            let f = begins_there p.at.files file.name shown.bytes (shown.shown.front told) in
+            let f = front_file p.at.files file.name shown.bytes (shown.shown.front told) in
             record { bytes = f.bytes; file = ap p.at.files name_is ∙ f.file; holds = (reads told).1 ∙ (sym f.holds.1 ∙ ap (λ (n : ℕ). take n f.bytes) (shown.len ∙ sym len_is)) };
       },
     )

@@ -30,7 +30,6 @@ use Rattle.tier_store.specs.Limbo.{IsListedName}
 use Rattle.tier_store.specs.Moving.{LeavesNames, names_of}
 use Rattle.tier_store.specs.Pinned.{SeenAll, beside}
 use Rattle.tier_store.specs.Stores.{Stores, list_at, tier as tier_at}
-use Rattle.tier_store.proofs.Dropped.{entry_in}
 use Rattle.tier_store.proofs.LeavingNames.{fewer_names}
 use Rattle.tier_store.proofs.Places.{granularity_at, manifest_at}
 use Rattle.act_model.specs.Limbo.{FileState, files_of, put, revived}
@@ -53,6 +52,7 @@ use Rattle.archive_core.proofs.MoveChoice.{next_high, next_place, source_low}
 use Rattle.archive_core.proofs.MovesKept.{SamePut}
 use Rattle.archive_core.proofs.SameNames.{of_all}
 use Rattle.archive_core.proofs.Settled.{open_rows, rests_has}
+use Rattle.durable_write.proofs.Ahead.{contains_entry}
 
 -- WHAT THE MACHINE MAKES OF COPIES
 
@@ -172,7 +172,7 @@ module _ (tells : Bool) (p : Parts) (m : Machine) (r : Rests tells p m) (names :
   pub names_there : (n : ℕ) (move : MoveState) (running : Running Moving) → at p.slots n ≡ Some running → (is : IsMoveOf tells all m.told m.rows m.limbo before move running) → (name : Name) → Contains (names_of (index_of (next_store move.store) + 1, before.rows) is.files) name → Contains names name
   names_there n move running there is name within =
       let f = from_map is.files name within in
-      let entry : Contains running.moving.pending f.0.entry = subst (λ (es : List Entry). Contains es f.0.entry) (sym is.beside.pending) (entry_in is.files f.0 f.1) in
+      let entry : Contains running.moving.pending f.0.entry = subst (λ (es : List Entry). Contains es f.0.entry) (sym is.beside.pending) (contains_entry is.files f.0 f.1) in
       let next = next_place move.store is.moves in
       let place = is.store in
       let number : running.store + 1 ≡ index_of (next_store move.store) + 1 = omega (arith, next, place) in
@@ -198,7 +198,7 @@ module _ (tells : Bool) (p : Parts) (m : Machine) (r : Rests tells p m) (names :
     as_file g = record { row = move.row; store = next_store move.store; part = g.entry.part; head = g.head; samples = g.samples }
 
     part_of : (g : Filed) → Contains is.files g → IsPart running.moving.granularity g.entry.part × (g.entry.series ≡ running.moving.series)
-    part_of g within = All-contains (λ (e : Entry). IsPart running.moving.granularity e.part × (e.series ≡ running.moving.series)) running.moving.pending g.entry is.beside.running.pending (subst (λ (es : List Entry). Contains es g.entry) (sym is.beside.pending) (entry_in is.files g within))
+    part_of g within = All-contains (λ (e : Entry). IsPart running.moving.granularity e.part × (e.series ≡ running.moving.series)) running.moving.pending g.entry is.beside.running.pending (subst (λ (es : List Entry). Contains es g.entry) (sym is.beside.pending) (contains_entry is.files g within))
 
     partition : (g : Filed) → Contains is.files g → IsPartition m.rule (next_store move.store) g.entry.part
     partition g within = record { unit = running.moving.granularity; of_store = ap (λ (gs : _). slice_get gs (index_of (next_store move.store))) r.stands.rule.granularity ∙ is.beside.to_coarse; is = (part_of g within).0 }
@@ -221,7 +221,7 @@ module _ (tells : Bool) (p : Parts) (m : Machine) (r : Rests tells p m) (names :
       manifest = unit.0;
       here = unit.1;
       entry = h.entry;
-      within = subst (λ (es : List Entry). Contains es h.entry) (sym known.entries) (entry_in (list_at k before) h listed);
+      within = subst (λ (es : List Entry). Contains es h.entry) (sym known.entries) (contains_entry (list_at k before) h listed);
       named = ap (λ (rows : List Row). file_of (k + 1, rows) h.entry) same_rows ∙ (same_file unit.0.granularity (k + 1) before.rows h g h_is g_is same ∙ (λ j. file_of (number j, sym same_rows j) g.entry));
     }
       where
@@ -301,5 +301,5 @@ module _ (tells : Bool) (p : Parts) (m : Machine) (r : Rests tells p m) (names :
       back is =
           let has = are.each is.number is.move is.here in
           let file = named_into told is.number is.move is.here has.running has.is f own_row at_row part is.place is.some in
-          let entry : Contains has.running.moving.pending file.0.entry = subst (λ (es : List Entry). Contains es file.0.entry) (sym has.is.beside.pending) (entry_in has.is.files file.0 file.1) in
+          let entry : Contains has.running.moving.pending file.0.entry = subst (λ (es : List Entry). Contains es file.0.entry) (sym has.is.beside.pending) (contains_entry has.is.files file.0 file.1) in
           subst (Contains names) file.2 (All-contains (λ (e : Entry). Contains names (written_name p.at.catalogue.rows has.running e)) has.running.moving.pending file.0.entry (written.each is.number has.running has.there) entry)

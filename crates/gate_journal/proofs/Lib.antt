@@ -1,4 +1,4 @@
-mod Begin
+pub mod Begin
 mod Bytes
 mod Checkpoints
 mod Committing

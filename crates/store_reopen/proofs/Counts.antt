@@ -19,7 +19,7 @@ use Rattle.pv_catalog.specs.declared.row.Row.{Row}
 use Rattle.store_manifest.specs.declared.entry.Entry.{Entry}
 use Rattle.durable_write.specs.Held.{Filed, file_of, name_of}
 use Rattle.tier_store.specs.Stores.{Stores}
-use Rattle.store_reopen.specs.Adoption.{Counts, GetRows, IsListedAs, ListsAll, Takes, TakesTurns, about_of, capped, entry_as, goes_on, listed_by, listed_in, place_of, row_of}
+use Rattle.store_reopen.specs.Adoption.{Counts, GetRows, IsListedAs, Takes, TakesTurns, about_of, capped, entry_as, goes_on, listed_by, listed_in, place_of, row_of}
 use Rattle.store_reopen.specs.Adoption as rule
 use Rattle.store_reopen.specs.Finding.{AreUnlistedOf}
 use Rattle.store_reopen.specs.Listing.{AllMayList, AreTurns, AtEachTurn, MayList}
@@ -34,6 +34,7 @@ use Rattle.store_reopen.proofs.TurnsKnown.{turns_may}
 use Rattle.store_reopen.proofs.TurnsTaken.{may_later}
 use Rattle.store_manifest.specs.Manifest.{ManifestState}
 use Rattle.tier_store.specs.Seen.{granularities}
+use Rattle.store_reopen.proofs.Stages.{all_made}
 
 -- ONE FILE
 
@@ -171,10 +172,6 @@ lists_keep image held rows xs turn left [] (rule.stopped cut_off) s = refl
 lists_keep image held rows xs turn (suc left) steps (rule.nothing la rest) s = lists_keep image held rows xs (suc turn) left steps rest s
 lists_keep image held rows xs turn (suc left) (step ∷ steps) (rule.lists {f = f} {files = files} la rest) s = lists_keep image held rows xs (suc turn) left steps rest (stepped (Lists (place_of turn) (f ∷ files)) s)
 
-made_both : (xs ys : List Step) (held : Stores) → made_by (xs ++ ys) held ≡ made_by ys (made_by xs held)
-made_both [] ys held = refl
-made_both (x ∷ xs) ys held = made_both xs ys (stepped x held)
-
 cut_low : (xs : List Taken) → cut_in xs ≤ length xs
 cut_low [] = omega arith
 cut_low (x ∷ xs) = go x.candidate.cut (cut_low xs)
@@ -191,7 +188,7 @@ counts_are whole image held xs new_rows lists turns made told rows_made from tak
     let rows = (made_by new_rows held).rows in
     let sums = turns_add image rows held xs 0 (length turns) turns lists refl from takes in
     let listed : listed_in (new_rows ++ lists) ≡ listed_in lists = flat_map-append listed_by new_rows lists ∙ ap (λ (l : List (ℕ × Filed)). l ++ listed_in lists) (rows_list_none held.rows [] xs new_rows rows_made) in
-    let same : (made_by (new_rows ++ lists) held).rows ≡ rows = ap (λ (s : Stores). s.rows) (made_both new_rows lists held) ∙ lists_keep image held rows xs 0 (length turns) lists takes (made_by new_rows held) in
+    let same : (made_by (new_rows ++ lists) held).rows ≡ rows = ap (λ (s : Stores). s.rows) (all_made new_rows lists held) ∙ lists_keep image held rows xs 0 (length turns) lists takes (made_by new_rows held) in
     let taken = all_taken turns in
     let many : length (listed_in (new_rows ++ lists)) ≡ length taken = ap (λ (l : List (ℕ × Filed)). length l) listed ∙ sums.files in
     let files : told.files ≡ length taken = omega (arith, numbers.files, fewer, fits) in

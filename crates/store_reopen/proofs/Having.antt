@@ -171,7 +171,7 @@ blank_list rows ms (suc zero) low = refl
 blank_list rows ms (suc (suc zero)) low = refl
 blank_list rows ms (suc (suc (suc i))) low = absurd (omega (arith, low))
 
-row_at : (rows : List Row) (i : ℕ) → i < length rows → (row : Row) × (slice_get rows i ≡ Some row)
+pub row_at : (rows : List Row) (i : ℕ) → i < length rows → (row : Row) × (slice_get rows i ≡ Some row)
 row_at rows i within = elim (slice_get_cases rows i).1 [
   | inl found ↦ (found.0, found.2)
   | inr behind ↦ absurd (omega (arith, within, behind.0))

@@ -81,10 +81,6 @@ module _ {D R : Type 0} (disk : Ghosts D R) where
 
 -- WHETHER IT IS THERE
 
-pub none_of : (c : Content) → size_of c ≡ None → c ≡ None
-none_of None is = refl
-none_of (Some bytes) is = absurd (cc (is))
-
 pub some_of : (c : Content) (n : ℕ) → size_of c ≡ Some n → IsSome c
 some_of None n is = absurd (cc (is))
 some_of (Some bytes) n is = refl

@@ -3,7 +3,7 @@ use Rattle.std.proofs.Common.{◌≡◌, ◌⊎◌, inl, inr, Bool, true, false,
 use Rattle.std.specs.Prelude.{All, Contains, IsTrue, ◌↔◌, slice_get}
 use Rattle.std.proofs.lemmas.Bool.Decides.{nat_tests}
 use Rattle.std.proofs.lemmas.List.Elements.{All-contains}
-use Rattle.std.proofs.lemmas.Option.{same_Some, slice_get_cases, slice_get_within}
+use Rattle.std.proofs.lemmas.Option.{same_Some, slice_get_within}
 use Rattle.disk_model.specs.Files.{Name}
 use Rattle.partition_names.specs.declared.granularity.Granularity.{Granularity}
 use Rattle.partition_names.specs.declared.part.Part.{Part}
@@ -26,6 +26,7 @@ use Rattle.durable_write.specs.Held.{file_of, name_of}
 use Rattle.store_reopen.specs.Adoption.{IsUnlisted}
 use Rattle.store_reopen.specs.Strays.{IsFileOf, IsStrayOf}
 use Rattle.store_reopen.specs.Verdict.{HasRow}
+use Rattle.store_reopen.proofs.Having.{row_at}
 
 -- KEYS
 
@@ -80,13 +81,6 @@ one_file g rows path s t p q are one two =
 -- the file of an entry that a manifest lists
 path_at : (rows : List Row) (series : ℕ) (part : List ℕ) (row : Row) → slice_get rows series ≡ Some row → path_of (name_of (slice_get rows series)) part ≡ path_of row.name part
 path_at rows series part row here = ap (λ (r : Option Row). path_of (name_of r) part) here
-
--- the row of an entry
-row_at : (rows : List Row) (i : ℕ) → i < length rows → (row : Row) × (slice_get rows i ≡ Some row)
-row_at rows i low = elim (slice_get_cases rows i).1 [
-  | inl found ↦ (found.0, found.2)
-  | inr behind ↦ absurd (omega (arith, low, behind.0))
-]
 
 not_both : (b : Bool) → IsTrue (not b) → IsTrue b → ⊥
 not_both true other so = absurd (cc (other))

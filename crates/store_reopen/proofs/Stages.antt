@@ -45,7 +45,7 @@ back_stage : (xs ys : List Step) (held : Stores) (k : ℕ) → (j : ℕ) × (sta
 back_stage [] ys held k = (k, refl, refl, λ low. low)
 back_stage (x ∷ xs) ys held k = let rest = back_stage xs ys (stepped x held) k in (suc rest.0, rest.1, rest.2, λ low. let more = rest.3 low in omega (arith, more))
 
-all_made : (xs ys : List Step) (held : Stores) → made_by (xs ++ ys) held ≡ made_by ys (made_by xs held)
+pub all_made : (xs ys : List Step) (held : Stores) → made_by (xs ++ ys) held ≡ made_by ys (made_by xs held)
 all_made [] ys held = refl
 all_made (x ∷ xs) ys held = all_made xs ys (stepped x held)
 

@@ -32,6 +32,8 @@ use Rattle.store_reopen.specs.Steps.{Lists, NewRow, Step, made_by, stepped}
 use Rattle.store_reopen.proofs.Keeping.{is_at, no_more}
 use Rattle.store_reopen.proofs.OneJournal.{one_list_of_rows}
 use Rattle.durable_write.proofs.There.{contains_map}
+use Rattle.durable_write.proofs.Ahead.{contains_entry}
+use Rattle.pv_catalog.proofs.Standing.{still_there}
 
 -- PLACES
 
@@ -108,17 +110,7 @@ rows_on (NewRow name about ∷ xs) s =
     let rest = rows_on xs (stepped (NewRow name about) s) in (row ∷ rest.0, rest.1 ∙ append_assoc s.rows (row ∷ []) rest.0)
 rows_on (Lists i files ∷ xs) s = rows_on xs (stepped (Lists i files) s)
 
-still_there : (rows more : List Row) (i : ℕ) (row : Row) → slice_get rows i ≡ Some row → slice_get (rows ++ more) i ≡ Some row
-still_there [] more i row here = absurd (cc (here))
-still_there (x ∷ xs) more zero row here = here
-still_there (x ∷ xs) more (suc i) row here = still_there xs more i row here
-
 -- FILES
-
-entry_in : (fs : List Filed) (f : Filed) → Contains fs f → Contains (map entry_of fs) f.entry
-entry_in [] f (k, low, is) = absurd (omega (arith, low))
-entry_in (x ∷ fs) f (zero, low, is) = (0, omega arith, ap entry_of is)
-entry_in (x ∷ fs) f (suc k, low, is) = let rest = entry_in fs f (k, omega (arith, low), is) in (suc rest.0, omega (arith, rest.1), rest.2)
 
 module _ (g : Granularity) (i : ℕ) (low : i < 3) (held : Stores) (xs : List Step) (n : Name)
     (was : All (IsListed g held.rows) (list_at i held)) (now : All (IsListed g (made_by xs held).rows) (list_at i (made_by xs held))) where
@@ -143,7 +135,7 @@ module _ (g : Granularity) (i : ℕ) (low : i < 3) (held : Stores) (xs : List St
       let f = contains_map (list_at i held) e in_held in
       let k = steps_at xs held i f.0 low f.1 in
       let file = same_file f.0 k.0 (All-contains (IsListed g held.rows) (list_at i held) f.0 was f.1) (All-contains (IsListed g then_rows) (list_at i (made_by xs held)) k.0 now k.1) k.2 in
-      unlisted k.0.entry (entry_in (list_at i (made_by xs held)) k.0 k.1) (file ∙ ap (λ (x : Entry). file_of (i + 1, held.rows) x) f.2 ∙ named)
+      unlisted k.0.entry (contains_entry (list_at i (made_by xs held)) k.0 k.1) (file ∙ ap (λ (x : Entry). file_of (i + 1, held.rows) x) f.2 ∙ named)
 
 -- THE WHOLE
 

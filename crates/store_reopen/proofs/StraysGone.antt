@@ -10,16 +10,13 @@ use Rattle.store_manifest.specs.Manifest.{ManifestState}
 use Rattle.pv_catalog.specs.declared.row.Row.{Row}
 use Rattle.store_reopen.specs.Strays.{AreGone, IsGone, IsGoneIf, IsStrayBelow, IsStrayOf, OnlyGo}
 use Rattle.store_reopen.proofs.Going.{none_goes, only_goes}
+use Rattle.tier_store.proofs.Removals.{none_not_some}
 
 -- ONE STORE
 
 some_or_none : (content : Content) → (content ≡ None) ⊎ IsSome content
 some_or_none None = inl refl
 some_or_none (Some b) = inr refl
-
-no_some : (content : Content) → content ≡ None → IsSome content → ⊥
-no_some None is some = absurd (cc (some))
-no_some (Some b) is some = absurd (cc (is))
 
 -- whatever was gone stays so
 pub gone_still : (Goes Now : Name → Type 0) (mid later : Files) (now new : Past) (n : Name) → OnlyGo Now mid later → Passes (OnlyGo Now) now new → IsGoneIf Goes mid now n → IsGoneIf Goes later new n
@@ -32,7 +29,7 @@ all_gone_still Goes Now mid later now new names goes passes all k d lt = gone_st
 -- all that a store has was looked at
 pub store_gone : (Goes : Name → Type 0) (store : ℕ) (files mid later : Files) (names : List Name) (past : Past) → ((n : Name) → Goes n → n.0 ≡ store) → mid ≡ files → Lists store files names → OnlyGo Goes mid later → All (IsGoneIf Goes later past) names → AreGone Goes files later past
 store_gone Goes store files mid later names past own same lists goes gone n is = elim (some_or_none (files n)) [
-  | inl none ↦ (none_goes Goes mid later n goes (ap (λ (f : Files). f n) same ∙ none), λ some. absurd (no_some (files n) none some))
+  | inl none ↦ (none_goes Goes mid later n goes (ap (λ (f : Files). f n) same ∙ none), λ some. absurd (none_not_some (files n) none some))
   | inr some ↦
       let here = All-contains (IsGoneIf Goes later past) names n gone (lists.all n (own n is) some) is in
       (here.0, λ s. here.1)

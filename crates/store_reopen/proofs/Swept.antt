@@ -1,5 +1,5 @@
 -- What the stores have once the strays are swept that their manifests don't list.
-use Rattle.std.proofs.Common.{◌≡◌, ◌⊎◌, inl, inr, Bool, true, false, ℕ, zero, suc, ◌<◌, ◌+◌, List, [], ◌∷◌, length, map, get_or, Option, None, Some, refl, sym, ◌∙◌, ap, subst, arith}
+use Rattle.std.proofs.Common.{◌≡◌, ◌⊎◌, inl, inr, Bool, true, false, ℕ, ◌<◌, ◌+◌, List, [], length, map, get_or, Option, None, Some, refl, sym, ◌∙◌, ap, subst, arith}
 use Rattle.std.specs.Prelude.{All, Contains, IsSome, IsTrue, ◌↔◌, slice_get}
 use Rattle.std.proofs.lemmas.List.Elements.{All-nil, Contains-get_or}
 use Rattle.std.proofs.lemmas.Option.{same_Some, slice_get_within}
@@ -31,6 +31,7 @@ use Rattle.store_reopen.proofs.Having.{IsLoaded, count_of, has_read, has_some, l
 use Rattle.store_reopen.proofs.Keeping.{kept_reading}
 use Rattle.store_reopen.proofs.OneJournal.{one_list_of_rows}
 use Rattle.store_reopen.proofs.Sparing.{AreSpared, has_spared, holds_spared}
+use Rattle.durable_write.proofs.Ahead.{contains_entry}
 
 -- WHOLE IMAGES
 
@@ -67,12 +68,6 @@ all_whole gs files rows ms said of_rows there = (whole_by gs files rows ms said 
 
 -- WHAT IS LISTED IS NO STRAY
 
-map_contains : (xs : List Filed) (f : Filed) → Contains xs f → Contains (map entry_of xs) f.entry
-map_contains [] f (k, lt, is) = absurd (omega (arith, lt))
-map_contains (x ∷ xs) f (zero, lt, is) = (zero, omega arith, ap entry_of is)
-map_contains (x ∷ xs) f (suc k, lt, is) =
-    let rest = map_contains xs f (k, omega (arith, lt), is) in (suc rest.0, omega (arith, rest.1), rest.2)
-
 module _ (catalogue : CatalogueState) (ms : List ManifestState) where
   abbrev Goes : Name → Type 0
   Goes n = IsStrayBelow 3 catalogue.rows ms n
@@ -103,7 +98,7 @@ module _ (catalogue : CatalogueState) (ms : List ManifestState) where
   all_spared : (k : ℕ) (m : ManifestState) (held : Stores) → slice_get ms k ≡ Some m → held.rows ≡ catalogue.rows → map entry_of (list_at k held) ≡ m.entries → AreSpared Spared (tier k held)
   all_spared k m held here of_rows are j d lt =
       let f : Filed = get_or (list_at k held) j d in
-      let within : Contains m.entries f.entry = subst (λ (es : List Entry). Contains es f.entry) are (map_contains (list_at k held) f (Contains-get_or (list_at k held) j d lt)) in
+      let within : Contains m.entries f.entry = subst (λ (es : List Entry). Contains es f.entry) are (contains_entry (list_at k held) f (Contains-get_or (list_at k held) j d lt)) in
       subst (λ (rows : List Row). Spared (file_of (k + 1, rows) f.entry)) (sym of_rows) (listed_spared k m f.entry here within)
 
 -- THE STORES BEHIND IT

@@ -27,10 +27,11 @@ use Rattle.tier_store.specs.Seen.{granularities}
 use Rattle.tier_store.specs.Change.{Has}
 use Rattle.tier_store.specs.Moving.{of_files, ListsParts, RunsBeside, LeavesNames, GoesBeside, names_of, parts_in}
 use Rattle.tier_store.specs.Pinned.{SeenAll}
-use Rattle.tier_store.proofs.CopyFiles.{put_all_in}
-use Rattle.tier_store.proofs.Dropped.{contains_filter, entry_in, from_filter, none_at, one_file}
+use Rattle.tier_store.proofs.Dropped.{contains_filter, from_filter, none_at}
 use Rattle.tier_store.proofs.LeavingNames.{name_in}
 use Rattle.tier_store.proofs.Places.{granularity_at, list_other, list_set, within_three}
+use Rattle.durable_write.proofs.Ahead.{contains_entry}
+use Rattle.durable_write.proofs.Revival.{put_all_new, one_of_place}
 
 -- LISTS OF A ROW
 
@@ -120,7 +121,7 @@ module _ (i : ℕ) (tells : Bool) (old new : SeenAll) (move : MoveState) (files 
 
   -- they are of the move's row
   of_move : (f : Filed) → Contains files f → f.entry.series ≡ move.series
-  of_move f within = (All-contains (λ (e : Entry). IsPart move.granularity e.part × (e.series ≡ move.series)) move.pending f.entry runs.running.pending (subst (λ (l : List Entry). Contains l f.entry) (sym runs.pending) (entry_in files f within))).1
+  of_move f within = (All-contains (λ (e : Entry). IsPart move.granularity e.part × (e.series ≡ move.series)) move.pending f.entry runs.running.pending (subst (λ (l : List Entry). Contains l f.entry) (sym runs.pending) (contains_entry files f within))).1
 
   -- what is listed in the place of one was listed there
   listed_before : (h f : Filed) → Contains (list_at i made) h → Contains files f → filed_at h ≡ filed_at f → Contains (list_at i held) h
@@ -242,11 +243,11 @@ runs_listed i tells old new move files held same low copied leaves runs =
         safe = still.ahead.safe;
         longer = λ h f there within at. longer_then h (subst (λ (l : List Filed). Contains l h) (list_set i (put_all (list_at i held) files) held low) there) f within at;
         longer_retired = λ r f in_limbo within named unlisted.
-            absurd (none_at (put_all (list_at i held) files) (filed_at f) f (subst (λ (l : List Filed). file_at (filed_at f) l ≡ None) (list_set i (put_all (list_at i held) files) held low) unlisted) (put_all_in files (list_at i held) f runs.ahead.rise within) refl);
+            absurd (none_at (put_all (list_at i held) files) (filed_at f) f (subst (λ (l : List Filed). file_at (filed_at f) l ≡ None) (list_set i (put_all (list_at i held) files) held low) unlisted) (put_all_new files (list_at i held) f runs.ahead.rise within) refl);
       };
     }
   where
     longer_then : (h : Filed) → Contains (put_all (list_at i held) files) h → IsShort files h
     longer_then h there = All-contains (IsShort files) (put_all (list_at i held) files) h
         (all_put_all (IsShort files) (list_at i held) files (λ k d lt f within at. runs.ahead.longer (get_or (list_at i held) k d) f (Contains-get_or (list_at i held) k d lt) within at)
-        (λ k d lt f within at. let one : get_or files k d ≡ f = one_file files f (get_or files k d) runs.ahead.rise within (Contains-get_or files k d lt) at in let len = ap (λ (x : Filed). x.entry.len) one in omega (arith, len))) there
+        (λ k d lt f within at. let one : get_or files k d ≡ f = one_of_place files f (get_or files k d) runs.ahead.rise within (Contains-get_or files k d lt) at in let len = ap (λ (x : Filed). x.entry.len) one in omega (arith, len))) there

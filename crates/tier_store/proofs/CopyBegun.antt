@@ -24,7 +24,7 @@ use Rattle.tier_store.specs.Moving.{GoesBeside, LeavesNames, names_of}
 use Rattle.tier_store.specs.Pinned.{SeenAll}
 use Rattle.tier_store.specs.Retiring.{oldest}
 use Rattle.tier_store.proofs.BesideMoves.{last_same, row_entries, runs_begun, runs_still}
-use Rattle.tier_store.proofs.Dropped.{entry_in}
+use Rattle.durable_write.proofs.Ahead.{contains_entry}
 
 -- THE BEGINNING
 
@@ -97,7 +97,7 @@ copies_still from tells old new move files held made same goes leaves heads firs
 }
   where
     own : All (λ (f : Filed). f.entry.series ≡ move.series) files
-    own = λ k x lt. (All-contains (λ (e : Entry). IsPart move.granularity e.part × (e.series ≡ move.series)) move.pending (get_or files k x).entry is.runs.running.pending (subst (λ (l : List Entry). Contains l (get_or files k x).entry) (sym is.runs.pending) (entry_in files (get_or files k x) (Contains-get_or files k x lt)))).1
+    own = λ k x lt. (All-contains (λ (e : Entry). IsPart move.granularity e.part × (e.series ≡ move.series)) move.pending (get_or files k x).entry is.runs.running.pending (subst (λ (l : List Entry). Contains l (get_or files k x).entry) (sym is.runs.pending) (contains_entry files (get_or files k x) (Contains-get_or files k x lt)))).1
 
     rows : of_row move.series (put_all (list_at (from + 1) made) files) ≡ of_row move.series (put_all (list_at (from + 1) held) files)
     rows = rows_put move.series (list_at (from + 1) made) (list_at (from + 1) held) files own goes.listed

@@ -27,7 +27,6 @@ use Rattle.std.proofs.Math.Seq.{get_or-append_seam, drop-append_seam}
 use Rattle.etl_mover.specs.Copying.{SetsLast, TakesPlace, StandsBehind, last_of, starts, after, behind, anew}
 use Rattle.store_manifest.specs.Entries.{comes_before, put, Place}
 use Rattle.store_manifest.specs.declared.entry.Entry.{Entry}
-use Rattle.durable_write.proofs.Ahead.{put_all_has, put_itself}
 use Rattle.durable_write.proofs.Lasts.{last_view, same_last}
 use Rattle.etl_mover.specs.Lines.{IsSampleStart, with_line, with_lines}
 use Rattle.etl_mover.specs.Move.{MoveState, IsMove}
@@ -42,11 +41,12 @@ use Rattle.durable_write.proofs.Listed.{found}
 use Rattle.durable_write.proofs.Names.{filed_listed}
 use Rattle.durable_write.proofs.Rows.{no_file}
 use Rattle.tier_store.specs.Copied.{IsPartFile, WritesNext, end_after, listed_samples, samples_at}
-use Rattle.tier_store.proofs.CountingPieces.{IsFront, front_of, is_split}
+use Rattle.tier_store.proofs.CountingPieces.{IsFront, front_of, is_split, no_length}
 use Rattle.tier_store.proofs.Dropped.{from_filter, contains_filter}
 use Rattle.etl_mover.specs.Growing.{IsPlaced}
 use Rattle.etl_mover.proofs.Onward.{map_append}
 use Rattle.tier_store.proofs.Rising.{parts_apart}
+use Rattle.durable_write.proofs.Revival.{put_all_new}
 use Rattle.partition_names.proofs.PartLemmas as parts
 
 -- A LIST OF FILES AT A PLACE
@@ -114,10 +114,6 @@ later_begins n (f ∷ fs) all = (begins f.samples all.0.0, later_begins n fs all
 pub later_left : (n : ℕ) (fs : List Filed) → AllByRecursion (IsLater n) fs → AllByRecursion (λ (f : Filed). since n f.samples ≢ []) fs
 later_left n [] all = tt
 later_left n (f ∷ fs) all = (λ none. all.0.1 (sym (since_later n f.samples all.0.0) ∙ none), later_left n fs all.1)
-
-pub lines_none : (xs : List Sample) → length (lines_of xs) ≡ 0 → xs ≡ []
-lines_none [] is = refl
-lines_none (x ∷ xs) is = absurd (omega (arith, is, length-append x.line (10 ∷ lines_of xs)))
 
 -- WHAT IS LEFT
 
@@ -243,7 +239,7 @@ module _ (fs : List Filed) (at : ℕ) (q : Filed) (here : SplitsHere fs at q) (n
 
 -- the part was copied whole exactly where its lines end
 pub whole_where : (copied more : List Sample) (from len : ℕ) → from + length (lines_of (copied ++ more)) ≡ len → from + length (lines_of copied) ≡ len → more ≡ []
-whole_where copied more from len all some = lines_none more (let both = ap length (lines_of-append copied more) in omega (arith, all, some, both, length-append (lines_of copied) (lines_of more)))
+whole_where copied more from len all some = no_length more (let both = ap length (lines_of-append copied more) in omega (arith, all, some, both, length-append (lines_of copied) (lines_of more)))
 
 pub not_whole : (copied more : List Sample) (from len : ℕ) → from + length (lines_of (copied ++ more)) ≡ len → (from + length (lines_of copied) ≡ len → ⊥) → more ≢ []
 not_whole copied more from len all other none = other (ap (λ (l : List Sample). from + length (lines_of l)) (sym (append-nil copied) ∙ ap (λ (l : List Sample). copied ++ l) (sym none)) ∙ all)
@@ -391,17 +387,9 @@ apart x k same lt =
     let itself : comes_before (filed_at x) (filed_at x) ≡ true = ap (comes_before (filed_at x)) same ∙ lt in
     absurd (cc (itself, not_itself x))
 
-pub put_all_in : (fs files : List Filed) (f : Filed) → PlacesRise fs → Contains fs f → Contains (put_all files fs) f
-put_all_in [] files f rise (k, low, is) = absurd (omega (arith, low))
-put_all_in (x ∷ fs) files f rise (zero, low, is) = subst (Contains (put_all (put filed_at x files) fs)) is (elim (put_all_has fs (put filed_at x files) x rise.1 (put_itself x files)) [
-  | inl there ↦ there
-  | inr (k, within, same, there) ↦ absurd (apart x k same (All-contains (Comes x) fs k rise.0 within))
-])
-put_all_in (x ∷ fs) files f rise (suc k, low, is) = put_all_in fs (put filed_at x files) f rise.1 (k, omega (arith, low), is)
-
 -- what is true of all of them is true of those that are to be listed
 pub all_in : (P : Filed → Type 0) (fs files : List Filed) → PlacesRise fs → All P (put_all files fs) → All P fs
-all_in P fs files rise all = λ k d lt. All-contains P (put_all files fs) (get_or fs k d) all (put_all_in fs files (get_or fs k d) rise (Contains-get_or fs k d lt))
+all_in P fs files rise all = λ k d lt. All-contains P (put_all files fs) (get_or fs k d) all (put_all_new fs files (get_or fs k d) rise (Contains-get_or fs k d lt))
 
 -- THE ENTRY
 

@@ -22,7 +22,7 @@ use Rattle.durable_write.specs.Flush.{file_at, put_all, with_files}
 use Rattle.durable_write.specs.Held.{Filed, Held, AreFiled, IsFiled, IsIn, IsListed, entry_of, file_of, filed_at, samples_of}
 use Rattle.durable_write.specs.Plan.{IsLastOf, StartBefore, of_row}
 use Rattle.durable_write.specs.Stored.{AreHeld, AreSafe, KeysDiffer}
-use Rattle.durable_write.proofs.Ahead.{put_all_has}
+use Rattle.durable_write.proofs.Ahead.{put_all_has, contains_entry}
 use Rattle.durable_write.proofs.Listed.{listed_at}
 use Rattle.durable_write.proofs.Names.{same_place}
 use Rattle.durable_write.proofs.PutFile.{put_behind, start_before}
@@ -36,10 +36,10 @@ use Rattle.tier_store.specs.Revival.{AreWhole, IsAmong, IsOfLimbo, store_with, s
 use Rattle.tier_store.specs.Reviving.{AreBack, IsBehind, IsCovered, IsUncovered, SaysBehind, free_of, is_free, is_nothing, past, reviving}
 use Rattle.tier_store.specs.Seen.{granularities}
 use Rattle.tier_store.specs.declared.limbo.Retired.{Retired}
-use Rattle.tier_store.proofs.CopyFiles.{SetsFile, before_push, earlier_start, last_file, last_in, last_then, none_of_row, put_all_in, stands_behind, end_is, inside_until, since_earlier, weaker, within_row}
+use Rattle.tier_store.proofs.CopyFiles.{SetsFile, before_push, earlier_start, last_file, last_in, last_then, none_of_row, stands_behind, end_is, inside_until, since_earlier, weaker, within_row}
 use Rattle.tier_store.proofs.CopyWrites.{begins_within}
 use Rattle.tier_store.proofs.CopyGoes.{last_in_pending}
-use Rattle.tier_store.proofs.Dropped.{contains_filter, entry_in, from_filter, none_at, one_file}
+use Rattle.tier_store.proofs.Dropped.{contains_filter, from_filter, none_at}
 use Rattle.tier_store.proofs.MovedFiles.{valid_with}
 use Rattle.tier_store.proofs.Places.{granularity_at, manifest_of, one_manifest}
 use Rattle.tier_store.proofs.Revival.{listed_by, none_is}
@@ -58,6 +58,7 @@ use Rattle.tier_store.proofs.Revived as revived_files
 use Rattle.tier_store.proofs.CopyParts.{runs_by}
 use Rattle.etl_mover.proofs.Onward.{last_of-push}
 use Rattle.tier_store.proofs.Rising.{parts_apart}
+use Rattle.durable_write.proofs.Revival.{put_all_new, one_of_place}
 
 -- LISTS
 
@@ -175,7 +176,7 @@ module _ (tells : Bool) (all : SeenAll) (from : ℕ) (move : MoveState) (files :
     every = λ r within number none.
         let u = among r within number none in
         let free : file_at (filed_at u.0) ahead ≡ None = ap (λ (e : Entry). file_at (place e) ahead) u.2 ∙ none in
-        subst (Contains (map entry_of back_of)) u.2 (entry_in back_of u.0 (contains_filter (is_free ahead) retired u.0 u.1 (ap is_nothing free)));
+        subst (Contains (map entry_of back_of)) u.2 (contains_entry back_of u.0 (contains_filter (is_free ahead) retired u.0 u.1 (ap is_nothing free)));
   }
 
   -- ONE THAT LIES BEHIND ALL THAT IS AHEAD
@@ -246,7 +247,7 @@ module _ (tells : Bool) (all : SeenAll) (from : ℕ) (move : MoveState) (files :
     f_part = subst (λ (x : Granularity). IsPart x f.entry.part) to.2 f_listed.part
 
     all_own : All (λ (x : Filed). x.entry.series ≡ move.series) files
-    all_own = λ k x lt. (All-contains (λ (e : Entry). IsPart move.granularity e.part × (e.series ≡ move.series)) move.pending (get_or files k x).entry runs.running.pending (subst (λ (l : List Entry). Contains l (get_or files k x).entry) (sym runs.pending) (entry_in files (get_or files k x) (Contains-get_or files k x lt)))).1
+    all_own = λ k x lt. (All-contains (λ (e : Entry). IsPart move.granularity e.part × (e.series ≡ move.series)) move.pending (get_or files k x).entry runs.running.pending (subst (λ (l : List Entry). Contains l (get_or files k x).entry) (sym runs.pending) (contains_entry files (get_or files k x) (Contains-get_or files k x lt)))).1
 
     less : IfSome (last_of move.pending move.listed) (λ (l : Entry). l.part.start < f.entry.part.start)
     less = subst (λ (e : Entry). IfSome (last_of move.pending move.listed) (λ (l : Entry). l.part.start < e.part.start)) (sym file_is.2) behind.behind
@@ -256,7 +257,7 @@ module _ (tells : Bool) (all : SeenAll) (from : ℕ) (move : MoveState) (files :
     sets = stands_behind move.series files f move.pending (move.pending ++ f.entry ∷ []) runs.pending all_own own runs.ahead.rise
         (λ rest l are apart.
         let in_files = subst (λ (fs : List Filed). Contains fs l) (sym are) (last_in rest l) in
-        let in_row = contains_filter (λ (x : Filed). nat_eq x.entry.series move.series) ahead l (put_all_in files (list_at (from + 1) held) l runs.ahead.rise in_files) ((Decides-eqb l.entry.series move.series).1 (All-contains (λ (x : Filed). x.entry.series ≡ move.series) files l all_own in_files)) in
+        let in_row = contains_filter (λ (x : Filed). nat_eq x.entry.series move.series) ahead l (put_all_new files (list_at (from + 1) held) l runs.ahead.rise in_files) ((Decides-eqb l.entry.series move.series).1 (All-contains (λ (x : Filed). x.entry.series ≡ move.series) files l all_own in_files)) in
         before_in f.entry.part.start (of_row move.series ahead) l (rows_before f.entry.part.start less) in_row)
         (record { other = λ rest l are same. last_in_pending move.pending move.listed rest l f.entry are less same; becomes = refl })
 
@@ -297,7 +298,7 @@ module _ (tells : Bool) (all : SeenAll) (from : ℕ) (move : MoveState) (files :
         ap (λ (rows : List Row). file_of ((from + 1) + 1, rows) y.entry) (sym has.known.rows) ∙ (ap (λ (k : ℕ). file_of (k + 1, all.stores.catalogue.rows) y.entry) (sym place_y) ∙ (of.named ∙ named)) in
         let at : filed_at (as_filed y) ≡ filed_at f = same_place g ((from + 1) + 1) held.rows (as_filed y) f keys y_listed f_listed named_y in
         let u = among y y_in number_y (ap (λ (p : Place). file_at p ahead) at ∙ free) in
-        let one : u.0 ≡ f = one_file retired f u.0 whole.rise file_is.1 u.1 (ap (λ (e : Entry). place e) u.2 ∙ at) in
+        let one : u.0 ≡ f = one_of_place retired f u.0 whole.rise file_is.1 u.1 (ap (λ (e : Entry). place e) u.2 ∙ at) in
         let len = ap (λ (x : Filed). x.entry.len) one in
         let len_y = ap (λ (e : Entry). e.len) u.2 in
         omega (arith, len, len_y)
@@ -393,7 +394,7 @@ module _ (tells : Bool) (all : SeenAll) (from : ℕ) (move : MoveState) (files :
     one_of : (t : ℕ) (x y : Filed) → Contains back x → Contains back y → x.entry.series ≡ move.series → y.entry.series ≡ move.series → HoldsMoment x.entry.part t → HoldsMoment y.entry.part t → x ≡ y
     one_of t x y x_in y_in own own_y holds holds_y =
         let same : x.entry.part ≡ y.entry.part = parts.one_part move.granularity x.entry.part y.entry.part t (part_of x (known x x_in)) (part_of y (known y y_in)) holds holds_y in
-        one_file retired y x whole.rise (known y y_in) (known x x_in) (λ i. ((own ∙ sym own_y) i, (same i).start))
+        one_of_place retired y x whole.rise (known y y_in) (known x x_in) (λ i. ((own ∙ sym own_y) i, (same i).start))
 
     -- one entry of a moment
     pub same_file : (t : ℕ) (r : Retired) (r_in : Contains all.limbo r) (r_behind : IsBehind (from + 2) move.series (last_of move.pending move.listed) t r) (y : Retired) (y_in : Contains all.limbo y) (y_behind : IsBehind (from + 2) move.series (last_of move.pending move.listed) t y) → r.entry ≡ y.entry

@@ -30,8 +30,10 @@ use Rattle.tier_store.specs.declared.finding.LaterLines.{LaterLines}
 use Rattle.tier_store.specs.Moving.{ListsParts, MayBeListed, RunsBeside}
 use Rattle.tier_store.specs.Pinned.{SeenAll}
 use Rattle.tier_store.specs.Retiring.{oldest}
-use Rattle.tier_store.proofs.Dropped.{entry_in, from_filter, one_file}
+use Rattle.tier_store.proofs.Dropped.{from_filter}
 use Rattle.tier_store.proofs.Places.{manifest_of}
+use Rattle.durable_write.proofs.Ahead.{contains_entry}
+use Rattle.durable_write.proofs.Revival.{one_of_place}
 
 -- a move that copies beside the stores copies further
 abbrev pub further : (from : ℕ) (tells : Bool) (all : SeenAll) (move : MoveState) (files : List Filed) (held : Stores) → CopiesBeside from tells all move files held → CopiesFurther from tells all move files held
@@ -206,7 +208,7 @@ module _ (tells : Bool) (all : SeenAll) (from : ℕ) (move : MoveState) (files :
       manifest = source.0;
       is = refl;
       here = source.1;
-      listed = subst (λ (es : List Entry). Contains es entry) (sym (has.known.each from source.0 source.1).entries) (subst (Contains (map entry_of (list_at from held))) (sym same) (entry_in (list_at from held) q next.within));
+      listed = subst (λ (es : List Entry). Contains es entry) (sym (has.known.each from source.0 source.1).entries) (subst (Contains (map entry_of (list_at from held))) (sym same) (contains_entry (list_at from held) q next.within));
     }
 
     -- the place that was found in its file
@@ -228,7 +230,7 @@ module _ (tells : Bool) (all : SeenAll) (from : ℕ) (move : MoveState) (files :
         go (i, store, f, within, is_entry, at) =
             let place : i ≡ from = omega (arith, store) in
             let there : Contains (list_at from held) f = subst (λ (k : ℕ). Contains (list_at k held) f) place within in
-            let one : f ≡ q = one_file (list_at from held) q f (has.known.each from source.0 source.1).valid.apart next.within there (ap (λ (e : Entry). let p : Place = (e.series, e.part.start) in p) (is_entry ∙ same)) in
+            let one : f ≡ q = one_of_place (list_at from held) q f (has.known.each from source.0 source.1).valid.apart next.within there (ap (λ (e : Entry). let p : Place = (e.series, e.part.start) in p) (is_entry ∙ same)) in
             subst (λ (x : Filed). IsNext x.samples (end_after (last_of move.pending move.listed)) q.entry.head_len later) one (subst (λ (e : Entry). IsNext f.samples (end_after (last_of move.pending move.listed)) e.head_len later) same at)
 
   -- what the code finds is the next part

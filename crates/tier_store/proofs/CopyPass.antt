@@ -40,11 +40,12 @@ use Rattle.tier_store.specs.declared.finding.LaterLines.TheVariants.{At, Damaged
 use Rattle.tier_store.specs.Moving.{RunsBeside}
 use Rattle.tier_store.specs.Pinned.{SeenAll}
 use Rattle.tier_store.specs.Retiring.{oldest}
-use Rattle.tier_store.proofs.CopyFiles.{end_is, left_more, lines_none, splits_here}
+use Rattle.tier_store.proofs.CopyFiles.{end_is, left_more, splits_here}
 use Rattle.tier_store.proofs.CopyParts.{further, part_in, q_filed, runs_by, some_at}
 use Rattle.tier_store.proofs.MovedFiles.{valid_with}
 use Rattle.tier_store.proofs.Places.{manifest_of}
 use Rattle.etl_mover.specs.Lines.{IsSampleStart}
+use Rattle.tier_store.proofs.CountingPieces.{no_length}
 
 -- HOW LONG PARTS ARE COPIED
 
@@ -103,7 +104,7 @@ none_left g rows q n at len filed long end split =
     let head = filed.head_len in
     let place = split.place in
     let both = ap length (ap lines_of split.split ∙ lines_of-append split.front split.back) in
-    let none : split.back ≡ [] = lines_none split.back (omega (arith, whole, head, place, both, long, end, length-append q.head (10 ∷ lines_of q.samples), length-append (lines_of split.front) (lines_of split.back))) in
+    let none : split.back ≡ [] = no_length split.back (omega (arith, whole, head, place, both, long, end, length-append q.head (10 ∷ lines_of q.samples), length-append (lines_of split.front) (lines_of split.back))) in
     ap (since n) (split.split ∙ ap (λ (l : List Sample). split.front ++ l) none ∙ append-nil split.front) ∙ split.earlier
 
 module _ (tells : Bool) (all : SeenAll) (from : ℕ) (move : MoveState) (files : List Filed) (held : Stores) (has : Has tells all.stores held) (is : CopiesFurther from tells all move files held) (part : Entry) (next : slice_get move.parts move.at ≡ Some part) (q : Filed) (q_next : IsNextPart from move held q) (len : ℕ) (long : q.entry.len ≡ len) (run : IsMove is.runs.fine (finished move part len)) where

@@ -40,8 +40,8 @@ use Rattle.tier_store.specs.Pinned.{SeenAll, beside, IsThereTo, KeepsFronts, Kee
 use Rattle.tier_store.specs.Revival.{AreWhole, KeepsWhole, store_with, IsOfLimbo}
 use Rattle.tier_store.specs.declared.limbo.Retired.{Retired}
 use Rattle.tier_store.proofs.Beside.{OnStore, safe_beside}
-use Rattle.tier_store.proofs.CopyFiles.{GoesOnIn, IsLater, IsOfRowIn, PartLeft, SetsFile, SplitsHere, Start, Where, all_in, at_file, earlier_all, end_is, ends_later, first_files, inside_end, inside_until, last_file, last_in, last_then, later_all, later_begins, later_left, left_is, left_now, left_of_part, lines_none, long_there, none_rest, not_whole, now_passed, part_left, place_at, placed, put_all_in, rise_front, rise_rest, rise_row, row_then, samples_then, sets_file, splits_here, starts_before, still_passed, weaker, where_it_goes, whole_where, within_row, writes_next}
-use Rattle.tier_store.proofs.Dropped.{Longer, by_files, contains_filter, entry_in, from_filter, none_at}
+use Rattle.tier_store.proofs.CopyFiles.{GoesOnIn, IsLater, IsOfRowIn, PartLeft, SetsFile, SplitsHere, Start, Where, all_in, at_file, earlier_all, end_is, ends_later, first_files, inside_end, inside_until, last_file, last_in, last_then, later_all, later_begins, later_left, left_is, left_now, left_of_part, long_there, none_rest, not_whole, now_passed, part_left, place_at, placed, rise_front, rise_rest, rise_row, row_then, samples_then, sets_file, splits_here, starts_before, still_passed, weaker, where_it_goes, whole_where, within_row, writes_next}
+use Rattle.tier_store.proofs.Dropped.{Longer, by_files, contains_filter, from_filter, none_at}
 use Rattle.tier_store.proofs.Left.{all_left, hold_at}
 use Rattle.tier_store.proofs.MovedFiles.{has_copied, same_size, valid_with}
 use Rattle.tier_store.proofs.OnePlace.{given_done}
@@ -65,7 +65,7 @@ use Rattle.series_model.specs.Series.{RisesFrom, end_of, end_from, since}
 use Rattle.series_model.specs.declared.sample.Sample.{Sample}
 use Rattle.series_model.proofs.RisingLists.{RisesFrom-front, end_from-append, end_from-ge}
 use Rattle.durable_write.specs.Plan.{IsLastOf, of_row}
-use Rattle.durable_write.proofs.Ahead.{put_all_has}
+use Rattle.durable_write.proofs.Ahead.{put_all_has, contains_entry}
 use Rattle.durable_write.proofs.Steps.{of_files as of_parts}
 use Rattle.tier_store.specs.Copied.{WritesNext, samples_at, end_after}
 use Rattle.tier_store.specs.Finding.{BeginsAt, SplitsAt, no_file}
@@ -76,6 +76,8 @@ use Rattle.std.proofs.lemmas.Bool.Decides.{nat_tests}
 use Rattle.tier_store.specs.declared.copying.CopyEnd.TheVariants as ends
 use Rattle.tier_store.specs.Reviving.{free_of, is_free, is_nothing}
 use Rattle.tier_store.proofs.Rising.{parts_apart}
+use Rattle.durable_write.proofs.Revival.{put_all_new}
+use Rattle.tier_store.proofs.CountingPieces.{no_length}
 use Rattle.partition_names.proofs.PartLemmas as parts
 
 -- the stores with the list that a place has
@@ -498,10 +500,10 @@ module _ {S : Type 0} (files_of : S → Files) (opened_of : S → Name → ℕ) 
       among r r_in number there =
           let u = contains_map were r.entry there in
           elim (listed_at list (filed_at u.0)) [
-            | inl none ↦ inr (subst (Contains (map entry_of left_free)) u.2 (entry_in left_free u.0 (contains_filter (is_free list) were u.0 u.1 (ap is_nothing none))))
+            | inl none ↦ inr (subst (Contains (map entry_of left_free)) u.2 (contains_entry left_free u.0 (contains_filter (is_free list) were u.0 u.1 (ap is_nothing none))))
             | inr (h, h_in, same, found) ↦
                 let named = place_named i tells old.stores limbo held m here stand has r r_in number h h_in (same ∙ ap place u.2) in
-                inl (held_same files_of opened_of past_of faults_of c ms d after r.name 0 (has_held tells old.stores held i r.name 0 has low (record { entry = h.entry; within = entry_in list h h_in; named = named; longer = omega arith })))
+                inl (held_same files_of opened_of past_of faults_of c ms d after r.name 0 (has_held tells old.stores held i r.name 0 has low (record { entry = h.entry; within = contains_entry list h h_in; named = named; longer = omega arith })))
           ]
 
       pub goes_whole : (rest : List Filed) × AreWhole i tells new.stores limbo stands rest
@@ -651,14 +653,14 @@ module _ {S : Type 0} (files_of : S → Files) (opened_of : S → Name → ℕ) 
           ]
 
           all_own : All (λ (x : Filed). x.entry.series ≡ move.series) files
-          all_own = λ k x lt. (All-contains (λ (e : Entry). IsPart move.granularity e.part × (e.series ≡ move.series)) move.pending (get_or files k x).entry is.runs.running.pending (subst (λ (l : List Entry). Contains l (get_or files k x).entry) (sym is.runs.pending) (entry_in files (get_or files k x) (Contains-get_or files k x lt)))).1
+          all_own = λ k x lt. (All-contains (λ (e : Entry). IsPart move.granularity e.part × (e.series ≡ move.series)) move.pending (get_or files k x).entry is.runs.running.pending (subst (λ (l : List Entry). Contains l (get_or files k x).entry) (sym is.runs.pending) (contains_entry files (get_or files k x) (Contains-get_or files k x lt)))).1
 
           pub listed_then : (more : List Filed) × SetsFile files more f nm.pending
           listed_then = sets_file move.series files f move.pending nm.pending is.runs.pending all_own f_own is.runs.ahead.rise
               (λ rest l are apart.
               let within = subst (λ (fs : List Filed). Contains fs l) (sym are) (last_in rest l) in
               let begin = ap (λ (p : Part). p.start) f_part in
-              let less = starts_before b move.series part.head_len start v.apart stands_at l (put_all_in files (list_at (from + 1) held) l is.runs.ahead.rise within) (All-contains (λ (x : Filed). x.entry.series ≡ move.series) files l all_own within) (λ same. apart (same ∙ sym begin)) in
+              let less = starts_before b move.series part.head_len start v.apart stands_at l (put_all_new files (list_at (from + 1) held) l is.runs.ahead.rise within) (All-contains (λ (x : Filed). x.entry.series ≡ move.series) files l all_own within) (λ same. apart (same ∙ sym begin)) in
               omega (arith, less, begin))
               (subst (λ (e : Entry). SetsLast e move.pending nm.pending) (sym grown.entry_is) sets)
 
@@ -1141,7 +1143,7 @@ module _ {S : Type 0} (files_of : S → Files) (opened_of : S → Name → ℕ) 
                 let rises = RisesFrom-front n_was wn.copied wn.more (subst (RisesFrom n_was) wn.next (left_here stands).rises) in
                 let later = ends_behind n_was (end_of (samples_at (filed_at wn.file) (put_all (list_at (from + 1) held) files))) wn.copied wn.some rises in
                 omega (arith, last, to, of_entry, samples, later)
-            | inr nothing ↦ absurd (wn.some (lines_none wn.copied (let text = ap length wn.text in let empty = ap length nothing.none in omega (arith, text, empty))))
+            | inr nothing ↦ absurd (wn.some (no_length wn.copied (let text = ap length wn.text in let empty = ap length nothing.none in omega (arith, text, empty))))
           ]
 
       -- where the destination ends behind the part, nothing of the part is left

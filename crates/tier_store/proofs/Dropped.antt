@@ -3,7 +3,6 @@ use Rattle.std.proofs.Common.{◌≡◌, ◌≢◌, ◌⊎◌, inl, inr, Bool, t
 use Rattle.std.specs.Prelude.{All, Contains, IsTrue, nat_eq, slice_get}
 use Rattle.std.proofs.lemmas.Bool.{cases_order}
 use Rattle.std.proofs.lemmas.Bool.Decides.{nat_tests}
-use Rattle.std.proofs.lemmas.Option.{same_Some}
 use Rattle.std.proofs.lemmas.List.{take-map}
 use Rattle.std.proofs.lemmas.List.Elements.{All-contains, All-map, Contains-append_left, Contains-append_right, Contains-get_or}
 use Rattle.disk_model.specs.Files.{Name}
@@ -19,7 +18,7 @@ use Rattle.durable_write.specs.Flush.{PlacesRise, is_place, file_at}
 use Rattle.durable_write.specs.Held.{Filed, Held, IsListed, IsListedTo, entry_of, file_of, filed_at, listing_of}
 use Rattle.durable_write.specs.Plan.{of_row}
 use Rattle.durable_write.proofs.Ending.{filter-map}
-use Rattle.durable_write.proofs.Listed.{found, listed_at, is_place-same}
+use Rattle.durable_write.proofs.Listed.{listed_at, is_place-same}
 use Rattle.durable_write.proofs.Names.{same_place}
 use Rattle.durable_write.proofs.Retiring.{all_without_all}
 use Rattle.durable_write.proofs.There.{contains_map}
@@ -33,6 +32,8 @@ use Rattle.tier_store.specs.declared.limbo.Retired.{Retired}
 use Rattle.tier_store.proofs.Holding.{may_drop}
 use Rattle.tier_store.proofs.Places.{tier_set, tier_other}
 use Rattle.tier_store.proofs.Showing.{ListsTo, Spares, known_to, has_held, doubts_held, low_of, has_spares, ends_spares, fronts_beside}
+use Rattle.durable_write.proofs.Ahead.{contains_entry}
+use Rattle.durable_write.proofs.Revival.{one_of_place}
 
 -- LISTS
 
@@ -62,13 +63,6 @@ from_take (suc n) (x ∷ xs) f (suc k, lt, is) = Contains-append_right (x ∷ []
 
 pub from_oldest : (i row n : ℕ) (s : Stores) (f : Filed) → Contains (oldest i row n s) f → Contains (list_at i s) f
 from_oldest i row n s f there = from_filter (λ x. nat_eq x.entry.series row) (list_at i s) f (from_take n (of_row row (list_at i s)) f there)
-
--- files of one place are one
-pub one_file : (files : List Filed) (f h : Filed) → PlacesRise files → Contains files f → Contains files h → filed_at h ≡ filed_at f → h ≡ f
-one_file files f h rise in_f in_h same =
-    let mine = All-contains (λ (x : Filed). file_at (filed_at x) files ≡ Some x) files f (found files rise) in_f in
-    let theirs = All-contains (λ (x : Filed). file_at (filed_at x) files ≡ Some x) files h (found files rise) in_h in
-    same_Some h f (sym theirs ∙ ap (λ (p : Place). file_at p files) same ∙ mine)
 
 places : (a b : Place) → (a ≡ b) ⊎ (IsTrue (comes_before a b) ⊎ IsTrue (comes_before b a))
 places a b = elim (cases_order a.0 b.0) [
@@ -110,13 +104,8 @@ none_at (x ∷ xs) q p none (suc k, lt, is) same = none_at xs q p (cond_none (is
 pub stays_or : (parts files : List Filed) (f : Filed) → PlacesRise files → ((p : Filed) → Contains parts p → Contains files p) → Contains files f → Contains (without_all files parts) f ⊎ Contains parts f
 stays_or parts files f rise within there = elim (listed_at parts (filed_at f)) [
   | inl none ↦ inl (stays parts files f there (λ p is_part same. none_at parts (filed_at f) p none is_part same))
-  | inr one ↦ inr (subst (Contains parts) (one_file files f one.0 rise there (within one.0 one.1) one.2) one.1)
+  | inr one ↦ inr (subst (Contains parts) (one_of_place files f one.0 rise there (within one.0 one.1) one.2) one.1)
 ]
-
-pub entry_in : (xs : List Filed) (f : Filed) → Contains xs f → Contains (map entry_of xs) f.entry
-entry_in [] f (k, lt, is) = absurd (omega (arith, lt))
-entry_in (x ∷ xs) f (zero, lt, is) = (zero, omega arith, ap entry_of is)
-entry_in (x ∷ xs) f (suc k, lt, is) = let rest = entry_in xs f (k, omega (arith, lt), is) in (suc rest.0, omega (arith, rest.1), rest.2)
 
 -- NAMES
 
@@ -126,7 +115,7 @@ Longer k rows name len f = file_of (k + 1, rows) f.entry ≡ name → len ≤ f.
 
 pub by_files : (k : ℕ) (rows : List Row) (files : List Filed) (name : Name) (len : ℕ) → NoneShorter ((k + 1, rows), map entry_of files) name len → All (Longer k rows name len) files
 by_files k rows files name len short j d lt =
-    All-contains (λ (e : Entry). file_of (k + 1, rows) e ≡ name → len ≤ e.len) (map entry_of files) (get_or files j d).entry short (entry_in files (get_or files j d) (Contains-get_or files j d lt))
+    All-contains (λ (e : Entry). file_of (k + 1, rows) e ≡ name → len ≤ e.len) (map entry_of files) (get_or files j d).entry short (contains_entry files (get_or files j d) (Contains-get_or files j d lt))
 
 pub to_files : (k : ℕ) (rows : List Row) (files : List Filed) (name : Name) (len : ℕ) → All (Longer k rows name len) files → NoneShorter ((k + 1, rows), map entry_of files) name len
 to_files k rows files name len all = All-map (λ (e : Entry). file_of (k + 1, rows) e ≡ name → len ≤ e.len) entry_of files all
@@ -175,7 +164,7 @@ module _ (tells : Bool) (i row n : ℕ) (old new : SeenAll) (held : Stores) (has
       let h_is = All-contains (IsListed m.granularity held.rows) (list_at i held) h valid.filed.listed in_h in
       let f_is = All-contains (IsListed m.granularity held.rows) (list_at i held) f valid.filed.listed within in
       let names : file_of (i + 1, held.rows) h.entry ≡ file_of (i + 1, held.rows) f.entry = ap (λ (x : ℕ). file_of (x + 1, held.rows) h.entry) (sym is) ∙ same ∙ sym named in
-      let one : h ≡ f = one_file (list_at i held) f h valid.apart within in_h (same_place m.granularity (i + 1) held.rows h f valid.keys h_is f_is names) in
+      let one : h ≡ f = one_of_place (list_at i held) f h valid.apart within in_h (same_place m.granularity (i + 1) held.rows h f valid.keys h_is f_is names) in
       let len_is = ap (λ (x : Filed). x.entry.len) one in omega (arith, len_is, longer))
 
   listed_kept : (name : Name) (len : ℕ) → IsHeldTo old.stores name len → IsThereTo new name len
@@ -197,7 +186,7 @@ module _ (tells : Bool) (i row n : ℕ) (old new : SeenAll) (held : Stores) (has
           let longer : len ≤ f.0.entry.len = let is_len = ap (λ (e : Entry). e.len) f.2 in let more = at.longer in omega (arith, is_len, more) in
           elim (stays_or (oldest i row n held) (list_at i held) f.0 (has.known.each i m here).valid.apart (from_oldest i row n held) f.1) [
             | inl stay ↦ inl (there end (change.ends held has) i name len low at (subst (λ (t : Held). IsListedTo (listing_of t) name len) (sym (tier_set i (without_all (list_at i held) (oldest i row n held)) held low))
-                (record { entry = f.0.entry; within = entry_in (without_all (list_at i held) (oldest i row n held)) f.0 stay; named = named; longer = longer })))
+                (record { entry = f.0.entry; within = contains_entry (without_all (list_at i held) (oldest i row n held)) f.0 stay; named = named; longer = longer })))
             | inr part ↦ inr (record {
               file = retired_of (i + 1, old.stores.catalogue.rows) f.0.entry;
               within = subst (λ (l : List Retired). Contains l (retired_of (i + 1, old.stores.catalogue.rows) f.0.entry)) (sym limbo) (handed f.0 part);

@@ -34,10 +34,11 @@ use Rattle.tier_store.specs.declared.limbo.Retired.{Retired}
 use Rattle.tier_store.specs.declared.retirement.RetireEnd.{RetireEnd}
 use Rattle.tier_store.proofs.Acting.{nothing_changes}
 use Rattle.tier_store.proofs.Removals.{names_apart, pairs_both, rise_take, stay_differ}
-use Rattle.tier_store.proofs.Dropped.{entry_in, from_oldest, same_entries, stays_or}
+use Rattle.tier_store.proofs.Dropped.{from_oldest, same_entries, stays_or}
 use Rattle.tier_store.proofs.Places.{granularity_at, list_other, list_set, manifest_at, within_three}
 use Rattle.tier_store.proofs.Sparing.{listed_name}
 use Rattle.tier_store.proofs.Staying.{limbo_kept, stay_by, stay_from}
+use Rattle.durable_write.proofs.Ahead.{contains_entry}
 
 -- LISTS
 
@@ -64,7 +65,7 @@ apart_from f files =
 -- each of a row's oldest files is among those that leave
 pub entries_leave : (place row n : ℕ) (rows : List Row) (m : ManifestState) (held : Stores) → m.entries ≡ map entry_of (list_at place held) → (f : Filed) → Contains (oldest place row n held) f → Contains (map (retired_of (place + 1, rows)) (oldest_entries row n m.entries)) (retired_of (place + 1, rows) f.entry)
 entries_leave place row n rows m held are f within =
-    map_in (retired_of (place + 1, rows)) (oldest_entries row n m.entries) f.entry (subst (λ (l : List Entry). Contains l f.entry) (sym (same_entries place row n held m.entries are)) (entry_in (oldest place row n held) f within))
+    map_in (retired_of (place + 1, rows)) (oldest_entries row n m.entries) f.entry (subst (λ (l : List Entry). Contains l f.entry) (sym (same_entries place row n held m.entries are)) (contains_entry (oldest place row n held) f within))
 
 -- no file that is left has the place of a part
 apart_all : (fs files : List Filed) (f : Filed) → Contains fs f → All (λ (h : Filed). filed_at h ≢ filed_at f) (without_all files fs)
@@ -99,7 +100,7 @@ module _ (tells : Bool) (i row n : ℕ) (at : Seen) (m : ManifestState) (here : 
   pub part_leaves : (f : Filed) → Contains parts f → Contains leaving (retired_of (i + 1, at.catalogue.rows) f.entry)
   part_leaves f within =
       map_in (retired_of (i + 1, at.catalogue.rows)) (oldest_entries row n m.entries) f.entry
-      (subst (λ (l : List Entry). Contains l f.entry) (sym (same_entries i row n held m.entries (has.known.each i m here).entries)) (entry_in parts f within))
+      (subst (λ (l : List Entry). Contains l f.entry) (sym (same_entries i row n held m.entries (has.known.each i m here).entries)) (contains_entry parts f within))
 
   pub part_of : (r : Retired) → Contains leaving r → (f : Filed) × Contains parts f × (retired_of (i + 1, at.catalogue.rows) f.entry ≡ r)
   part_of r within =

@@ -15,7 +15,7 @@ use Rattle.durable_write.specs.Ahead.{Leads, HasCopied}
 use Rattle.durable_write.specs.Flush.{put_all, with_files}
 use Rattle.durable_write.specs.Held.{Filed, Held, Shelf, AreFiled, IsFiled, IsIn, IsListed, IsListedTo, ListsStill, bytes_of, entry_of, file_of, filed_at, listing_of}
 use Rattle.durable_write.specs.Stored.{AreHeld}
-use Rattle.durable_write.proofs.Ahead.{put_all_has}
+use Rattle.durable_write.proofs.Ahead.{put_all_has, contains_entry}
 use Rattle.durable_write.proofs.Listed.{all_put_all, listed_at, rise_put_all}
 use Rattle.durable_write.proofs.Names.{same_file}
 use Rattle.durable_write.proofs.Stays.{safe_both}
@@ -25,7 +25,7 @@ use Rattle.tier_store.specs.Change.{IsKnownAt, Has}
 use Rattle.tier_store.specs.Moving.{of_files, MayBeListed, RunsBeside, ListsAlso, publishing}
 use Rattle.tier_store.specs.Pinned.{SeenAll, NoneShorter, IsRetiredTo, beside}
 use Rattle.tier_store.specs.declared.limbo.Retired.{Retired}
-use Rattle.tier_store.proofs.Dropped.{Longer, by_files, entry_in, to_files}
+use Rattle.tier_store.proofs.Dropped.{Longer, by_files, to_files}
 use Rattle.tier_store.proofs.FlushCall.{stored_as, list_unsure}
 use Rattle.tier_store.proofs.Places.{granularity_at, manifest_of, tier_other, tier_set, within_three}
 use Rattle.tier_store.proofs.Showing.{GoesOn, Spares, still_itself}
@@ -85,8 +85,8 @@ module _ (i : ℕ) (tells : Bool) (all : SeenAll) (held : Stores) (files : List 
       let h : Filed = get_or (list_at i held) k d in
       let within_held = Contains-get_or (list_at i held) k d lt in
       elim (put_all_has files (list_at i held) h ahead.rise within_held) [
-        | inl there ↦ record { entry = h.entry; within = entry_in (put_all (list_at i held) files) h there; named = refl; longer = omega arith }
-        | inr (f, within, same, there) ↦ record { entry = f.entry; within = entry_in (put_all (list_at i held) files) f there; named = one_name h f (known.valid.filed.listed k d lt) within same; longer = ahead.longer h f within_held within same }
+        | inl there ↦ record { entry = h.entry; within = contains_entry (put_all (list_at i held) files) h there; named = refl; longer = omega arith }
+        | inr (f, within, same, there) ↦ record { entry = f.entry; within = contains_entry (put_all (list_at i held) files) f there; named = one_name h f (known.valid.filed.listed k d lt) within same; longer = ahead.longer h f within_held within same }
       ])
 
   -- a file in limbo that is listed nowhere shorter isn't then

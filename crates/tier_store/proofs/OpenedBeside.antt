@@ -29,12 +29,14 @@ use Rattle.tier_store.specs.Moving.{of_files, KeepsBeside, MayHold, RunsBeside}
 use Rattle.tier_store.specs.Pinned.{beside, IsHeldTo, IsNoShorter, IsThereTo}
 use Rattle.tier_store.specs.Revival.{AreWhole, IsAmong, IsOfLimbo}
 use Rattle.tier_store.specs.declared.limbo.Retired.{Retired}
-use Rattle.tier_store.proofs.Dropped.{Longer, by_files, contains_filter, entry_in, from_filter, one_file}
+use Rattle.tier_store.proofs.Dropped.{Longer, by_files, contains_filter, from_filter}
 use Rattle.tier_store.proofs.Places.{manifest_at, manifest_of, within_three}
 use Rattle.tier_store.proofs.Revival.{known_open, limbo_name}
 use Rattle.tier_store.proofs.Showing.{ListsTo, Spares, after_spares, after_to, doubts_held, has_held, known_spares, known_to, name_listed}
 use Rattle.tier_store.proofs.WholeCalls.{filed_fewer, name_at, safe_fewer, spared_whole}
 use Rattle.disk_model.proofs.Lookups.{is_same-true, is_same-same}
+use Rattle.durable_write.proofs.Ahead.{contains_entry}
+use Rattle.durable_write.proofs.Revival.{one_of_place}
 
 -- NAMES THAT ARE LISTED
 
@@ -163,7 +165,7 @@ module _ {S : Type 0} (files_of : S → Files) (opened_of : S → Name → ℕ) 
         ]
           where
             by_test : (u : Filed) → Contains files u → (r : Retired) → u.entry ≡ r.entry → name_at i c.rows u ≡ r.name → (b : Bool) → keep u ≡ b → IsHeldTo later r.name 0 ⊎ Contains (map entry_of left) r.entry
-            by_test u u_in r same_entry named true is = inr (subst (Contains (map entry_of left)) same_entry (entry_in left u (contains_filter keep files u u_in is)))
+            by_test u u_in r same_entry named true is = inr (subst (Contains (map entry_of left)) same_entry (contains_entry left u (contains_filter keep files u u_in is)))
             by_test u u_in r same_entry named false is = inl (still_held r.name (subst (λ (n : Name). IsHeldTo at n 0) named (not_kept u is)))
 
         unopened : IsTrue tells → All (λ (f : Filed). opened_of after (name_at i c.rows f) ≤ f.entry.len) left
@@ -201,7 +203,7 @@ module _ {S : Type 0} (files_of : S → Files) (opened_of : S → Name → ℕ) 
                         let named : name_at i c.rows u.0 ≡ name_at i c.rows f = ap (λ (e : Entry). file_of (i + 1, c.rows) e) u.2 ∙ limbo_name i at limbo stand r.file r.within number ∙ r.named ∙ sym is in
                         let listed = (whole.filed manifest.0 manifest.1).listed in
                         let place = same_place manifest.0.granularity (i + 1) c.rows u.0 f keys (All-contains (IsListed manifest.0.granularity c.rows) files u.0 listed u.1) (All-contains (IsListed manifest.0.granularity c.rows) files f listed f_in) named in
-                        let one : u.0 ≡ f = one_file files f u.0 whole.rise f_in u.1 place in
+                        let one : u.0 ≡ f = one_of_place files f u.0 whole.rise f_in u.1 place in
                         let same_len : r.file.entry.len ≡ f.entry.len = ap (λ (e : Entry). e.len) (sym u.2) ∙ ap (λ (y : Filed). y.entry.len) one in
                         let longer = r.longer in
                         omega (arith, same_len, longer)

@@ -4,9 +4,9 @@ use Rattle.std.specs.Prelude.{IsTrue, Option, Result, slice_get}
 use Rattle.std.specs.FinMap.{FinMap, get, get-empty, get-remove, empty, remove}
 use Rattle.std.specs.Ordering.{nat_cmp, eq_by_cmp}
 use Rattle.std.proofs.lemmas.Cmp.{nat_cmp_total}
-use Rattle.std.proofs.lemmas.List.{length-take, length-map, get_or-map}
+use Rattle.std.proofs.lemmas.List.{length-map, get_or-map}
 use Rattle.std.proofs.lemmas.Option.{same_Some, slice_get-get_or}
-use Rattle.disk_model.specs.Files.{Name, Content, Files, HasFile}
+use Rattle.disk_model.specs.Files.{Name, Files, HasFile}
 use Rattle.disk_model.specs.Past.{Past, Passes}
 use Rattle.partition_names.specs.declared.granularity.Granularity.{Granularity}
 use Rattle.pv_catalog.specs.Catalogue.{CatalogueState, catalogue_name}
@@ -14,7 +14,6 @@ use Rattle.pin_table.specs.declared.table.PinErr.{PinErr}
 use Rattle.pin_table.specs.declared.table.PinErr.TheVariants.{NotYours}
 use Rattle.pinned_pieces.specs.Pieces.{PinOf, asked}
 use Rattle.pinned_pieces.specs.declared.piece.PinnedFile.{PinnedFile}
-use Rattle.store_files.specs.Fronts.{Begins}
 use Rattle.store_manifest.specs.Manifest.{ManifestState, manifest_name}
 use Rattle.store_manifest.specs.declared.entry.Entry.{Entry}
 use Rattle.durable_write.specs.Held.{entry_of, file_of, shelf_of}
@@ -33,6 +32,7 @@ use Rattle.tier_store.specs.Opening.{IsReaderOf}
 use Rattle.tier_store.proofs.Showing.{ListsTo, known_to, after_to, Spares, known_spares, after_spares}
 use Rattle.tier_store.proofs.Places.{within_three}
 use Rattle.durable_write.proofs.Names.{name_cases}
+use Rattle.store_files.proofs.Stays.{front_file}
 
 -- WHAT IS PINNED
 
@@ -63,20 +63,9 @@ some_piece r p q i piece is is₂ here none = let both : Some piece ≡ None = s
 pub found_at : (xs : List PinnedFile) (i : ℕ) (x : PinnedFile) → i < length xs → x ≡ get_or xs i x → slice_get xs i ≡ Some x
 found_at xs i x low is = slice_get-get_or xs i x low ∙ ap (λ (y : PinnedFile). Some y) (sym is)
 
--- a file that begins with bytes is there
-pub begins_there : (files : Files) (name : Name) (bytes : List ℕ) → Begins bytes (files name) → HasFile files name (λ b. (length bytes ≤ length b) × (take (length bytes) b ≡ bytes))
-begins_there files name bytes begins = go (files name) refl begins
-  where
-    go : (content : Content) → files name ≡ content → Begins bytes content → HasFile files name (λ b. (length bytes ≤ length b) × (take (length bytes) b ≡ bytes))
-    go None is begins = absurd begins
-    go (Some b) is begins =
-        let whole : length (take (length bytes) b) ≡ length bytes = ap length begins in
-        let cut = length-take (length bytes) b in
-        record { bytes = b; file = is; holds = (omega (arith, whole, cut), begins) }
-
 pub shown_long : (tells : Bool) (all : SeenAll) (piece : PinnedFile) (name : Name) → name ≡ piece.name → IsShown tells all piece → IsTrue tells → HasFile all.stores.files name (λ b. piece.len ≤ length b)
 shown_long tells all piece name named s told =
-    let there = begins_there all.stores.files piece.name s.bytes (s.shown.front told) in
+    let there = front_file all.stores.files piece.name s.bytes (s.shown.front told) in
     let long = there.holds.0 in
     let len = s.len in
     record { bytes = there.bytes; file = ap all.stores.files named ∙ there.file; holds = omega (arith, long, len) }
@@ -90,7 +79,7 @@ reader_of {R} tells reader_tells bytes faults all piece reader name named fresh 
   fresh = fresh;
   shows = λ told pinned len shown.
       let was = read told in
-      let there = begins_there all.stores.files piece.name pinned (shown.front told) in
+      let there = front_file all.stores.files piece.name pinned (shown.front told) in
       let same : was.1.bytes ≡ there.bytes = same_Some was.1.bytes there.bytes (sym was.1.file ∙ ap all.stores.files named ∙ there.file) in
       (was.0, was.1.holds ∙ ap (take piece.len) same ∙ ap (λ (n : ℕ). take n there.bytes) (sym len) ∙ there.holds.1);
 }

@@ -18,7 +18,6 @@ use Rattle.durable_write.specs.Held.{Filed, Shelf, bytes_of, entry_of, file_of, 
 use Rattle.tier_store.specs.Counting.{behind}
 use Rattle.tier_store.specs.Details.{IsTally, IsWhole, IsLong}
 use Rattle.tier_store.specs.declared.tallying.Tally.{Tally}
-use Rattle.tier_store.proofs.OpeningPieces.{begins_there}
 use Rattle.std.proofs.lemmas.List.Sums.{sum_by-append, sum_by_more}
 use Rattle.tier_store.specs.Tallying.{Adds, RiseFrom, end_of_files, listed_count}
 use Rattle.std.proofs.lemmas.Bool.Decides.{Decides-eqb}
@@ -35,6 +34,7 @@ use Rattle.tier_store.specs.Stores.{Stores, list_at, tier}
 use Rattle.tier_store.proofs.PinnedFiles.{all_none}
 use Rattle.tier_store.proofs.Places.{manifest_at}
 use Rattle.tier_store.proofs.Rising.{row_rises}
+use Rattle.store_files.proofs.Stays.{front_file}
 
 -- Samples are tallied file by file
 
@@ -62,7 +62,7 @@ module _ (g : Granularity) (shelf : Shelf) (files : Files) (f : Filed) (is : IsW
   -- what is read of it
   pub file_read : HasFile files (file_of shelf f.entry) (λ b. IsFile (take f.entry.len b) f.head is.filed.info f.samples)
   file_read =
-      let there = begins_there files (file_of shelf f.entry) (bytes_of f) is.inside in
+      let there = front_file files (file_of shelf f.entry) (bytes_of f) is.inside in
       let b = there.bytes in
       let same : bytes_of f ≡ take f.entry.len b = sym (there.holds.1) ∙ ap (λ (n : ℕ). take n b) (sym is.filed.len) in
       record { bytes = b; file = there.file; holds = subst (λ (l : List ℕ). IsFile l f.head is.filed.info f.samples) same is.filed.file }

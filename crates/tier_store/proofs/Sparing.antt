@@ -39,6 +39,7 @@ use Rattle.tier_store.proofs.Left.{has_left}
 use Rattle.tier_store.proofs.Showing.{shown, fronts_same}
 use Rattle.tier_store.proofs.Places.{manifest_of}
 use Rattle.tier_store.proofs.Staying.{stay_by, stay_cases, stay_from}
+use Rattle.durable_write.proofs.Ahead.{contains_entry}
 
 module _ (Spared : Name → Type 0) (journals : (n : Name) → n.0 ≡ 0 → Spared n) where
   abbrev Step : Files → Files → Type 0
@@ -113,19 +114,13 @@ seen_new {D} {R} disk store catalogue manifests d rows lists is i = seen_on disk
 
 -- NAMES THAT ARE LISTED
 
-map_contains : (xs : List Filed) (f : Filed) → Contains xs f → Contains (map entry_of xs) f.entry
-map_contains [] f (k, lt, is) = absurd (omega (arith, lt))
-map_contains (x ∷ xs) f (zero, lt, is) = (zero, omega arith, ap entry_of is)
-map_contains (x ∷ xs) f (suc k, lt, is) =
-    let rest = map_contains xs f (k, omega (arith, lt), is) in (suc rest.0, omega (arith, rest.1), rest.2)
-
 pub listed_name : (at : Seen) (s : Stores) (k : ℕ) (m : ManifestState) (f : Filed) → IsKnown at.catalogue at.manifests s → slice_get at.manifests k ≡ Some m → Contains (list_at k s) f → IsListedName at (file_of (k + 1, s.rows) f.entry)
 listed_name at s k m f known here within = record {
   place = k;
   manifest = m;
   here = here;
   entry = f.entry;
-  within = subst (λ (es : List Entry). Contains es f.entry) (sym (known.each k m here).entries) (map_contains (list_at k s) f within);
+  within = subst (λ (es : List Entry). Contains es f.entry) (sym (known.each k m here).entries) (contains_entry (list_at k s) f within);
   named = ap (λ (r : List Row). file_of (k + 1, r) f.entry) known.rows;
 }
 

@@ -24,7 +24,7 @@ use Rattle.durable_write.specs.Held.{Filed, Held, AreFiled, AreIn, IsFiled, IsIn
 use Rattle.durable_write.specs.Stored.{AreSafe}
 use Rattle.durable_write.proofs.Growing.{filed_still, safe_grows}
 use Rattle.durable_write.proofs.Listed.{all_put_all, is_place-same, is_place-true, listed_at, rise_filter, rise_put_all}
-use Rattle.durable_write.proofs.Revival.{listed_stays, put_all_new}
+use Rattle.durable_write.proofs.Revival.{listed_stays, put_all_new, one_of_place}
 use Rattle.durable_write.proofs.Stays.{safe_both}
 use Rattle.durable_write.proofs.There.{contains_map}
 use Rattle.tier_store.specs.Stores.{Stores, list_at, tier}
@@ -37,13 +37,14 @@ use Rattle.tier_store.specs.Retiring.{oldest_entries, retired_of}
 use Rattle.tier_store.specs.Revival.{AreWhole, IsAmong, IsOfLimbo, KeepsWhole, store_with}
 use Rattle.tier_store.specs.declared.limbo.Retired.{Retired}
 use Rattle.tier_store.specs.Reviving.{free_of, is_free, is_nothing}
-use Rattle.tier_store.proofs.Dropped.{contains_filter, entry_in, from_filter, from_oldest, one_file}
+use Rattle.tier_store.proofs.Dropped.{contains_filter, from_filter, from_oldest}
 use Rattle.tier_store.proofs.Leaving.{part_of}
 use Rattle.tier_store.proofs.LeavingNames.{later_names, name_in, read_names}
 use Rattle.tier_store.proofs.Places.{granularity_at, manifest_at, manifest_of}
 use Rattle.tier_store.proofs.Revival.{limbo_name, none_is, place_named, store_of}
 use Rattle.tier_store.proofs.Sparing.{after_disk, listed_name, same_memory}
 use Rattle.tier_store.proofs.Staying.{stay_from}
+use Rattle.durable_write.proofs.Ahead.{contains_entry}
 
 -- where files of the store at a place are
 abbrev pub name_at : ℕ → List Row → Filed → Name
@@ -145,7 +146,7 @@ module _ (i : ℕ) (low : i < 3) (tells : Bool) (old new : SeenAll) (three : len
         let is = limbo_at_is f r found.4 in
         let u = contains_map all r.entry (each r r_in is.0) in
         let at : filed_at u.0 ≡ filed_at f = ap (λ (e : Entry). place e) u.2 ∙ is_place-true (place r.entry) (filed_at f) is.1 in
-        let one : u.0 ≡ f = one_file all f u.0 rise (within k d lt) u.1 at in
+        let one : u.0 ≡ f = one_of_place all f u.0 rise (within k d lt) u.1 at in
         record { file = r; within = r_in; store = is.0; is = sym u.2 ∙ ap (λ (x : Filed). x.entry) one }
 
     among : All (IsAmong i new.stores left_of) new.limbo
@@ -154,7 +155,7 @@ module _ (i : ℕ) (low : i < 3) (tells : Bool) (old new : SeenAll) (three : len
         let r_in = Contains-get_or new.limbo k d lt in
         let u = contains_map all r.entry (each r r_in number) in
         let test : is_left u.0 ≡ true = list_any-from_Any (is_limbo_at u.0) new.limbo (r_in.0, r, r_in.1, r_in.2, limbo_at u.0 r number (ap (λ (e : Entry). place e) (sym u.2))) in
-        inr (subst (Contains (map entry_of left_of)) u.2 (entry_in left_of u.0 (contains_filter is_left all u.0 u.1 test)))
+        inr (subst (Contains (map entry_of left_of)) u.2 (contains_entry left_of u.0 (contains_filter is_left all u.0 u.1 test)))
 
     -- those of the files stay that are in limbo then
     pub left_whole : AreWhole i tells new.stores new.limbo stands left_of
@@ -311,7 +312,7 @@ module _ (tells : Bool) (i row n : ℕ) (old new : SeenAll) (m : ManifestState) 
               let u = contains_map were r.entry within in
               let is : is_free list u.0 ≡ true = ap (λ (e : Entry). is_nothing (file_at (place e) list)) u.2 ∙ ap is_nothing none in
               let in_all = put_all_new free list u.0 (rise_filter (is_free list) were whole.rise) (contains_filter (is_free list) were u.0 u.1 is) in
-              subst (Contains (map entry_of all)) u.2 (entry_in all u.0 in_all)
+              subst (Contains (map entry_of all)) u.2 (contains_entry all u.0 in_all)
           | inr (h, in_list, same, found_is) ↦
               let name = place_named j tells old.stores old.limbo held manifest.0 manifest.1 stand has r was.0 number h in_list same in
               absurd (was.1 (subst (IsListedName old.stores) name (listed_name old.stores held j manifest.0 h has.known manifest.1 in_list)))
@@ -326,7 +327,7 @@ module _ (tells : Bool) (i row n : ℕ) (old new : SeenAll) (m : ManifestState) 
       let same_place : i ≡ j = omega (arith, store, number) in
       let in_list : Contains list f.0 = subst (λ (k : ℕ). Contains (list_at k held) f.0) same_place (from_oldest i row n held f.0 f.1) in
       let in_all = listed_stays list free f.0 (has.known.each j manifest.0 manifest.1).valid.apart none_listed in_list in
-      subst (Contains (map entry_of all)) (ap (λ (x : Retired). x.entry) f.2) (entry_in all f.0 in_all)
+      subst (Contains (map entry_of all)) (ap (λ (x : Retired). x.entry) f.2) (contains_entry all f.0 in_all)
 
   abbrev names : List Name
   names = names_of (j + 1, old.stores.catalogue.rows) all

@@ -4,11 +4,12 @@ use Rattle.disk_model.specs.Files.{At, Becomes, Files, KeptOr, Name}
 use Rattle.disk_model.specs.Past.{Passes}
 use Rattle.store_reopen.specs.Strays.{adoption_name}
 use Rattle.store_reopen.proofs.Marked.{begins_made, begins_read, begins_then}
-use Rattle.store_reopen.proofs.Marking.{made_there, marks_made, marks_read, marks_then, none_of, some_of}
+use Rattle.store_reopen.proofs.Marking.{made_there, marks_made, marks_read, marks_then, some_of}
+use Rattle.gate_journal.proofs.Begin.{no_file}
 use Rattle.store_reopen.proofs.unfinished.make_file.Goals as goal
 
 pub create-requires : goal.create-requires
-create-requires g c tells = ap (λ (f : Files). f c.args.name.now) (c.size.ensures.same tells) ∙ none_of (g.D.Disk.files c.args.disk.now c.args.name.now) (sym (c.in_ok-size.ensures.size tells) ∙ c.in-None.is)
+create-requires g c tells = ap (λ (f : Files). f c.args.name.now) (c.size.ensures.same tells) ∙ no_file (g.D.Disk.files c.args.disk.now c.args.name.now) (sym (c.in_ok-size.ensures.size tells) ∙ c.in-None.is)
 
 pub returns-in-Some-clause-there : goal.returns-in-Some-clause-there
 returns-in-Some-clause-there g c tells =
