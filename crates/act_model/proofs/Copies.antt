@@ -24,7 +24,7 @@ all_filter P p (x ∷ xs) all = by_test (p x) (all_filter P p xs all.1)
     by_test true more = (all.0, more)
     by_test false more = more
 
-all_front : (P : Sample → Type 0) (xs ys : List Sample) → AllByRecursion P (xs ++ ys) → AllByRecursion P xs
+pub all_front : (P : Sample → Type 0) (xs ys : List Sample) → AllByRecursion P (xs ++ ys) → AllByRecursion P xs
 all_front P [] ys all = tt
 all_front P (x ∷ xs) ys all = (all.0, all_front P xs ys all.1)
 

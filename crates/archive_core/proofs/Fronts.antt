@@ -29,7 +29,7 @@ take_whole {A} n [] low = take_none n
 take_whole {A} zero (x ∷ xs) low = absurd (omega (arith, low))
 take_whole {A} (suc n) (x ∷ xs) low = ap (λ ys. x ∷ ys) (take_whole n xs (omega (arith, low)))
 
-map_take : {A B : Type 0} (f : A → B) (n : ℕ) (xs : List A) → map f (take n xs) ≡ take n (map f xs)
+pub map_take : {A B : Type 0} (f : A → B) (n : ℕ) (xs : List A) → map f (take n xs) ≡ take n (map f xs)
 map_take {A} {B} f zero xs = refl
 map_take {A} {B} f (suc n) [] = refl
 map_take {A} {B} f (suc n) (x ∷ xs) = ap (λ ys. f x ∷ ys) (map_take f n xs)

@@ -38,6 +38,7 @@ use Rattle.archive_core.proofs.LimboTying.{KeepsFiles, retired_stays, ListsSame}
 use Rattle.disk_model.specs.Record.{is_same}
 use Rattle.tier_store.specs.Retiring.{names_in}
 use Rattle.tier_store.proofs.Handing.{name_left}
+use Rattle.tier_store.proofs.Sparing.{slice_contains}
 
 -- NAMES
 
@@ -121,11 +122,6 @@ named_at [] name (k, low, is) = absurd (omega (arith, low))
 named_at (file ∷ files) name (zero, low, is) = (0, file, refl, is)
 named_at (file ∷ files) name (suc k, low, is) = let rest = named_at files name (k, omega (arith, low), is) in (suc rest.0, rest.1, rest.2, rest.3)
 
-pub at_named : (files : List PinnedFile) (k : ℕ) (file : PinnedFile) → slice_get files k ≡ Some file → Contains (map piece_file files) file.name
-at_named [] k file here = absurd (cc (here))
-at_named (x ∷ files) zero file here = (0, omega arith, ap (λ (p : PinnedFile). p.name) (same_Some x file here))
-at_named (x ∷ files) (suc k) file here = let rest = at_named files k file here in (suc rest.0, (let low = rest.1 in omega (arith, low)), rest.2)
-
 module _ (tells : Bool) (all : SeenAll) (m : Machine) (sound : IsSound m) (told : m.told ≡ true) (pinned : FinMap nat_cmp PinOf) (pins : ArePinsOf tells all m.told m.rows m.pins pinned) (f : FileState) (r : RowState) (here : slice_get m.rows f.row ≡ Some r) (part : IsPartition m.rule f.store f.part) where
   piece_sound : (n : ℕ) (state : PinState) (k : ℕ) (piece : FileState) → get m.pins n ≡ Some state → slice_get state.pieces k ≡ Some piece → PieceSound m.rule m.rows m.limbo piece
   piece_sound n state k piece there got = get_all (PieceSound m.rule m.rows m.limbo) state.pieces k piece (sound.pinned told n state there) got
@@ -161,7 +157,7 @@ module _ (tells : Bool) (all : SeenAll) (m : Machine) (sound : IsSound m) (told 
       let s = piece_sound is.number is.pin some.0 some.1 is.here got in
       let place = place_at m sound f some.1 r file.is.row here file.is.here part s.partition some.4 in
       let named : file.file.name ≡ name_of r f = file.is.named ∙ named_place m sound f some.1 r file.is.row here file.is.here part s.partition place in
-      record { number = is.number; pin = has.own; stands = has.there; names = subst (λ (n : Name). Contains (map piece_file has.own.pieces) n) named (at_named has.own.pieces some.0 file.file file.there) }
+      record { number = is.number; pin = has.own; stands = has.there; names = subst (λ (n : Name). Contains (map piece_file has.own.pieces) n) named (slice_contains has.own.pieces some.0 file.file file.there) }
 
 -- WHAT STAYS OF A LIST
 

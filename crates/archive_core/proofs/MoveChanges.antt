@@ -25,7 +25,7 @@ use Rattle.tier_store.specs.Moving.{ListsAlso}
 use Rattle.tier_store.specs.Retiring.{oldest, without_oldest}
 use Rattle.tier_store.specs.Stores.{Stores, list_at, with_list}
 use Rattle.tier_store.proofs.Places.{manifest_at}
-use Rattle.tier_store.proofs.Rising.{own_series}
+use Rattle.tier_store.proofs.Rising.{own_series, rises_inside, ends_inside}
 use Rattle.act_model.specs.Changes.{added, at, changed, made}
 use Rattle.act_model.specs.Crash.{DurableRow, kept_of}
 use Rattle.act_model.specs.Limbo.{files_of, put, FileState, revived}
@@ -38,7 +38,7 @@ use Rattle.archive_core.specs.Stands.{IsDurableAt, HoldsDurable}
 use Rattle.archive_core.proofs.ListEnds.{own_entries}
 use Rattle.archive_core.proofs.Lists.{same_or_not}
 use Rattle.archive_core.proofs.Making.{count_of, durable_made, kept_to}
-use Rattle.archive_core.proofs.Windows.{files_held, index_low, AreApart, all_in, from_there, rises_inside, ends_inside}
+use Rattle.archive_core.proofs.Windows.{files_held, index_low, AreApart, all_in, from_there}
 use Rattle.archive_core.proofs.MoveChoice.{from_zero}
 use Rattle.durable_write.proofs.Listed.{rise_filter}
 use Rattle.act_model.proofs.RowLaws.{before_none}

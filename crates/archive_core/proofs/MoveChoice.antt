@@ -45,8 +45,9 @@ use Rattle.act_model.specs.Parts.{PartsFrom, AreParts}
 use Rattle.archive_core.specs.MoveChoice.{HaveDurable, AreNumbers, GoesOnBy, file_parts, move_end, move_rule, parts_to_move, row_files}
 use Rattle.archive_core.proofs.ListEnds.{files_end, last_end, own_entries}
 use Rattle.archive_core.proofs.Lists.{element}
-use Rattle.archive_core.proofs.Windows.{AreApart, all_in, ends_inside, windows, files_held}
+use Rattle.archive_core.proofs.Windows.{AreApart, all_in, windows, files_held}
 use Rattle.durable_write.proofs.Rows.{file_of_row}
+use Rattle.tier_store.proofs.Rising.{ends_inside}
 
 -- a list has the same files of a row as another that had, once the same files of the row are put into both
 pub put_rows : (row : ℕ) (fs xs ys : List Filed) → AllByRecursion (λ (f : Filed). f.entry.series ≡ row) fs → of_row row xs ≡ of_row row ys → of_row row (put_all xs fs) ≡ of_row row (put_all ys fs)
@@ -92,11 +93,6 @@ pub next_place : (store : Store) → store ≢ Long → index_of (next_store sto
 next_place Short apart = refl
 next_place Medium apart = refl
 next_place Long apart = absurd (apart refl)
-
-pub store_low : (store : Store) → index_of store < 3
-store_low Short = omega arith
-store_low Medium = omega arith
-store_low Long = omega arith
 
 -- a move out of one of the first two stores
 pub source_low : (store : Store) → store ≢ Long → index_of store < 2

@@ -32,12 +32,13 @@ use Rattle.archive_core.specs.Retiring.{lengths_of}
 use Rattle.archive_core.proofs.ListEnds.{own_entries}
 use Rattle.archive_core.proofs.Lists.{element, get_map, get_take, all_at}
 use Rattle.archive_core.proofs.MoveChanges.{end_behind, before_oldest}
-use Rattle.archive_core.proofs.Windows.{RowFiles, files_held, AreApart, all_in, from_there, rises_inside, ends_inside, windows}
+use Rattle.archive_core.proofs.Windows.{RowFiles, files_held, AreApart, all_in, from_there, windows}
 use Rattle.archive_core.proofs.SameNames.{get_all}
 use Rattle.act_model.proofs.Copies.{before_all}
 use Rattle.act_model.proofs.Puts.{before-append}
 use Rattle.archive_core.proofs.MoveChoice.{from_zero}
 use Rattle.archive_core.proofs.Batches.{lines_size}
+use Rattle.tier_store.proofs.Rising.{rises_inside, ends_inside}
 
 -- LENGTHS
 

@@ -56,10 +56,11 @@ use Rattle.archive_core.specs.Stands.{HoldsDurable}
 use Rattle.archive_core.proofs.Batches.{told_stands}
 use Rattle.archive_core.proofs.LimboLists.{contains_filter, from_filter, none_starts}
 use Rattle.archive_core.proofs.Opens.{told_tells}
-use Rattle.archive_core.proofs.PinMade.{lines_same, same_front}
+use Rattle.archive_core.proofs.PinMade.{lines_same}
 use Rattle.archive_core.proofs.Windows.{AreApart, all_in, row_apart, windows}
 use Rattle.archive_core.proofs.LimboSwept.{one_store, store_itself}
 use Rattle.durable_write.proofs.Revival.{one_of_place as one_of_list}
+use Rattle.durable_write.proofs.Unique.{same_front}
 use Rattle.durable_write.specs.Held as held_files
 use Rattle.store_manifest.specs.Entries as entries
 

@@ -27,13 +27,9 @@ use Rattle.archive_core.specs.MoveTies.{HasCopiedParts, IsCopiedTo, ends_from}
 use Rattle.archive_core.proofs.ListEnds.{own_entries}
 use Rattle.archive_core.proofs.Windows.{all_in}
 use Rattle.archive_core.proofs.Lists.{get_map, all_at, get_take}
+use Rattle.archive_core.proofs.Fronts.{map_take}
 
 -- LISTS
-
-map_take : {A B : Type 0} (f : A → B) (n : ℕ) (xs : List A) → map f (take n xs) ≡ take n (map f xs)
-map_take {A} {B} f zero xs = refl
-map_take {A} {B} f (suc n) [] = refl
-map_take {A} {B} f (suc n) (x ∷ xs) = ap (λ (ys : List B). f x ∷ ys) (map_take f n xs)
 
 take_front : {A : Type 0} (xs ys : List A) → take (length xs) (xs ++ ys) ≡ xs
 take_front {A} [] ys = refl

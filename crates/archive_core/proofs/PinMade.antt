@@ -1,5 +1,5 @@
 -- A pin is made: the stores' new pin is the machine's.
-use Rattle.std.proofs.Common.{◌≡◌, ℕ, zero, suc, ◌+◌, List, [], ◌∷◌, ◌++◌, length, map, take, Bool, true, false, cond, Option, Some, None, refl, sym, ◌∙◌, ap, subst, arith}
+use Rattle.std.proofs.Common.{◌≡◌, ℕ, zero, suc, ◌+◌, List, [], ◌∷◌, ◌++◌, length, map, Bool, true, false, cond, Option, Some, None, refl, sym, ◌∙◌, ap, subst, arith}
 use Rattle.std.specs.FinMap.{FinMap, get, insert, get-insert}
 use Rattle.std.specs.List.{AllByRecursion, flat_map}
 use Rattle.std.specs.Ordering.{nat_cmp, eq_by_cmp}
@@ -9,7 +9,7 @@ use Rattle.std.proofs.lemmas.Cmp.{nat_cmp_total}
 use Rattle.std.proofs.lemmas.List.{length-map}
 use Rattle.std.proofs.lemmas.List.Elements.{All-head, All-tail, All-filter}
 use Rattle.std.proofs.lemmas.Option.{same_Some, slice_get_within}
-use Rattle.disk_model.specs.Files.{Name, Content}
+use Rattle.disk_model.specs.Files.{Name}
 use Rattle.disk_model.specs.Past.{MayLeave}
 use Rattle.partition_names.specs.declared.granularity.Granularity.{Granularity}
 use Rattle.partition_names.specs.Path.{path_of}
@@ -41,6 +41,7 @@ use Rattle.archive_core.specs.Stands.{HoldsDurable}
 use Rattle.archive_core.proofs.Lists.{element, get_map}
 use Rattle.archive_core.proofs.Making.{kept_to}
 use Rattle.archive_core.proofs.Windows.{index_low}
+use Rattle.durable_write.proofs.Unique.{same_front}
 
 -- ONE PIN MORE
 
@@ -70,11 +71,6 @@ lines_same (x ∷ xs) = ap (λ (rest : List ℕ). x.line ++ (10 ∷ rest)) (line
 
 pub bytes_same : (i : ℕ) (store : Store) (f : Filed) → bytes_of (row_file i store f) ≡ held.bytes_of f
 bytes_same i store f = ap (λ (rest : List ℕ). f.head ++ (10 ∷ rest)) (lines_same f.samples)
-
--- two fronts of one file, equally long, are the same
-pub same_front : (a b : List ℕ) (c : Content) → length a ≡ length b → Begins a c → Begins b c → a ≡ b
-same_front a b None same one two = absurd one
-same_front a b (Some bytes) same one two = sym one ∙ (ap (λ (n : ℕ). take n bytes) same ∙ two)
 
 all_get : (P : Placed → Type 0) (xs : List Placed) (j : ℕ) (x : Placed) → AllByRecursion P xs → slice_get xs j ≡ Some x → P x
 all_get P [] j x all here = absurd (cc (here))

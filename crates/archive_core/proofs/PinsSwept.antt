@@ -13,14 +13,14 @@ use Rattle.act_model.specs.Machine.{PinState}
 use Rattle.act_model.specs.OpenPiece.{bytes_of}
 use Rattle.act_model.specs.Rows.{RowState}
 use Rattle.archive_core.specs.Pins.{HasFileOf, ArePinsOf}
-use Rattle.archive_core.proofs.LimboSwept.{at_named}
+use Rattle.tier_store.proofs.Sparing.{slice_contains}
 
 -- whatever is pinned, and was shown, is so still
 abbrev pub KeepsPinned : Bool → FinMap nat_cmp PinOf → SeenAll → SeenAll → Type 0
 KeepsPinned tells pinned old new = (name : Name) (bytes : List ℕ) → IsPinnedFile pinned name → Shows tells old name bytes → Shows tells new name bytes
 
 pinned_at : (pinned : FinMap nat_cmp PinOf) (n i : ℕ) (own : PinOf) (file : PinnedFile) → get pinned n ≡ Some own → slice_get own.pieces i ≡ Some file → IsPinnedFile pinned file.name
-pinned_at pinned n i own file here there = record { number = n; pin = own; stands = here; names = at_named own.pieces i file there }
+pinned_at pinned n i own file here there = record { number = n; pin = own; stands = here; names = slice_contains own.pieces i file there }
 
 pub pinned_stay : (tells : Bool) (old new : SeenAll) (told : Bool) (rows : List RowState) (pins : FinMap nat_cmp PinState) (pinned : FinMap nat_cmp PinOf) → KeepsPinned tells pinned old new → ArePinsOf tells old told rows pins pinned → ArePinsOf tells new told rows pins pinned
 pinned_stay tells old new told rows pins pinned keeps are = record {

@@ -61,7 +61,7 @@ use Rattle.tier_store.specs.Frame.{Frame}
 use Rattle.tier_store.proofs.Framing.{frame_same}
 use Rattle.archive_core.proofs.MoveChanges.{other_rows, publish_holds}
 use Rattle.archive_core.proofs.MoveLimbo.{none_put}
-use Rattle.archive_core.proofs.MoveChoice.{ahead_own, next_high, next_place, store_low}
+use Rattle.archive_core.proofs.MoveChoice.{ahead_own, next_high, next_place}
 use Rattle.archive_core.proofs.MovesKept.{leaves_ahead}
 use Rattle.archive_core.proofs.SameNames.{all_of, of_all}
 use Rattle.archive_core.proofs.Settled.{doubt_stands, grew, made_at, no_own, rests_has}
@@ -75,6 +75,7 @@ use Rattle.archive_core.proofs.Strays.{no_names, put_after, tidy_step}
 use Rattle.archive_core.proofs.After.{with_same}
 use Rattle.archive_core.specs.Strays.{IsWell, Tidies}
 use Rattle.act_model.specs.Reply.{Reply}
+use Rattle.archive_core.proofs.Windows.{index_low}
 
 -- What the stores say of the listing of what a move has copied.
 pub record StoresListed (tells : Bool) (place : ℕ) (moving : Moving) (q : Parts) (new : Seen) (limbo : List Retired) (result : Result (Unit {0}) DiskErr) : Type 0 where
@@ -250,7 +251,7 @@ module _ (tells : Bool) (q : Parts) (n : ℕ) (running : Running Moving) (slots 
   copied_still after by told =
       let next = next_place move.store out.1.is.moves in
       let same_end : end_ahead place moving files held ≡ listed_end place (record moving { stage = Published }) after = ap (λ (fs : List Filed). end_of (samples_of moving.series fs)) (sym (own_list after by)) in
-      let same_list = other_lists after by (index_of move.store) (store_low move.store) (λ same. omega (arith, same, next)) in
+      let same_list = other_lists after by (index_of move.store) (index_low move.store) (λ same. omega (arith, same, next)) in
       λ k part f here there. subst (λ (e : ℕ). IsCopiedTo e part f) same_end (is_copied.parts told k part f here (subst (λ (l : List Filed). slice_get (take (length moving.parts) (of_row moving.series l)) k ≡ Some f) same_list there))
 
   -- in whose place something is listed then

@@ -36,7 +36,7 @@ use Rattle.archive_core.proofs.PutFirst.{StartBy, put_first}
 use Rattle.archive_core.proofs.SameNames.{all_of, contains_head, of_all}
 use Rattle.archive_core.proofs.MoveLimbo.{HaveMachine, own_is, is_of_machine, same_back as back_of_limbo}
 use Rattle.tier_store.specs.Reviving.{AreBack}
-use Rattle.act_model.proofs.Copies.{all_append}
+use Rattle.act_model.proofs.Copies.{all_append, all_front}
 use Rattle.archive_core.proofs.Batches.{told_stands}
 
 -- SAMPLES
@@ -50,10 +50,6 @@ end_by k n (x ∷ xs) low all = let first = all.0 in end_by (x.t + 1) n xs (omeg
 before_end : (k n : ℕ) (xs : List Sample) → RisesFrom k xs → end_from k xs ≤ n → AllByRecursion (λ (s : Sample). s.t < n) xs
 before_end k n [] rises low = tt
 before_end k n (x ∷ xs) rises low = let end = end_from-ge (x.t + 1) xs rises.1 in (omega (arith, end, low), before_end (x.t + 1) n xs rises.1 low)
-
-all_front : (P : Sample → Type 0) (xs ys : List Sample) → AllByRecursion P (xs ++ ys) → AllByRecursion P xs
-all_front P [] ys all = tt
-all_front P (x ∷ xs) ys all = (all.0, all_front P xs ys all.1)
 
 all_rest : (P : Sample → Type 0) (xs ys : List Sample) → AllByRecursion P (xs ++ ys) → AllByRecursion P ys
 all_rest P [] ys all = all

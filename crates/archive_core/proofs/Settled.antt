@@ -52,7 +52,7 @@ use Rattle.archive_core.proofs.LimboTying.{limbo_beside, limbo_changed, limbo_he
 use Rattle.archive_core.proofs.Making.{kept_to, taken_later}
 use Rattle.archive_core.proofs.RetiredRows.{IsEarly, listed_same, same_made, moves_settled, row_came, unlisted_there}
 use Rattle.archive_core.proofs.MovesKept.{reach_ends, source_ends, SameLater, leaves_ahead, moves_stay, same_later, same_put, reach, source_on}
-use Rattle.archive_core.proofs.MoveChoice.{next_high, next_low, store_low}
+use Rattle.archive_core.proofs.MoveChoice.{next_high, next_low}
 use Rattle.archive_core.proofs.PinTies.{KeepsNames, names_stay, names_made, state_name, pins_stay}
 use Rattle.archive_core.specs.Flushing.{GivesUp, ListsEnds, IsTrimmed}
 use Rattle.archive_core.specs.Growing.{HasRunning}
@@ -68,6 +68,7 @@ use Rattle.archive_core.proofs.RetiredLimbo.{names_unlisted}
 use Rattle.archive_core.proofs.StoresGoing.{go_beside}
 use Rattle.archive_core.proofs.Lists.{same_or_not, get_set_same, get_front}
 use Rattle.durable_write.proofs.Three.{get_set_other}
+use Rattle.archive_core.proofs.Windows.{index_low}
 
 -- WHAT IS KEPT IN MEMORY ALONE
 
@@ -285,7 +286,7 @@ grew tells p m s new same_g keeps after stand grow =
           record {
             goes = grow.beside place move.row runs (next_low move.store) (next_high move.store);
             on = source_on m.told s.store.before.stands (reach place is.files s.store.before running.moving move.stage) end (files_in move.row (list_at (index_of move.store) s.store.before)) (files_in move.row (list_at (index_of move.store) after))
-                (λ told. (reach_ends tells (beside p.at p.limbo) m s.store.before s.sound s.store.holds told n move here running is, source_ends tells (beside p.at p.limbo) m s.store.before s.sound s.store.holds told n move here running is)) (grow.sources (index_of move.store) move.row runs (store_low move.store));
+                (λ told. (reach_ends tells (beside p.at p.limbo) m s.store.before s.sound s.store.holds told n move here running is, source_ends tells (beside p.at p.limbo) m s.store.before s.sound s.store.holds told n move here running is)) (grow.sources (index_of move.store) move.row runs (index_low move.store));
             puts = λ on copying. same_put (HasRunning m.moves) m.rows rows m.limbo left same move runs (s.sound.each_move n move here).here;
             leaves = leaves_ahead tells (beside p.at p.limbo) (beside new p.limbo) s.store.before move.store is.files keeps.leaves;
           }) s.store.moves;

@@ -7,16 +7,16 @@ use Rattle.std.proofs.lemmas.Bool.Decides.{nat_tests}
 use Rattle.std.proofs.lemmas.List.Elements.{All-head, All-tail, All-filter}
 use Rattle.partition_names.specs.declared.granularity.Granularity.{Granularity}
 use Rattle.partition_names.specs.declared.part.Part.{Part}
-use Rattle.partition_names.specs.Part.{IsPart, HoldsMoment}
+use Rattle.partition_names.specs.Part.{IsPart}
 use Rattle.partition_names.proofs.PartLemmas.{within}
 use Rattle.pv_catalog.specs.declared.row.Row.{Row}
 use Rattle.series_model.specs.declared.sample.Sample.{Sample}
-use Rattle.series_model.specs.Series.{end_from, since, before, RisesFrom, IsRising, over}
+use Rattle.series_model.specs.Series.{end_from, since, before, RisesFrom, over}
 use Rattle.series_model.proofs.RisingLists.{RisesFrom-append, RisesFrom-lower, since-append, since_all, since_none}
 use Rattle.durable_write.specs.Flush.{PlacesRise}
 use Rattle.durable_write.specs.Held.{Filed, IsFiled, samples_of}
 use Rattle.durable_write.proofs.PutFile.{Comes}
-use Rattle.tier_store.proofs.Rising.{parts_apart, own_series}
+use Rattle.tier_store.proofs.Rising.{parts_apart, own_series, rises_inside, ends_inside}
 use Rattle.act_model.specs.Rows.{window, RowState, Store, Short, Medium, Long, tier, durable, is_empty}
 use Rattle.act_model.proofs.RowLaws.{before_none}
 use Rattle.act_model.proofs.Copies.{before_all}
@@ -72,17 +72,6 @@ row_apart g rows id (f ∷ fs) filed rise own = (behind fs (All-tail (IsFiled g 
     behind : (hs : List Filed) → All (IsFiled g rows) hs → AllByRecursion (λ (h : Filed). h.entry.series ≡ id) hs → All (Comes f) hs → AllByRecursion (λ (h : Filed). f.entry.part.end ≤ h.entry.part.start) hs
     behind [] filed_hs own_hs comes = tt
     behind (h ∷ hs) filed_hs own_hs comes = (one h (All-head (IsFiled g rows) h hs filed_hs) own_hs.0 (All-head (Comes f) h hs comes), behind hs (All-tail (IsFiled g rows) h hs filed_hs) own_hs.1 (All-tail (Comes f) h hs comes))
-
-abbrev Inside : Part → Sample → Type 0
-Inside p s = HoldsMoment p s.t
-
-pub rises_inside : (n : ℕ) (p : Part) (xs : List Sample) → n ≤ p.start → IsRising xs → All (Inside p) xs → RisesFrom n xs
-rises_inside n p [] low rising inside = tt
-rises_inside n p (x ∷ xs) low rising inside = let here : Inside p x = All-head (Inside p) x xs inside in let from = here.0 in (omega (arith, from, low), rising.1)
-
-pub ends_inside : (n : ℕ) (p : Part) (xs : List Sample) → n ≤ p.end → All (Inside p) xs → end_from n xs ≤ p.end
-ends_inside n p [] low inside = low
-ends_inside n p (x ∷ xs) low inside = let here : Inside p x = All-head (Inside p) x xs inside in let under = here.1 in ends_inside (x.t + 1) p xs (omega (arith, under)) (All-tail (Inside p) x xs inside)
 
 -- files that start at n or later have no sample before n
 pub from_there : (g : Granularity) (rows : List Row) (n : ℕ) (fs : List Filed) → All (IsFiled g rows) fs → AreApart fs → AllByRecursion (λ (f : Filed). n ≤ f.entry.part.start) fs → RisesFrom n (all_in fs)

@@ -21,7 +21,7 @@ use Rattle.durable_write.specs.Held.{Filed, Held, IsFiled, IsIn, entry_of, file_
 use Rattle.durable_write.specs.Stored.{Holds}
 
 -- fronts of one length are one
-same_front : (front other : List ℕ) (content : Content) → length front ≡ length other → Begins front content → Begins other content → front ≡ other
+pub same_front : (front other : List ℕ) (content : Content) → length front ≡ length other → Begins front content → Begins other content → front ≡ other
 same_front front other None long one two = absurd one
 same_front front other (Some bytes) long one two = sym one ∙ ap (λ (n : ℕ). take n bytes) long ∙ two
 

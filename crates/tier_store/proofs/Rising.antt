@@ -75,14 +75,14 @@ all_behind g rows id f (h ∷ fs) is own filed owns comes = (
   all_behind g rows id f fs is own (All-tail (IsFiled g rows) h fs filed) owns.1 (All-tail (Comes f) h fs comes),
 )
 
-abbrev Inside : Part → Sample → Type 0
+abbrev pub Inside : Part → Sample → Type 0
 Inside p s = HoldsMoment p s.t
 
-rises_inside : (n : ℕ) (p : Part) (xs : List Sample) → n ≤ p.start → IsRising xs → All (Inside p) xs → RisesFrom n xs
+pub rises_inside : (n : ℕ) (p : Part) (xs : List Sample) → n ≤ p.start → IsRising xs → All (Inside p) xs → RisesFrom n xs
 rises_inside n p [] low rising inside = tt
 rises_inside n p (x ∷ xs) low rising inside = let here : Inside p x = All-head (Inside p) x xs inside in (omega (arith, here.0, low), rising.1)
 
-ends_inside : (n : ℕ) (p : Part) (xs : List Sample) → n ≤ p.end → All (Inside p) xs → end_from n xs ≤ p.end
+pub ends_inside : (n : ℕ) (p : Part) (xs : List Sample) → n ≤ p.end → All (Inside p) xs → end_from n xs ≤ p.end
 ends_inside n p [] low inside = low
 ends_inside n p (x ∷ xs) low inside = let here : Inside p x = All-head (Inside p) x xs inside in ends_inside (x.t + 1) p xs (omega (arith, here.1)) (All-tail (Inside p) x xs inside)
 

@@ -269,7 +269,7 @@ module _ (tells : Bool) (at : Seen) (pins : FinMap nat_cmp PinOf) (copied : List
   )
 
 -- what is pinned is kept
-slice_contains : (xs : List PinnedFile) (i : ℕ) (x : PinnedFile) → slice_get xs i ≡ Some x → Contains (map piece_file xs) x.name
+pub slice_contains : (xs : List PinnedFile) (i : ℕ) (x : PinnedFile) → slice_get xs i ≡ Some x → Contains (map piece_file xs) x.name
 slice_contains [] i x is = absurd (cc (is))
 slice_contains (y ∷ xs) zero x is = (zero, omega arith, ap piece_file (same_Some y x is))
 slice_contains (y ∷ xs) (suc i) x is =
