@@ -1,9 +1,9 @@
 -- A store lists a file of a row and a partition just where it has samples of that partition.
-use Rattle.std.proofs.Common.{◌≡◌, ◌≢◌, ◌⊎◌, inl, inr, ℕ, zero, suc, ◌+◌, List, [], ◌∷◌, ◌++◌, Bool, true, false, cond, Some, refl, sym, ◌∙◌, ap, subst, arith}
+use Rattle.std.proofs.Common.{◌≡◌, ◌≢◌, ◌⊎◌, inl, inr, ℕ, suc, ◌+◌, List, [], ◌∷◌, ◌++◌, Bool, true, false, Some, refl, sym, ◌∙◌, ap, subst, arith}
 use Rattle.std.specs.List.{AllByRecursion}
 use Rattle.std.specs.Prelude.{All, Contains, IsTrue, filter, nat_eq, slice_get}
 use Rattle.std.proofs.lemmas.Bool.Decides.{Decides-eqb}
-use Rattle.std.proofs.lemmas.List.Elements.{All-contains, All-contains_itself, All-filter, All-from_recursion, All-head, All-tail, Contains-append_right, filter_passes}
+use Rattle.std.proofs.lemmas.List.Elements.{All-contains, All-contains_itself, All-filter, All-from_recursion, All-head, All-tail, filter_passes}
 use Rattle.std.proofs.lemmas.Option.{same_Some}
 use Rattle.partition_names.specs.declared.granularity.Granularity.{Granularity}
 use Rattle.partition_names.specs.declared.part.Part.{Part}
@@ -30,6 +30,7 @@ use Rattle.archive_core.specs.Stands.{TellsHeaders, HoldsDurable}
 use Rattle.archive_core.proofs.Lists.{same_or_not}
 use Rattle.archive_core.proofs.Windows.{RowFiles, own_files, list_is, index_low, all_in, windows, window_apart}
 use Rattle.act_model.proofs.Puts.{window-append}
+pub use Rattle.durable_write.proofs.Ahead.{contains_filter}
 
 -- one of the files starts there
 abbrev pub StartsAt : ℕ → List Filed → Type 0
@@ -53,19 +54,6 @@ none_starts g rows p (h ∷ files) part filed none =
     window-append p h.samples (all_in files) ∙ (ap (λ (xs : List Sample). xs ++ window p (all_in files)) (window_apart g rows h p (All-head (IsFiled g rows) h files filed) part none.0) ∙ none_starts g rows p files part (All-tail (IsFiled g rows) h files filed) none.1)
 
 -- what passes is there still
-pub contains_filter : {A : Type 0} (test : A → Bool) (xs : List A) (x : A) → Contains xs x → test x ≡ true → Contains (filter test xs) x
-contains_filter {A} test [] x (k, low, is) passes = absurd (omega (arith, low))
-contains_filter {A} test (y ∷ ys) x (zero, low, is) passes = by_test (test y) (ap test is ∙ passes)
-  where
-    by_test : (b : Bool) → b ≡ true → Contains (cond b (y ∷ filter test ys) (filter test ys)) x
-    by_test true passed = (0, omega arith, is)
-    by_test false never = absurd (cc (never))
-contains_filter {A} test (y ∷ ys) x (suc k, low, is) passes = by_test (test y) (contains_filter test ys x (k, omega (arith, low), is) passes)
-  where
-    by_test : (b : Bool) → Contains (filter test ys) x → Contains (cond b (y ∷ filter test ys) (filter test ys)) x
-    by_test true rest = Contains-append_right (y ∷ []) (filter test ys) x rest
-    by_test false rest = rest
-
 -- and what is there then was there, and passes
 pub from_filter : {A : Type 0} (test : A → Bool) (xs : List A) (x : A) → Contains (filter test xs) x → Contains xs x × (test x ≡ true)
 from_filter {A} test xs x there = (All-contains (λ (y : A). Contains xs y) (filter test xs) x (All-filter test (λ (y : A). Contains xs y) xs (All-contains_itself xs)) there, All-contains (λ (y : A). test y ≡ true) (filter test xs) x (filter_passes test xs) there)

@@ -94,14 +94,11 @@ leads_on held mid ahead one two = record {
 
 -- WHAT PIECES MAKE
 
-filter_has : (test : Filed → Bool) (xs : List Filed) (x : Filed) → Contains xs x → test x ≡ true → Contains (filter test xs) x
-filter_has test [] x (k, low, is) passes = absurd (omega (arith, low))
-filter_has test (y ∷ ys) x (zero, low, is) passes = by_test (test y) (ap test is ∙ passes)
-  where
-    by_test : (b : Bool) → b ≡ true → Contains (cond b (y ∷ filter test ys) (filter test ys)) x
-    by_test true passed = (0, omega arith, is)
-    by_test false never = absurd (cc (never))
-filter_has test (y ∷ ys) x (suc k, low, is) passes = by_test (test y) (filter_has test ys x (k, omega (arith, low), is) passes)
+-- what passes is there still
+pub contains_filter : {A : Type 0} (test : A → Bool) (xs : List A) (x : A) → Contains xs x → test x ≡ true → Contains (filter test xs) x
+contains_filter {A} test [] x (k, low, is) passes = absurd (omega (arith, low))
+contains_filter {A} test (y ∷ ys) x (zero, low, is) passes = subst (λ (b : Bool). Contains (cond b (y ∷ filter test ys) (filter test ys)) x) (sym (ap test is ∙ passes)) (zero, omega arith, is)
+contains_filter {A} test (y ∷ ys) x (suc k, low, is) passes = by_test (test y) (contains_filter test ys x (k, omega (arith, low), is) passes)
   where
     by_test : (b : Bool) → Contains (filter test ys) x → Contains (cond b (y ∷ filter test ys) (filter test ys)) x
     by_test true rest = Contains-append_right (y ∷ []) (filter test ys) x rest
@@ -121,8 +118,8 @@ put_has x xs h there apart =
     let front : Filed → Bool = λ y. comes_before (filed_at y) (filed_at x) in
     let back : Filed → Bool = λ y. comes_before (filed_at x) (filed_at y) in
     elim (in_order (filed_at h) (filed_at x)) [
-      | inl before ↦ Contains-append_left (filter front xs) (x ∷ filter back xs) h (filter_has front xs h there before)
-      | inr (inl behind) ↦ Contains-append_right (filter front xs) (x ∷ filter back xs) h (Contains-append_right (x ∷ []) (filter back xs) h (filter_has back xs h there behind))
+      | inl before ↦ Contains-append_left (filter front xs) (x ∷ filter back xs) h (contains_filter front xs h there before)
+      | inr (inl behind) ↦ Contains-append_right (filter front xs) (x ∷ filter back xs) h (Contains-append_right (x ∷ []) (filter back xs) h (contains_filter back xs h there behind))
       | inr (inr same) ↦ absurd (apart same)
     ]
 

@@ -34,17 +34,9 @@ use Rattle.tier_store.proofs.Places.{tier_set, tier_other}
 use Rattle.tier_store.proofs.Showing.{ListsTo, Spares, known_to, has_held, doubts_held, low_of, has_spares, ends_spares, fronts_beside}
 use Rattle.durable_write.proofs.Ahead.{contains_entry}
 use Rattle.durable_write.proofs.Revival.{one_of_place}
+pub use Rattle.durable_write.proofs.Ahead.{contains_filter}
 
 -- LISTS
-
-pub contains_filter : (test : Filed → Bool) (xs : List Filed) (f : Filed) → Contains xs f → test f ≡ true → Contains (filter test xs) f
-contains_filter test [] f (k, lt, is) passes = absurd (omega (arith, lt))
-contains_filter test (x ∷ xs) f (zero, lt, is) passes = subst (λ (b : Bool). Contains (cond b (x ∷ filter test xs) (filter test xs)) f) (sym (ap test is ∙ passes)) (zero, omega arith, is)
-contains_filter test (x ∷ xs) f (suc k, lt, is) passes = go (test x) (contains_filter test xs f (k, omega (arith, lt), is) passes)
-  where
-    go : (b : Bool) → Contains (filter test xs) f → Contains (cond b (x ∷ filter test xs) (filter test xs)) f
-    go true there = Contains-append_right (x ∷ []) (filter test xs) f there
-    go false there = there
 
 pub from_filter : (test : Filed → Bool) (xs : List Filed) (f : Filed) → Contains (filter test xs) f → Contains xs f
 from_filter test [] f there = there
