@@ -14,14 +14,15 @@ use Rattle.act_model.specs.History.{Done, Entry, Made}
 use Rattle.act_model.proofs.Histories.{made_joined, made_nothing}
 use Rattle.feed_session.specs.Asks.{AreMade, AsksFor, NoneFails, chunk_behind, flush_all}
 use Rattle.feed_session.specs.Asking.{Asking, Closes, Registers, StopsIn, both, end_by, none, tally_of}
-use Rattle.feed_session.specs.Session.{AreTaken, AsksLast, BeginsWith, CountsAll, Ended, EndsIn, IsFlushed, IsTaken, ReadsOf, Session, Taken, acts_of, chunk_after, items_of, moments_of}
+use Rattle.feed_session.specs.Session.{AreTaken, AsksLast, BeginsWith, CountsAll, Ended, EndsIn, IsFlushed, IsTaken, ReadsOf, Taken, acts_of, chunk_after, items_of, moments_of}
 use Rattle.feed_session.specs.declared.asking.Stopped.{Stopped}
 use Rattle.feed_session.specs.declared.asking.Stopped.TheVariants as stopped
 use Rattle.feed_session.specs.declared.end.Fed.{Fed}
 use Rattle.feed_session.specs.declared.end.Fed.TheVariants as fed
 use Rattle.feed_session.specs.declared.tally.Tally.{Tally}
 use Rattle.feed_session.proofs.Making.{both_none, tally_on}
-use Rattle.feed_session.proofs.Reading.{none_read, passes_on, read_nothing}
+use Rattle.feed_session.proofs.Reading.{none_read, read_nothing}
+use Rattle.pb_lines.proofs.Passing.{passes_join}
 
 pub gives_nothing : (a : Option Moments) → Gives a a []
 gives_nothing None = tt
@@ -94,7 +95,7 @@ module _ {A : Type 0} (number : A → ℕ) (between : A → List Entry → A →
           taken = p.taken ++ t ∷ [];
           are = taken_on registers None p.taken t p.are (record { asked = q.asked; asks = subst (λ (c : Option PayloadInfo). AsksFor registers c item q.moments q.asked) (sym p.inside) q.asks; made = q.are; well = q.well });
           inside = chunk_on None p.taken t ∙ (ap (λ (c : Option PayloadInfo). chunk_behind c item) p.inside ∙ sym q.inside);
-          passed = subst (λ (l : List Item). Passes first new before after l) (sym (items_on p.taken t)) (passes_on first mid new before middle after (items_of p.taken) (item ∷ []) p.passed q.passed);
+          passed = subst (λ (l : List Item). Passes first new before after l) (sym (items_on p.taken t)) (passes_join first mid new before middle after (items_of p.taken) (item ∷ []) p.passed q.passed);
           at = subst (λ (l : List ℕ). Gives clock clock'' l) (sym (moments_on p.taken t)) (gives_on clock clock' clock'' (moments_of p.taken) q.moments p.at q.at);
           made = subst (λ (l : List Done). Made number between start l next) (sym (acts_on p.taken t)) (made_joined number between joined number_stays start now next (acts_of p.taken) q.done p.made q.made);
           counted = q.counted ∙ (ap (λ (x : Tally). both x (tally_of q.done)) p.counted ∙ (sym (tally_on (acts_of p.taken) q.done) ∙ ap tally_of (sym (acts_on p.taken t))));

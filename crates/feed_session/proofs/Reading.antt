@@ -1,11 +1,10 @@
 -- What was read of a stream, from its start.
-use Rattle.std.proofs.Common.{◌≡◌, ◌∙◌, sym, subst, ℕ, List, [], ◌++◌, append_assoc, append-nil, arith, inl, inr, lit≤, ◌+◌, ◌^◌, ◌≤◌, Option, Some, None}
+use Rattle.std.proofs.Common.{◌≡◌, ◌∙◌, sym, subst, ℕ, List, [], ◌++◌, append-nil, arith, inl, inr, lit≤, ◌+◌, ◌^◌, ◌≤◌, Option, Some, None}
 use Rattle.std.specs.Prelude.{IfSome}
-use Rattle.std.proofs.KnownBytes.{prepend_known-nil}
 use Rattle.payload_info.specs.declared.info.PayloadInfo.{PayloadInfo}
 use Rattle.pb_lines.specs.declared.reader.ChunkItem.TheVariants as it
 use Rattle.pb_lines.specs.Stream.{Item, Stop, IsWholeStream, first_section}
-use Rattle.pb_lines.specs.Reader.{Chunks, Holds, IsFresh, Passes, IsLineOf, Stops, bytes_taken, lines_taken, to_come, work_left}
+use Rattle.pb_lines.specs.Reader.{Chunks, IsFresh, Passes, IsLineOf, Stops, bytes_taken, lines_taken, to_come, work_left}
 use Rattle.pb_lines.proofs.Whole.{every_stream}
 use Rattle.series_model.specs.declared.sample.Sample.{Sample}
 use Rattle.pv_name.specs.Name.{IsName, IsRefusedAt}
@@ -13,33 +12,12 @@ use Rattle.act_model.specs.Event.{IsEvent}
 use Rattle.feed_session.specs.Asking.{none, total}
 use Rattle.feed_session.specs.Session.{BeginsWith}
 use Rattle.feed_session.specs.declared.tally.Tally.{Tally}
-
--- first these items, and then more
-pub passes_on : (old mid new : Chunks) (before middle after : Option (List ℕ)) (items more : List Item) → Passes old mid before middle items → Passes mid new middle after more → Passes old new before after (items ++ more)
-passes_on old mid new None middle after items more h k = tt
-passes_on old mid new (Some xs) None after items more h k = absurd h
-passes_on old mid new (Some xs) (Some ys) None items more h k = k
-passes_on old mid new (Some xs) (Some ys) (Some zs) items more h k = λ rest stop l.
-    let P : List Item → Type 0 = λ all. Holds old xs all stop in
-    subst P (sym (append_assoc items more rest)) (h (more ++ rest) stop (k rest stop l))
-
-passes_none : (c : Chunks) (left : Option (List ℕ)) → Passes c c left left []
-passes_none c None = tt
-passes_none c (Some xs) = λ rest stop h. h
-
--- a fresh reader has all of the source before it
-fresh_before : (c : Chunks) (left : Option (List ℕ)) → IsFresh c → to_come c left ≡ left
-fresh_before c left is =
-    let P : Chunks → Type 0 = λ c. to_come c left ≡ left in
-    subst P (sym is) (prepend_known-nil left)
+use Rattle.pb_lines.proofs.Passing.{nothing_read, fresh_before, fresh_holds}
 
 pub read_nothing : (c : Chunks) (left : Option (List ℕ)) → IsFresh c → Passes c c left (to_come c left) []
 read_nothing c left fresh =
     let P : Option (List ℕ) → Type 0 = λ all. Passes c c all (to_come c left) [] in
-    subst P (fresh_before c left fresh) (passes_none c (to_come c left))
-
-fresh_holds : (c : Chunks) (xs : List ℕ) (items : List Item) (stop : Stop) → IsFresh c → Holds c xs items stop → IsWholeStream xs items stop
-fresh_holds c xs items stop is h = let P : Chunks → Type 0 = λ c. Holds c xs items stop in subst P is h
+    subst P (fresh_before c left fresh) (nothing_read c (to_come c left))
 
 -- the stream begins with what was read
 pub some_read : (old new : Chunks) (before after : Option (List ℕ)) (items : List Item) → IsFresh old → Passes old new before after items → IfSome before (λ bytes. BeginsWith bytes items)

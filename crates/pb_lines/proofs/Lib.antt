@@ -6,3 +6,4 @@ pub mod FileLines
 pub mod FileMeaning
 pub mod Final
 pub mod Running
+pub mod Passing

@@ -14,6 +14,7 @@ use Rattle.pb_lines.specs.declared.reader.ChunkItem.TheVariants as it
 use Rattle.pb_lines.specs.Stream.{Item, header, sample, chunk_end, Section, Stop, IsStream, IsLines, IsItems, IsEnding, Skips, Gives, Fails, Ends, within, between}
 use Rattle.pb_lines.specs.Reader.{Chunks, to_come, lines_taken, bytes_taken, Holds, Passes, Stops, ReadsItem, ReadsLine, TakesLine, Fetches, EndsStream, HasLine, TakesOne, TakesNone, Counts, CountsOn, line_number, work_left}
 use Rattle.pb_lines.proofs.Lines.{cut_of}
+use Rattle.pb_lines.proofs.Passing.{nothing_read}
 
 -- THE LINE AT THE FRONT
 
@@ -63,10 +64,6 @@ passes_line old new r (Some ys) items h = λ rest stop k. rw (append_assoc r.lin
 stops_line : (old : Chunks) (r : Reader) (left : Option (List ℕ)) (stop : Stop) → ((ys : List ℕ) → Holds old (r.line ++ 10 ∷ ys) [] stop) → Stops old (prepend_known (r.line ++ 10 ∷ []) left) stop
 stops_line old r None stop h = tt
 stops_line old r (Some ys) stop h = rw (append_assoc r.line (10 ∷ []) ys) (h ys)
-
-passes_nothing : (c : Chunks) (left : Option (List ℕ)) → Passes c c left left []
-passes_nothing c None = tt
-passes_nothing c (Some xs) = λ rest stop h. h
 
 -- a reader whose last line is to be taken, and what it is behind it
 abbrev pub before_line : Reader → Section → Chunks
@@ -122,7 +119,7 @@ takes_before r s new left (Some (it.Refused f)) has h =
 takes_before r s new left (Some it.Memory) has h =
     let old = before_line r s in
     let P : Chunks → Type 0 = λ n. ReadsLine old n (to_come old left) (to_come n left) (Some it.Memory) in
-    subst P (sym h) (refl, passes_nothing old (to_come old left), refl)
+    subst P (sym h) (refl, nothing_read old (to_come old left), refl)
 takes_before r s new left (Some it.End) has h = absurd h
 takes_before r s new left (Some it.SourceFault) has h = absurd h
 

@@ -1,4 +1,3 @@
 pub mod Answers
 pub mod Progress
-pub mod Stream
 pub mod Runs

@@ -1,10 +1,9 @@
 -- How far an extraction has come.
-use Rattle.std.proofs.Common.{◌≡◌, ℕ, ◌+◌, ◌⊎◌, inl, inr, List, [], ◌∷◌, ◌++◌, Bool, true, false, Option, Some, None, Result, Ok, Err, length, take, arith, refl, sym, ap, ◌∙◌, subst, append_assoc}
+use Rattle.std.proofs.Common.{◌≡◌, ℕ, ◌+◌, ◌⊎◌, inl, inr, List, [], ◌∷◌, ◌++◌, Bool, true, false, Option, Some, None, Result, Ok, Err, arith, refl, sym, ap, ◌∙◌, subst, append_assoc}
 use Rattle.std.specs.Prelude.{IfSome, IsSome, OnOk, OnErr, is_err, if◌then◌else◌}
 use Rattle.std.specs.Io.KnownBytes.{Appends}
 use Rattle.std.proofs.KnownBytes.{Appends-trans, Appends-nil}
-use Rattle.std.proofs.lemmas.List.{append-nil, length-append, take-append-le}
-use Rattle.std.proofs.Math.Seq.{take-append-add}
+use Rattle.std.proofs.lemmas.List.{append-nil}
 use Rattle.edge_io.specs.Stream.{AppendsFront}
 use Rattle.series_model.specs.declared.sample.Sample.{Sample}
 use Rattle.series_model.specs.declared.sample.Query.{Query}
@@ -15,7 +14,7 @@ use Rattle.pb_lines.specs.declared.reader.ChunkItem.TheVariants as it
 use Rattle.pb_lines.specs.Stream.{Item, header, sample, chunk_end, Section, Stop, first_section, between}
 use Rattle.pb_lines.specs.Reader.{Chunks, Passes, Stops, ReadsItem, ReadsLine, IsFresh, to_come, lines_taken, bytes_taken}
 use Rattle.pb_lines.proofs.Whole.{every_stream}
-use Rattle.stream_extract.proofs.Stream.{passes_join, nothing_read, fresh_before, fresh_holds}
+use Rattle.pb_lines.proofs.Passing.{passes_join, nothing_read, fresh_before, fresh_holds}
 use Rattle.command_words.specs.declared.status.Status.{Status}
 use Rattle.command_words.specs.declared.status.Status.TheVariants.{SinkFault}
 use Rattle.stream_extract.specs.Extract.{lines_text, known, Before, nothing, chunks, samples, text_behind, extracted}

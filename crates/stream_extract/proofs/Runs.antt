@@ -17,7 +17,7 @@ use Rattle.pb_lines.proofs.Running.{last_line}
 use Rattle.stream_extract.specs.Extract.{lines_text, known, Before, samples, text_behind, extracted}
 use Rattle.stream_extract.specs.Answer.{Answering, Adds, TakesAll, OnOneSide, IsBound, IsFollowed, next_of}
 use Rattle.stream_extract.specs.Run.{Sends, Runs, RunsOn}
-use Rattle.stream_extract.proofs.Stream.{passes_join}
+use Rattle.pb_lines.proofs.Passing.{passes_join}
 use Rattle.stream_extract.proofs.Progress.{Progress, Stands, inside_mode}
 
 -- THE TEXT OF A RUN

@@ -1,5 +1,5 @@
-use Rattle.std.proofs.Common.{◌≡◌, ◌∙◌, sym, ap, subst, refl, arith, inl, inr, Some, None, Option, [], ◌∷◌, ◌++◌, ℕ, List, append-nil}
-use Rattle.std.specs.Prelude.{IfSome, false}
+use Rattle.std.proofs.Common.{◌≡◌, ◌∙◌, sym, ap, subst, refl, arith, inl, Some, None, [], ◌∷◌, ◌++◌, ℕ, List, append-nil}
+use Rattle.std.specs.Prelude.{false}
 use Rattle.std.specs.Io.KnownBytes.{Appends}
 use Rattle.std.proofs.KnownBytes.{Appends-nil}
 use Rattle.pb_lines.specs.declared.reader.ChunkItem.TheVariants as it
@@ -8,13 +8,14 @@ use Rattle.pb_lines.specs.Stream.{Item, Section, chunk_end, header, sample}
 use Rattle.pb_lines.proofs.Reading.{when_none}
 use Rattle.act_model.specs.History.{Done}
 use Rattle.feed_session.specs.Asks.{offer_of}
-use Rattle.feed_session.specs.Asking.{both, cut_by, end_by, tally_of}
+use Rattle.feed_session.specs.Asking.{both, cut_by, tally_of}
 use Rattle.feed_session.specs.Session.{CountsAll, ReadsOf, acts_of, items_of}
 use Rattle.feed_session.specs.declared.end.Fed.TheVariants as fed
 use Rattle.feed_session.specs.declared.tally.Tally.{Tally}
-use Rattle.feed_session.proofs.Going.{begins_all, closed_ends, gives_nothing, goes_on, not_started, ok_then, stopped_at, stopped_idle, taken_as, taken_idle, taken_of}
-use Rattle.feed_session.proofs.Reading.{all_read, few_first, passes_on, some_read}
+use Rattle.feed_session.proofs.Going.{begins_all, closed_ends, goes_on, not_started, ok_then, stopped_at, stopped_idle, taken_as, taken_idle, taken_of}
+use Rattle.feed_session.proofs.Reading.{all_read, few_first, some_read}
 use Rattle.feed_session.proofs.Telling.{cut_counts, cut_cuts, cut_ends, cut_reads, tells_chunk_end, tells_first, tells_header, tells_sample, told_front}
+use Rattle.pb_lines.proofs.Passing.{passes_join}
 use Rattle.feed_session.proofs.over_link.feed_chunks.Goals as goal
 
 pub returns-in_default-clause-feeds : goal.returns-in_default-clause-feeds
@@ -105,7 +106,7 @@ returns-in-Err-clause-feeds g c =
       taken = p.taken;
       ended = stopped_at number between g.met.A.Actor.joined g.met.A.Actor.number_stays p item (now ∷ []) (offer_of of.0 (record { t = t; line = new.lines.line }) now ∷ []) (λ _ (done : List Done). call.new.tally ≡ both c.items.tally (tally_of done)) call.result c.in-Err.stopped c.in-Err.is
           (of.0, sym (ap (λ (s : Section). s.chunk) read.0) ∙ of.1, now, refl, refl) (call.ensures.asked of.0 of.1)
-          (some_read c.in-Ok.reader new before after (items_of p.taken ++ item ∷ []) c.in-Ok.ensures (passes_on c.in-Ok.reader mid new before middle after (items_of p.taken) (item ∷ []) p.passed read.1))
+          (some_read c.in-Ok.reader new before after (items_of p.taken ++ item ∷ []) c.in-Ok.ensures (passes_join c.in-Ok.reader mid new before middle after (items_of p.taken) (item ∷ []) p.passed read.1))
           c.now-now.ensures.gives;
       told = inl (refl, known.telling.told);
     })

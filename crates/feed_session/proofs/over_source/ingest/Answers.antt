@@ -1,6 +1,5 @@
-use Rattle.std.proofs.Common.{◌≡◌, ◌∙◌, sym, ap, subst, refl, arith, inl, inr, Some, None, Option, [], ◌∷◌, ◌++◌, ℕ, List, Ok, Err, append-nil}
-use Rattle.std.specs.Prelude.{IfSome, Result, true}
-use Rattle.payload_info.specs.declared.info.PayloadInfo.{PayloadInfo}
+use Rattle.std.proofs.Common.{◌≡◌, ◌∙◌, sym, ap, subst, refl, arith, inl, Some, None, [], ◌∷◌, ◌++◌, ℕ, List, Ok, Err, append-nil}
+use Rattle.std.specs.Prelude.{true}
 use Rattle.pb_lines.specs.declared.reader.ChunkItem.TheVariants as it
 use Rattle.pb_lines.specs.Reader.{Chunks, ReadsItem, Stops, to_come}
 use Rattle.pb_lines.specs.Stream.{Item, Section, chunk_end, header, sample}
@@ -8,13 +7,14 @@ use Rattle.pb_lines.proofs.Reading.{when_none}
 use Rattle.act_model.specs.History.{Done}
 use Rattle.feed_session.specs.Asks.{offer_of}
 use Rattle.feed_session.specs.Asking.{both, tally_of}
-use Rattle.feed_session.specs.Session.{CountsAll, Ended, ReadsOf, acts_of, items_of}
+use Rattle.feed_session.specs.Session.{CountsAll, ReadsOf, acts_of, items_of}
 use Rattle.feed_session.specs.declared.end.Fed.{Fed}
 use Rattle.feed_session.specs.declared.end.Fed.TheVariants as fed
 use Rattle.feed_session.specs.declared.tally.Tally.{Tally}
-use Rattle.feed_session.proofs.Going.{begins_all, closed_ends, gives_nothing, goes_on, header_stopped, header_taken, not_both, not_started, ok_then, starts, stopped_at, stopped_idle, taken_idle, taken_of}
-use Rattle.feed_session.proofs.Reading.{all_read, few_first, passes_on, some_read}
+use Rattle.feed_session.proofs.Going.{begins_all, closed_ends, goes_on, header_stopped, header_taken, not_both, not_started, ok_then, starts, stopped_at, stopped_idle, taken_idle, taken_of}
+use Rattle.feed_session.proofs.Reading.{all_read, few_first, some_read}
 use Rattle.feed_session.proofs.over_source.ingest.Goals.{in-Header, in-Sample, in-ChunkEnd}
+use Rattle.pb_lines.proofs.Passing.{passes_join}
 use Rattle.feed_session.proofs.over_source.ingest.Goals as goal
 
 pub returns-in_default-clause-ingests : goal.returns-in_default-clause-ingests
@@ -112,7 +112,7 @@ returns-in-Err-clause-ingests g c =
           rw (w.actor-is, w.clock-is) (record {
             taken = p.taken;
             ended = header_stopped number between joined stays g.met.A.Actor.nothing p read.0 new.lines.line w.register-asked.result s (sym w.asked-is ∙ c.in-Err.is) registered
-                (some_read c.in-Ok.reader new before after (items_of p.taken ++ item ∷ []) c.in-Ok.ensures (passes_on c.in-Ok.reader mid new before middle after (items_of p.taken) (item ∷ []) p.passed read.2))
+                (some_read c.in-Ok.reader new before after (items_of p.taken ++ item ∷ []) c.in-Ok.ensures (passes_join c.in-Ok.reader mid new before middle after (items_of p.taken) (item ∷ []) p.passed read.2))
                 (some_read c.in-Ok.reader mid before middle (items_of p.taken) c.in-Ok.ensures p.passed);
           })
       | in-Sample w ↦
@@ -127,7 +127,7 @@ returns-in-Err-clause-ingests g c =
             taken = p.taken;
             ended = stopped_at number between joined stays p item (now ∷ []) (offer_of of.0 (record { t = t; line = new.lines.line }) now ∷ []) (λ _ (done : List Done). call.new.tally ≡ both c.items.tally (tally_of done)) call.result s (sym w.asked-is ∙ c.in-Err.is)
                 (of.0, sym (ap (λ (x : Section). x.chunk) read.0) ∙ of.1, now, refl, refl) asked
-                (some_read c.in-Ok.reader new before after (items_of p.taken ++ item ∷ []) c.in-Ok.ensures (passes_on c.in-Ok.reader mid new before middle after (items_of p.taken) (item ∷ []) p.passed read.1))
+                (some_read c.in-Ok.reader new before after (items_of p.taken ++ item ∷ []) c.in-Ok.ensures (passes_join c.in-Ok.reader mid new before middle after (items_of p.taken) (item ∷ []) p.passed read.1))
                 w.now-now.ensures.gives;
           })
       | in-ChunkEnd w ↦ not_both c.match-next.asked tt s w.asked-is c.in-Err.is

@@ -1,4 +1,4 @@
--- What a reader of a stream took.
+-- What a reader of a stream passed, and what a fresh one has before it.
 use Rattle.std.proofs.Common.{◌≡◌, ℕ, List, [], ◌++◌, Option, Some, None, sym, subst, append_assoc}
 use Rattle.std.proofs.KnownBytes.{prepend_known-nil}
 use Rattle.pb_lines.specs.Stream.{Item, Stop, IsWholeStream}
