@@ -15,15 +15,6 @@ use Rattle.durable_write.specs.Plan.{IsLastOf}
 use Rattle.etl_mover.specs.Move.{MoveState, HasBegun, IsMove, StillLists, of_series, part_file}
 use Rattle.store_manifest.proofs.Changes.{order_filter}
 
--- each comes before all behind it also where some are left out
-filter_front : (P : Entry → Type 0) (p : Entry → Bool) (xs : List Entry) → AllByRecursion P xs → AllByRecursion P (filter p xs)
-filter_front P p [] all = tt
-filter_front P p (x ∷ xs) all = go (filter_front P p xs all.1) (p x)
-  where
-    go : AllByRecursion P (filter p xs) → (b : Bool) → AllByRecursion P (cond b (x ∷ filter p xs) (filter p xs))
-    go rest true = (all.0, rest)
-    go rest false = rest
-
 pub take_front : (P : Entry → Type 0) (n : ℕ) (xs : List Entry) → AllByRecursion P xs → AllByRecursion P (take n xs)
 take_front P zero xs all = tt
 take_front P (suc n) [] all = tt
