@@ -1,12 +1,13 @@
 -- Where a place is among the entries of one series.
 use Rattle.std.proofs.Common.{◌≡◌, inl, inr, ℕ, zero, suc, ◌+◌, ◌<◌, ◌≤◌, ◌||◌, Bool, true, false, List, [], ◌∷◌, ◌++◌, length, get_or, take, drop, ltb, refl, sym, ◌∙◌, ap, subst, arith, take-append-drop, append-nil, length-drop}
 use Rattle.std.proofs.lemmas.Bool.{cases_order}
-use Rattle.std.proofs.lemmas.Bool.Decides.{nat_tests}
-use Rattle.std.proofs.lemmas.List.{drop_more, get_or-take, get_or-drop, length-take-le}
+use Rattle.std.proofs.lemmas.Bool.Decides.{Decides-eqb, nat_tests}
+use Rattle.std.proofs.lemmas.List.{drop_more, get_or_default, get_or-take, get_or-drop, length-take-le}
 use Rattle.std.proofs.lemmas.List.Elements.{filter-append, recursion_from_All}
 use Rattle.std.proofs.lemmas.List.Folds.{list_any-append}
 use Rattle.std.specs.List.{filter, list_any, AllByRecursion, AllWithin}
-use Rattle.std.specs.List.Sorted.{IsPartitionedBy}
+use Rattle.std.specs.List.Sorted.{IsPartitionPoint, IsPartitionedBy}
+use Rattle.std.specs.Prelude.{◌==◌, nat_lt}
 use Rattle.store_manifest.specs.declared.entry.Entry.{Entry}
 use Rattle.store_manifest.specs.Entries.{Place, place, comes_before, is_place, is_listed, spliced}
 use Rattle.store_manifest.specs.Listing.{OfSeries, IsAround}
@@ -183,3 +184,18 @@ module _ (s t : ℕ) (xs : List Entry) (i : ℕ) (of : OfSeries s xs) (le : i �
 
 pub spliced_around : (p : Place) (xs mid : List Entry) (low high : ℕ) → IsAround p xs low high → take low xs ++ (mid ++ drop high xs) ≡ spliced place p mid xs
 spliced_around p xs mid low high around = ap (λ (l : List Entry). l ++ (mid ++ drop high xs)) (sym around.before) ∙ ap (λ (l : List Entry). filter (λ y. comes_before (place y) p) xs ++ (mid ++ l)) (sym around.behind)
+
+-- THE ENTRY AT A MOMENT
+
+-- the entry behind those that begin before the moment begins then, or none does
+pub listed_at : (s t : ℕ) (xs : List Entry) (i : ℕ) (d : Entry) → OfSeries s xs → i ≤ length xs → IsPartitionPoint (λ x. nat_lt x.part.start t ≡ true) (λ x. nat_lt x.part.start t ≡ false) xs i → i < length xs → ((get_or xs i d).part.start == t) ≡ is_listed xs (s, t)
+listed_at s t xs i d of le point within = go ((get_or xs i d).part.start == t) refl
+  where
+    go : (b : Bool) → ((get_or xs i d).part.start == t) ≡ b → b ≡ is_listed xs (s, t)
+    go true is = sym (is_there s t xs i of le point.0 point.1 (get_or xs i d) within (get_or_default xs i d (get_or xs i d) within) ((Decides-eqb (get_or xs i d).part.start t).0 is))
+    go false is = sym (not_listed s t xs i of le point.0 point.1 (λ e low start.
+        let yes : ((get_or xs i d).part.start == t) ≡ true = (Decides-eqb (get_or xs i d).part.start t).1 (ap (λ (x : Entry). x.part.start) (get_or_default xs i d e low) ∙ start) in
+        absurd (cc (yes, is))))
+
+pub none_at : (s t : ℕ) (xs : List Entry) (i : ℕ) → OfSeries s xs → i ≤ length xs → IsPartitionPoint (λ x. nat_lt x.part.start t ≡ true) (λ x. nat_lt x.part.start t ≡ false) xs i → length xs ≤ i → false ≡ is_listed xs (s, t)
+none_at s t xs i of le point behind = sym (not_listed s t xs i of le point.0 point.1 (λ d low start. absurd (omega (arith, low, behind))))

@@ -38,3 +38,4 @@ pub use laws::{
     entries_are_in_order, one_granularity, one_listing,
 };
 pub use manifest::Manifest;
+pub use series::begins_at;

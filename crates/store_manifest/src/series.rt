@@ -21,11 +21,21 @@ pub(crate) fn find(entries: &[Entry], series: u32, start: u64) -> Result<usize, 
     Ok(at)
 }
 
+/// Whether the partition of one of a series' entries begins at this moment. The entries are those of one series, in order.
+pub fn begins_at(entries: &[Entry], start: u64) -> bool
+    ensures { (series : ℕ) → OfSeries series entries.now → result ≡ is_listed entries.now (series, start) }
+{
+    let at = front(entries, start);
+    if at >= entries.len() {
+        return false;
+    }
+    entries[at].part.start == start
+}
+
 // How many begin before this moment.
 fn front(entries: &[Entry], start: u64) -> usize
-    requires { (series : ℕ) × OfSeries series entries.now }
     ensures within { result ≤ length entries.now }
-    ensures point { IsPartitionPoint (λ e. nat_lt e.part.start start ≡ true) (λ e. nat_lt e.part.start start ≡ false) entries.now result }
+    ensures point { (series : ℕ) → OfSeries series entries.now → IsPartitionPoint (λ e. nat_lt e.part.start start ≡ true) (λ e. nat_lt e.part.start start ≡ false) entries.now result }
 {
     entries.partition_point(|entry| entry.part.start < start)
 }

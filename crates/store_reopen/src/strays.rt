@@ -1,12 +1,10 @@
 // Which files are strays: they are named as files of rows and partitions, and no manifest lists them.
-ghost use Rattle.std.specs.Prelude.{◌≡◌, ◌≤◌, ◌<◌, ◌+◌, ◌↔◌, ℕ, All, IfOk, IfSome, IsTrue, Some, false, length, nat_lt, slice_get, true};
-ghost use Rattle.std.specs.List.Sorted.{IsPartitionPoint};
+ghost use Rattle.std.specs.Prelude.{◌≡◌, ◌<◌, ◌+◌, ◌↔◌, ℕ, All, IfOk, IfSome, IsTrue, Some, false, length, slice_get};
 ghost use Rattle.partition_names.specs.declared.part.Part.{Part as PartValue};
 ghost use Rattle.pv_name.specs.Key.{key_of};
 ghost use Rattle.pv_catalog.specs.Rows.{AreRows, HasKey};
 ghost use Rattle.pv_catalog.specs.declared.row.Row.{Row as RowValue};
 ghost use Rattle.store_manifest.specs.Entries.{AreEntries, InOrder, is_listed};
-ghost use Rattle.store_manifest.specs.Listing.{OfSeries};
 ghost use Rattle.store_reopen.specs.Verdict.{HasRow};
 ghost use Rattle.store_reopen.specs.Strays.{IsFileOf, IsStrayOf};
 
@@ -16,7 +14,7 @@ use partition_names::{Granularity, Part};
 use pv_catalog::{Catalogue, RegisterErr};
 use pv_name::{NameErr, PvName};
 use std::alloc::{AllocError, Global};
-use store_manifest::{Entry, Manifest};
+use store_manifest::{Manifest, begins_at};
 
 // Whether a file of the manifest's store is a stray.
 pub(crate) fn is_stray(
@@ -97,23 +95,4 @@ pub(crate) fn is_listed(manifest: &Manifest, series: u32, start: u64) -> bool
     ensures { result ≡ is_listed manifest.now.entries (series, start) }
 {
     begins_at(manifest.entries(series), start)
-}
-
-// Whether the partition of one of a series' entries begins at this moment.
-fn begins_at(entries: &[Entry], start: u64) -> bool
-    ensures { (series : ℕ) → OfSeries series entries.now → result ≡ is_listed entries.now (series, start) }
-{
-    let at = front(entries, start);
-    if at >= entries.len() {
-        return false;
-    }
-    entries[at].part.start == start
-}
-
-// How many of a series' partitions begin before this moment.
-fn front(entries: &[Entry], start: u64) -> usize
-    ensures within { result ≤ length entries.now }
-    ensures point { (series : ℕ) → OfSeries series entries.now → IsPartitionPoint (λ e. nat_lt e.part.start start ≡ true) (λ e. nat_lt e.part.start start ≡ false) entries.now result }
-{
-    entries.partition_point(|entry| entry.part.start < start)
 }

@@ -1,7 +1,7 @@
 -- What a sweep finds in lists and in limbo, and how files are removed one after another.
 use Rattle.std.proofs.Common.{◌≡◌, ◌≢◌, inl, inr, ℕ, zero, suc, ◌<◌, List, [], ◌∷◌, ◌++◌, length, map, take, get_or, refl, sym, ◌∙◌, ap, subst, arith, Bool, true, false, cond, ◌==◌, ◌≤◌, ◌+◌, filter, Some, None, Ok, Err, ◌⊎◌}
 use Rattle.std.specs.List.{AllPairs, AllByRecursion, items_where_true, list_any}
-use Rattle.std.specs.Prelude.{All, Contains, IsTrue, ◌↔◌, not, nat_lt, slice_get, Result, OnOk, OnErr, IsErr, IsSome}
+use Rattle.std.specs.Prelude.{All, Contains, IsTrue, ◌↔◌, not, slice_get, Result, OnOk, OnErr, IsErr, IsSome}
 use Rattle.std.proofs.lemmas.List.Elements.{All-append, All-contains, All-head, All-tail, All-take, Contains-get_or, All-more, Contains-append_left, Contains-append_right, All-nil, All-push, Contains-push, Contains-push_cases}
 use Rattle.std.proofs.lemmas.List.Kept.{AllPairs-cons}
 use Rattle.partition_names.specs.declared.granularity.Granularity.{Granularity}
@@ -20,7 +20,6 @@ use Rattle.std.specs.FinMap.{FinMap}
 use Rattle.std.specs.Ordering.{nat_cmp}
 use Rattle.std.specs.Result.{result_and}
 use Rattle.std.specs.List.Retain.{IsFiltered, ReturnsInTurn}
-use Rattle.std.specs.List.Sorted.{IsPartitionPoint}
 use Rattle.std.proofs.lemmas.Bool.Decides.{Decides-eqb}
 use Rattle.std.proofs.lemmas.List.{get_or_default, take_more}
 use Rattle.disk_model.specs.Files.{Name, Content, Files, At, Becomes, KeptOr, Rose, HasFile}
@@ -35,7 +34,6 @@ use Rattle.store_manifest.specs.declared.entry.Entry.{Entry}
 use Rattle.store_manifest.specs.Entries.{place, comes_before, is_listed, InOrder}
 use Rattle.store_manifest.specs.Listing.{OfSeries}
 use Rattle.store_manifest.specs.Manifest.{ManifestState}
-use Rattle.store_manifest.proofs.Around.{not_listed, is_there}
 use Rattle.tier_store.specs.Stores.{Stores, list_at}
 use Rattle.tier_store.specs.Seen.{Seen, AtEach}
 use Rattle.tier_store.specs.Change.{IsKnown}
@@ -151,19 +149,6 @@ order_series s (e ∷ es) order =
 -- so are those of one series
 pub of_series : (s : ℕ) (es : List Entry) → InOrder es → OfSeries s (filter (λ e. e.series == s) es)
 of_series s es order = (own_series s es, order_series s es order)
-
--- the entry behind those that begin before the moment begins then, or none does
-pub listed_at : (s t : ℕ) (xs : List Entry) (i : ℕ) (d : Entry) → OfSeries s xs → i ≤ length xs → IsPartitionPoint (λ x. nat_lt x.part.start t ≡ true) (λ x. nat_lt x.part.start t ≡ false) xs i → i < length xs → ((get_or xs i d).part.start == t) ≡ is_listed xs (s, t)
-listed_at s t xs i d of le point within = go ((get_or xs i d).part.start == t) refl
-  where
-    go : (b : Bool) → ((get_or xs i d).part.start == t) ≡ b → b ≡ is_listed xs (s, t)
-    go true is = sym (is_there s t xs i of le point.0 point.1 (get_or xs i d) within (get_or_default xs i d (get_or xs i d) within) ((Decides-eqb (get_or xs i d).part.start t).0 is))
-    go false is = sym (not_listed s t xs i of le point.0 point.1 (λ e low start.
-        let yes : ((get_or xs i d).part.start == t) ≡ true = (Decides-eqb (get_or xs i d).part.start t).1 (ap (λ (x : Entry). x.part.start) (get_or_default xs i d e low) ∙ start) in
-        absurd (cc (yes, is))))
-
-pub none_at : (s t : ℕ) (xs : List Entry) (i : ℕ) → OfSeries s xs → i ≤ length xs → IsPartitionPoint (λ x. nat_lt x.part.start t ≡ true) (λ x. nat_lt x.part.start t ≡ false) xs i → length xs ≤ i → false ≡ is_listed xs (s, t)
-none_at s t xs i of le point behind = sym (not_listed s t xs i of le point.0 point.1 (λ d low start. absurd (omega (arith, low, behind))))
 
 -- whether the manifest of a file's store lists one of its row and partition
 pub lists_there : (ms : List ManifestState) (r : Retired) (i : ℕ) (m : ManifestState) (s t : ℕ) (es : List Entry) (b : Bool) → AtEach ms (λ k n. InOrder n.entries) → r.name.0 ≡ i + 1 → slice_get ms i ≡ Some m → s ≡ r.entry.series → t ≡ r.entry.part.start → es ≡ filter (λ (e : Entry). e.series == s) m.entries

@@ -1,8 +1,6 @@
 // Retired files that are still on the disk, and which of them a store lists again.
-ghost use Rattle.std.specs.Prelude.{◌≡◌, ◌≤◌, ◌<◌, ℕ, true, false, nat_lt, length, IfOk, IfSome};
-ghost use Rattle.std.specs.List.Sorted.{IsPartitionPoint};
-ghost use Rattle.store_manifest.specs.Entries.{InOrder, is_listed};
-ghost use Rattle.store_manifest.specs.Listing.{OfSeries};
+ghost use Rattle.std.specs.Prelude.{◌≡◌, ◌<◌, true, false, IfOk, IfSome};
+ghost use Rattle.store_manifest.specs.Entries.{InOrder};
 ghost use Rattle.tier_store.specs.Limbo.{ListsPlace, Stay};
 ghost use Rattle.tier_store.specs.Revival.{AreUnlistedIn, IsUnlistedOf};
 ghost use Rattle.tier_store.specs.Reviving.{IsBehind, SaysBehind};
@@ -10,7 +8,7 @@ ghost use Rattle.tier_store.specs.Seen.{AtEach};
 
 use disk_model::FileName;
 use std::alloc::{AllocError, Global};
-use store_manifest::{Entry, Manifest};
+use store_manifest::{Entry, Manifest, begins_at};
 
 /// A file that a retirement has taken from its store's list, or that a retirement in doubt would take: it stays on the disk while a pin
 /// names it, and until it is swept.
@@ -109,23 +107,4 @@ pub(crate) fn is_unlisted(manifests: &[Manifest], file: &Retired) -> bool
     }
     let entries = manifests[store - 1].entries(file.entry.series);
     !begins_at(entries, file.entry.part.start)
-}
-
-// Whether the partition of one of a series' entries begins at this moment.
-fn begins_at(entries: &[Entry], start: u64) -> bool
-    ensures { (series : ℕ) → OfSeries series entries.now → result ≡ is_listed entries.now (series, start) }
-{
-    let at = front(entries, start);
-    if at >= entries.len() {
-        return false;
-    }
-    entries[at].part.start == start
-}
-
-// How many of a series' partitions begin before this moment.
-fn front(entries: &[Entry], start: u64) -> usize
-    ensures within { result ≤ length entries.now }
-    ensures point { (series : ℕ) → OfSeries series entries.now → IsPartitionPoint (λ e. nat_lt e.part.start start ≡ true) (λ e. nat_lt e.part.start start ≡ false) entries.now result }
-{
-    entries.partition_point(|entry| entry.part.start < start)
 }

@@ -1,6 +1,6 @@
 use Rattle.std.proofs.Common.{arith}
-use Rattle.tier_store.proofs.Removals.{listed_at, none_at}
-use Rattle.tier_store.proofs.limbo.begins_at.Goals as goal
+use Rattle.store_manifest.proofs.Around.{listed_at, none_at}
+use Rattle.store_manifest.proofs.series.begins_at.Goals as goal
 
 pub returns-then-at-entries : goal.returns-then-at-entries
 returns-then-at-entries c series of = none_at series c.args.start c.args.entries.now c.front-at.result of c.front-at.ensures.within (c.front-at.ensures.point series of) (omega (arith, c.if-at-entries.true))
