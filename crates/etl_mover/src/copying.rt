@@ -8,9 +8,10 @@ ghost use Rattle.payload_info.specs.declared.info.PayloadInfo.{PayloadInfo as Pa
 ghost use Rattle.etl_mover.specs.Lines.{TakesLines};
 ghost use Rattle.etl_mover.specs.Copying.{starts, fresh, anew, after, last_of, SetsLast};
 
-use crate::lines::{line_len, take_lines};
+use crate::lines::take_lines;
 use crate::moving::Move;
 use arch_time::YearStart;
+use line_escape::line_len;
 use partition_names::Part;
 use payload_info::PayloadInfo;
 use pb_lines::{HeadErr, header_of_line};

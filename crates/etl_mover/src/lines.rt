@@ -1,16 +1,13 @@
 // The lines of samples at the front of bytes, and what an entry becomes with them.
-ghost use Rattle.std.specs.Prelude.{◌≡◌, ◌≤◌, ◌<◌, length, take, slice_index, IfOk, IfSome};
-ghost use Rattle.line_escape.specs.Unescaping.{HasNoNewline};
+ghost use Rattle.std.specs.Prelude.{◌≡◌, ◌≤◌, ◌<◌, length, IfOk, IfSome};
 ghost use Rattle.etl_mover.specs.Lines.{TakesLines, with_line};
 
 use arch_time::YearStart;
 use event_types::PayloadType;
-use memchr::memchr;
+use line_escape::line_len;
 use pb_lines::{LineErr, moment_of_line};
 use std::alloc::AllocError;
 use store_manifest::Entry;
-
-const NEWLINE: u8 = b'\n';
 
 /// What was taken of bytes: how many, and what the entry becomes with the lines in them.
 #[derive(Clone, Copy)]
@@ -30,15 +27,6 @@ fn with_line(entry: &Entry, len: usize, t: u64) -> Option<Entry>
         count: entry.count.checked_add(1)?,
         ..*entry
     })
-}
-
-// How many bytes stand before the first newline.
-pub(crate) fn line_len(bytes: &[u8]) -> usize
-    ensures bound { result ≤ length bytes.now }
-    ensures line { HasNoNewline (take result bytes.now) }
-    ensures stop { result < length bytes.now → slice_index bytes.now result ≡ 10 }
-{
-    memchr(NEWLINE, bytes).unwrap_or(bytes.len())
 }
 
 // Takes the lines at the front of the bytes that are samples of this type and year, up to the first that is none.

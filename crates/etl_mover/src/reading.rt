@@ -3,8 +3,8 @@ ghost use Rattle.std.specs.Prelude.{◌≡◌, ◌⊎◌, ◌≤◌, ◌<◌, �
 ghost use Rattle.disk_model.specs.Files.{HasFile, Rose};
 ghost use Rattle.etl_mover.specs.Reading.{OnlyReads, IsChunk, cut_to_line};
 
-use crate::lines::line_len;
 use disk_model::{Disk, DiskErr, FileName};
+use line_escape::line_len;
 use std::alloc::Global;
 
 /// As many bytes as one step of copying appends, but for a line that is longer.

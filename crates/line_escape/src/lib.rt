@@ -19,4 +19,4 @@ mod unescaping;
 pub use error::EscapeErr;
 pub use escaping::{escape, escaped_len};
 pub use laws::{every_line, no_line_begins_another, one_meaning, one_refusal, reads_back};
-pub use unescaping::{unescape, unescaped};
+pub use unescaping::{line_len, unescape, unescaped};

@@ -11,6 +11,15 @@ pub(crate) const NEWLINE: u8 = 0x0a;
 
 pub(crate) const RETURN: u8 = 0x0d;
 
+/// How many bytes stand before the first newline: all of them where there is none.
+pub fn line_len(bytes: &[u8]) -> usize
+    ensures bound { result ≤ length bytes.now }
+    ensures line { HasNoNewline (take result bytes.now) }
+    ensures stop { result < length bytes.now → slice_index bytes.now result ≡ 10 }
+{
+    memchr(NEWLINE, bytes).unwrap_or(bytes.len())
+}
+
 /// Appends the bytes that the line means. `line` has no newline.
 ///
 /// `BadEscape` comes exactly where the line means nothing, at its first bad 1B. After a refusal

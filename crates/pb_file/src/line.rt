@@ -1,11 +1,8 @@
 // The line at the front of bytes.
-ghost use Rattle.std.specs.Prelude.{◌≡◌, ◌≤◌, ◌<◌, IfSome, length, take, slice_index};
-ghost use Rattle.line_escape.specs.Unescaping.{HasNoNewline};
+ghost use Rattle.std.specs.Prelude.{◌<◌, IfSome};
 ghost use Rattle.pb_file.specs.Line.{Appends, BeginsWithLine};
 
-use memchr::memchr;
-
-const NEWLINE: u8 = 0x0a;
+use line_escape::line_len;
 
 // What the bytes have of a line.
 #[derive(Clone, Copy)]
@@ -39,13 +36,4 @@ pub fn front_line(bytes: &[u8]) -> Option<&[u8]>
     let len = line_len(bytes);
     let (line, _) = bytes.split_at(len);
     if len < bytes.len() { Some(line) } else { None }
-}
-
-// How many bytes stand before the first newline.
-fn line_len(bytes: &[u8]) -> usize
-    ensures bound { result ≤ length bytes.now }
-    ensures line { HasNoNewline (take result bytes.now) }
-    ensures stop { result < length bytes.now → slice_index bytes.now result ≡ 10 }
-{
-    memchr(NEWLINE, bytes).unwrap_or(bytes.len())
 }

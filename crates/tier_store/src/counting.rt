@@ -1,5 +1,5 @@
 // How many samples of a listed file are later than a moment: its lines are read in pieces, one after another.
-ghost use Rattle.std.specs.Prelude.{◌≡◌, ◌≤◌, ◌<◌, ◌+◌, ◌∷◌, ◌++◌, [], ℕ, List, Some, length, take, drop, slice_index, IfOk, IfSome, IsErrOf, IsTrue};
+ghost use Rattle.std.specs.Prelude.{◌≡◌, ◌≤◌, ◌<◌, ◌+◌, ◌∷◌, ◌++◌, [], ℕ, List, Some, length, take, drop, IfOk, IfSome, IsErrOf, IsTrue};
 ghost use Rattle.arch_time.specs.YearTime.{IsSampleYear};
 ghost use Rattle.disk_model.specs.Files.{HasFile, Rose};
 ghost use Rattle.line_escape.specs.Unescaping.{HasNoNewline};
@@ -13,13 +13,11 @@ ghost use Rattle.tier_store.specs.Counting.{CountsLines, HasLines, ReadsDisk};
 use arch_time::YearStart;
 use disk_model::{Disk, DiskErr, FileName};
 use event_types::PayloadType;
-use memchr::memchr;
+use line_escape::line_len;
 use payload_info::PayloadInfo;
 use pb_lines::{HeadErr, LineErr, header_of_line, moment_of_line};
 use std::alloc::{AllocError, Global};
 use store_manifest::Entry;
-
-const NEWLINE: u8 = b'\n';
 
 // As many bytes as are read at once, but for a line that is longer.
 pub(crate) const PIECE: u64 = 65_536;
@@ -50,15 +48,6 @@ pub(crate) fn read<D: Disk>(
     let count = disk.read(name, at, &mut bytes)?;
     bytes.truncate(count);
     Ok(bytes)
-}
-
-// How many bytes stand before the first newline.
-pub(crate) fn line_len(bytes: &[u8]) -> usize
-    ensures bound { result ≤ length bytes.now }
-    ensures line { HasNoNewline (take result bytes.now) }
-    ensures stop { result < length bytes.now → slice_index bytes.now result ≡ 10 }
-{
-    memchr(NEWLINE, bytes).unwrap_or(bytes.len())
 }
 
 // The header that a file's first line is, with its newline. `None` where it is none.

@@ -15,11 +15,12 @@ ghost use Rattle.tier_store.specs.Seen.{seen};
 ghost use Rattle.tier_store.specs.Stores.{Stores, list_at};
 
 use crate::TierStore;
-use crate::counting::{PIECE, header_of, line_len, read};
+use crate::counting::{PIECE, header_of, read};
 use arch_time::YearStart;
 use disk_model::{Disk, DiskErr, FileName};
 use durable_write::file_name;
 use event_types::PayloadType;
+use line_escape::line_len;
 use pb_lines::{LineErr, moment_of_line};
 use std::alloc::{AllocError, Global};
 use store_manifest::Entry;
