@@ -37,5 +37,5 @@ pub use laws::{
     a_checkpoint_lists_the_entries, bad_batches, changes_keep_entries, changes_take_bytes,
     entries_are_in_order, one_granularity, one_listing,
 };
-pub use manifest::Manifest;
+pub use manifest::{Manifest, manifest_file};
 pub use series::begins_at;

@@ -80,7 +80,7 @@ impl Manifest {
         ensures faults { D.faults disk.old ≤ D.faults disk.new }
         ensures cause { result ≡ Err (OfDisk Fault) → Rose (D.faults disk.old) (D.faults disk.new) }
     {
-        let name = file_name(alloc, store)?;
+        let name = manifest_file(alloc, store)?;
         let mut folding = Folding::new(alloc);
         let journal = Journal::load_into(alloc, disk, &name, &mut folding)?;
         match folding.folded {
@@ -324,8 +324,8 @@ fn opened(
     Ok(Manifest::of(journal, kept, Listing::of(alloc, lists), alloc))
 }
 
-// The name of a store's manifest.
-fn file_name(alloc: Global, store: u8) -> Result<FileName, AllocError>
+/// The name of the file of a store's manifest.
+pub fn manifest_file(alloc: Global, store: u8) -> Result<FileName, AllocError>
     requires { store ≤ 9 }
     ensures { IfOk result (λ name. name ≡ manifest_name store) }
 {

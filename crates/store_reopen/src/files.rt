@@ -13,12 +13,12 @@ ghost use Rattle.store_reopen.specs.Reopen.{lists_of};
 ghost use Rattle.store_reopen.specs.declared.error.Refusal.TheVariants.{Disk as OfDisk};
 
 use crate::error::Refusal;
-use crate::journals::{STORES, manifest_file};
+use crate::journals::STORES;
 use disk_model::{Disk, DiskErr, FileName};
 use partition_names::file_path;
 use pv_catalog::Row;
 use std::alloc::{AllocError, Global};
-use store_manifest::{Entry, Manifest};
+use store_manifest::{Entry, Manifest, manifest_file};
 
 // Looks whether each entry is of a row. Tells the first manifest that has one of no row.
 pub(crate) fn check_rows(alloc: Global, rows: &[Row], manifests: &[Manifest]) -> Result<(), Refusal>

@@ -26,9 +26,9 @@ use crate::error::Refusal;
 use disk_model::{Disk, DiskErr, FileName};
 use etl_rules::Config;
 use gate_journal::{Batches, Journal, JournalErr, one_bad_place};
-use pv_catalog::{Catalogue, CatalogueErr};
+use pv_catalog::{Catalogue, CatalogueErr, catalogue_file};
 use std::alloc::{AllocError, Global};
-use store_manifest::{Manifest, ManifestErr};
+use store_manifest::{Manifest, ManifestErr, manifest_file};
 
 // How many stores there are.
 pub(crate) const STORES: u8 = 3;
@@ -175,22 +175,4 @@ fn place_of(batches: &Batches, number: usize) -> Result<u64, AllocError>
         place = place.checked_add(framed).ok_or(AllocError)?;
     }
     Ok(place)
-}
-
-// The name of the catalogue's file.
-fn catalogue_file(alloc: Global) -> Result<FileName, AllocError>
-    ensures { IfOk result (λ name. name ≡ catalogue_name) }
-{
-    let path = b"catalogue".to_vec(alloc)?;
-    Ok(FileName { store: 0, path })
-}
-
-// The name of the file of a store's manifest.
-pub(crate) fn manifest_file(alloc: Global, store: u8) -> Result<FileName, AllocError>
-    requires { store ≤ 9 }
-    ensures { IfOk result (λ name. name ≡ manifest_name store) }
-{
-    let mut path = b"manifest".to_vec(alloc)?;
-    path.push(b'0' + store)?;
-    Ok(FileName { store: 0, path })
 }
