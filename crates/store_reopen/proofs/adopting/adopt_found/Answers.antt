@@ -1,14 +1,19 @@
 use Rattle.std.proofs.Common.{◌≡◌, ◌-◌, ◌*◌, inr, true, false, [], ℕ, List, length, refl, sym, ◌∙◌, ap, subst, arith, append-nil}
 use Rattle.std.proofs.lemmas.Result.{err_from_is_err_and}
 use Rattle.std.proofs.lemmas.List.{length-map}
-use Rattle.std.specs.Prelude.{All, Vec}
+use Rattle.std.specs.Prelude.{All, IsTrue, Vec}
 use Rattle.std.specs.declared.alloc.Global.{Global}
+use Rattle.disk_model.specs.declared.disk.Disk.{Ghosts}
+use Rattle.found_files.specs.Reading.{OnlyReads}
+use Rattle.pv_catalog.specs.Catalogue.{CatalogueState}
+use Rattle.pv_catalog.specs.declared.row.Row.{Row}
 use Rattle.store_manifest.specs.Manifest.{ManifestState}
 use Rattle.store_reopen.specs.Adoption.{GetRows, TakesTurns, place_of, row_of}
 use Rattle.store_reopen.specs.Finding.{AreUnlistedOf, IsOfPlace}
 use Rattle.store_reopen.specs.Listing.{AtEachTurn, turns_of}
 use Rattle.store_reopen.specs.Runs.{Goes, Stops}
-use Rattle.store_reopen.specs.Steps.{Step, made_by}
+use Rattle.store_reopen.specs.Reopen.{ChangesJournals, loaded}
+use Rattle.store_reopen.specs.Steps.{MakesSteps, Step, made_by}
 use Rattle.store_reopen.specs.Turns.{AreNumbers, TakesOf, all_taken}
 use Rattle.store_reopen.specs.declared.finding.Taken.{Taken}
 use Rattle.store_reopen.specs.declared.finding.Unlisted.{Unlisted}
@@ -22,17 +27,23 @@ use Rattle.store_reopen.proofs.TurnsKnown.{turns_are, turns_have_parts, turns_ma
 use Rattle.store_reopen.proofs.TurnsTaken.{may_later}
 use Rattle.store_reopen.proofs.adopting.adopt_found.Goals as goal
 
+-- the disk was read alone
+reads : {D R : Type 0} (disk : Ghosts D R) (cat : CatalogueState) (ms : List ManifestState) (old mid : D) → OnlyReads disk old mid → MakesSteps true disk.tells [] (loaded disk cat ms old) (loaded disk cat ms mid)
+reads disk cat ms old mid r = steps_read disk cat ms old mid r.files r.opened r.any_moment r.faults
+
+-- and then journals alone were changed
+spared : {D R : Type 0} (disk : Ghosts D R) (old mid made : D) → OnlyReads disk old mid → (IsTrue disk.tells → ChangesJournals disk mid made) → IsTrue disk.tells → ChangesJournals disk old made
+spared disk old mid made r more tells = spares_then disk old mid made (spares_read disk old mid (r.files tells) (r.opened tells) (r.any_moment tells)) (more tells)
+
+-- what is taken in each turn
+taken_of : (l ms : List ManifestState) (rows : List Row) (xs : List Unlisted) (vs ws : List (Vec Taken Global)) → l ≡ ms → ws ≡ vs → AtEachTurn (λ turn taken. TakesOf l rows turn xs taken) (turns_of vs) → AtEachTurn (λ turn taken. TakesOf ms rows turn xs taken) (turns_of ws)
+taken_of l ms rows xs vs ws is same takes =
+    subst (λ (us : List (Vec Taken Global)). AtEachTurn (λ turn taken. TakesOf ms rows turn xs taken) (turns_of us)) (sym same) (subst (λ (k : List ManifestState). AtEachTurn (λ turn taken. TakesOf k rows turn xs taken) (turns_of vs)) is takes)
+
 pub register_all-requires-clause-has : goal.register_all-requires-clause-has
 register_all-requires-clause-has g c tells =
-    let disk = g.D.Disk in
-    let cat = c.args.catalogue.now in
-    let ms = c.args.manifests.now.items in
-    let old = c.args.disk.now in
-    let mid = c.find_unlisted.new.disk in
-    let r = c.find_unlisted.ensures.read in
-    let read = steps_read disk cat ms old mid r.files r.opened r.any_moment r.faults in
     let was = c.requires.has tells in
-    (ms, was.0, read.ends was.0 was.1)
+    (c.args.manifests.now.items, was.0, (reads g.D.Disk c.args.catalogue.now c.args.manifests.now.items c.args.disk.now c.find_unlisted.new.disk c.find_unlisted.ensures.read).ends was.0 was.1)
 
 pub returns-in_err-register_all-clause-leaves_off : goal.returns-in_err-register_all-clause-leaves_off
 returns-in_err-register_all-clause-leaves_off g c tells gs image held of_gs same has =
@@ -41,9 +52,8 @@ returns-in_err-register_all-clause-leaves_off g c tells gs image held of_gs same
     let ms = c.args.manifests.now.items in
     let old = c.args.disk.now in
     let mid = c.find_unlisted.new.disk in
-    let r = c.find_unlisted.ensures.read in
     let xs = c.in_ok-unlisted.unlisted.items in
-    let read = steps_read disk cat ms old mid r.files r.opened r.any_moment r.faults in
+    let read = reads disk cat ms old mid c.find_unlisted.ensures.read in
     let found : AreUnlistedOf (disk.files old) cat.rows ms xs = subst (λ (l : List ManifestState). AreUnlistedOf (disk.files old) cat.rows l xs) c.as_slice.ensures.value (c.in_ok-unlisted.ensures.found tells) in
     let are = all_of gs image (disk.files old) cat ms held xs of_gs same has.known found in
     let made = c.register_all.new.disk in
@@ -53,28 +63,10 @@ returns-in_err-register_all-clause-leaves_off g c tells gs image held of_gs same
     rw p.1 (inr (false, left_rows disk gs image held xs cat ms old mid are has read cat₁ made stops))
 
 pub returns-in_err-register_all-clause-spares : goal.returns-in_err-register_all-clause-spares
-returns-in_err-register_all-clause-spares g c tells =
-    let disk = g.D.Disk in
-    let cat = c.args.catalogue.now in
-    let ms = c.args.manifests.now.items in
-    let old = c.args.disk.now in
-    let mid = c.find_unlisted.new.disk in
-    let r = c.find_unlisted.ensures.read in
-    let made = c.register_all.new.disk in
-    let cat₁ = c.register_all.new.catalogue in
-    spares_then disk old mid made (spares_read disk old mid (r.files tells) (r.opened tells) (r.any_moment tells)) (c.register_all.ensures.spares tells)
+returns-in_err-register_all-clause-spares g c = spared g.D.Disk c.args.disk.now c.find_unlisted.new.disk c.register_all.new.disk c.find_unlisted.ensures.read c.register_all.ensures.spares
 
 pub returns-in_err-turns-clause-spares : goal.returns-in_err-turns-clause-spares
-returns-in_err-turns-clause-spares g c tells =
-    let disk = g.D.Disk in
-    let cat = c.args.catalogue.now in
-    let ms = c.args.manifests.now.items in
-    let old = c.args.disk.now in
-    let mid = c.find_unlisted.new.disk in
-    let r = c.find_unlisted.ensures.read in
-    let made = c.register_all.new.disk in
-    let cat₁ = c.register_all.new.catalogue in
-    spares_then disk old mid made (spares_read disk old mid (r.files tells) (r.opened tells) (r.any_moment tells)) (c.register_all.ensures.spares tells)
+returns-in_err-turns-clause-spares g c = spared g.D.Disk c.args.disk.now c.find_unlisted.new.disk c.register_all.new.disk c.find_unlisted.ensures.read c.register_all.ensures.spares
 
 pub returns-in_err-turns-clause-leaves_off : goal.returns-in_err-turns-clause-leaves_off
 returns-in_err-turns-clause-leaves_off g c tells gs image held of_gs same has =
@@ -83,9 +75,8 @@ returns-in_err-turns-clause-leaves_off g c tells gs image held of_gs same has =
     let ms = c.args.manifests.now.items in
     let old = c.args.disk.now in
     let mid = c.find_unlisted.new.disk in
-    let r = c.find_unlisted.ensures.read in
     let xs = c.in_ok-unlisted.unlisted.items in
-    let read = steps_read disk cat ms old mid r.files r.opened r.any_moment r.faults in
+    let read = reads disk cat ms old mid c.find_unlisted.ensures.read in
     let found : AreUnlistedOf (disk.files old) cat.rows ms xs = subst (λ (l : List ManifestState). AreUnlistedOf (disk.files old) cat.rows l xs) c.as_slice.ensures.value (c.in_ok-unlisted.ensures.found tells) in
     let are = all_of gs image (disk.files old) cat ms held xs of_gs same has.known found in
     let made = c.register_all.new.disk in
@@ -94,86 +85,35 @@ returns-in_err-turns-clause-leaves_off g c tells gs image held of_gs same has =
     let p = err_from_is_err_and c.from_residual-in_err-turns.result c.from_residual-in_err-turns.ensures.1 in
     rw p.1 (inr (false, left_between disk gs image held xs cat ms old mid are has read cat₁ made goes))
 
-pub list_all-requires-clause-ready : goal.list_all-requires-clause-ready
-list_all-requires-clause-ready g c =
-    (c.requires.ready.0, c.requires.ready.1, c.in_ok-register_all.ensures.ready c.requires.ready.0 c.args.manifests.now.items c.requires.ready.2)
-
-pub list_all-requires-clause-parts : goal.list_all-requires-clause-parts
-list_all-requires-clause-parts g c =
-    let ms = c.args.manifests.now.items in
-    let cat₁ = c.register_all.new.catalogue in
-    let xs = c.in_ok-unlisted.unlisted.items in
-    let turns = c.as_slice-4.result.now in
-    let takes : AtEachTurn (λ turn taken. TakesOf ms cat₁.rows turn xs taken) (turns_of turns) = subst (λ (vs : List (Vec Taken Global)). AtEachTurn (λ turn taken. TakesOf ms cat₁.rows turn xs taken) (turns_of vs)) (sym c.as_slice-4.ensures.value)
-    (subst (λ (l : List ManifestState). AtEachTurn (λ turn taken. TakesOf l cat₁.rows turn xs taken) (turns_of c.in_ok-turns.turns.items)) c.as_slice-3.ensures.value c.in_ok-turns.ensures.takes) in
-    turns_have_parts ms cat₁.rows xs (turns_of turns) (subst (λ (l : List ManifestState). All (IsOfPlace l) xs) c.as_slice.ensures.value c.in_ok-unlisted.ensures.shape) takes
-
-pub list_all-requires-clause-has : goal.list_all-requires-clause-has
-list_all-requires-clause-has g c tells =
+pub list_all-requires : goal.list_all-requires
+list_all-requires g c =
     let disk = g.D.Disk in
     let cat = c.args.catalogue.now in
     let ms = c.args.manifests.now.items in
     let old = c.args.disk.now in
     let mid = c.find_unlisted.new.disk in
-    let r = c.find_unlisted.ensures.read in
-    let xs = c.in_ok-unlisted.unlisted.items in
-    let read = steps_read disk cat ms old mid r.files r.opened r.any_moment r.faults in
-    let was = c.requires.has tells in
-    let goes = c.in_ok-register_all.ensures.goes tells ms (was.0, read.ends was.0 was.1) in
-    (made_by goes.steps was.0, goes.makes.ends was.0 (read.ends was.0 was.1))
-
-pub list_all-requires-clause-may : goal.list_all-requires-clause-may
-list_all-requires-clause-may g c tells turn taken here g₁ at =
-    let disk = g.D.Disk in
-    let cat = c.args.catalogue.now in
-    let ms = c.args.manifests.now.items in
-    let old = c.args.disk.now in
-    let mid = c.find_unlisted.new.disk in
-    let r = c.find_unlisted.ensures.read in
-    let xs = c.in_ok-unlisted.unlisted.items in
-    let found : AreUnlistedOf (disk.files old) cat.rows ms xs = subst (λ (l : List ManifestState). AreUnlistedOf (disk.files old) cat.rows l xs) c.as_slice.ensures.value (c.in_ok-unlisted.ensures.found tells) in
     let made = c.register_all.new.disk in
     let cat₁ = c.register_all.new.catalogue in
-    let spared = spares_then disk old mid made (spares_read disk old mid (r.files tells) (r.opened tells) (r.any_moment tells)) (c.register_all.ensures.spares tells) in
-    let turns = c.as_slice-4.result.now in
-    let takes : AtEachTurn (λ turn taken. TakesOf ms cat₁.rows turn xs taken) (turns_of turns) = subst (λ (vs : List (Vec Taken Global)). AtEachTurn (λ turn taken. TakesOf ms cat₁.rows turn xs taken) (turns_of vs)) (sym c.as_slice-4.ensures.value)
-    (subst (λ (l : List ManifestState). AtEachTurn (λ turn taken. TakesOf l cat₁.rows turn xs taken) (turns_of c.in_ok-turns.turns.items)) c.as_slice-3.ensures.value c.in_ok-turns.ensures.takes) in
-    let three = count_of c.requires.ready.0 ms c.requires.ready.1 c.requires.ready.2.granularity in
-    may_later g₁ (disk.files old) (disk.files made) cat₁.rows (row_of turn) (place_of turn) taken (journals_same disk _ _ spared.now) (turns_may (disk.files old) cat.rows cat₁.rows ms xs (turns_of turns) three found takes turn taken here g₁ at)
-
-pub list_all-requires-clause-unopened : goal.list_all-requires-clause-unopened
-list_all-requires-clause-unopened g c tells =
-    let disk = g.D.Disk in
-    let cat = c.args.catalogue.now in
-    let ms = c.args.manifests.now.items in
-    let old = c.args.disk.now in
-    let mid = c.find_unlisted.new.disk in
-    let r = c.find_unlisted.ensures.read in
     let xs = c.in_ok-unlisted.unlisted.items in
-    let found : AreUnlistedOf (disk.files old) cat.rows ms xs = subst (λ (l : List ManifestState). AreUnlistedOf (disk.files old) cat.rows l xs) c.as_slice.ensures.value (c.in_ok-unlisted.ensures.found tells) in
-    let made = c.register_all.new.disk in
-    let cat₁ = c.register_all.new.catalogue in
-    let spared = spares_then disk old mid made (spares_read disk old mid (r.files tells) (r.opened tells) (r.any_moment tells)) (c.register_all.ensures.spares tells) in
     let turns = c.as_slice-4.result.now in
-    let takes : AtEachTurn (λ turn taken. TakesOf ms cat₁.rows turn xs taken) (turns_of turns) = subst (λ (vs : List (Vec Taken Global)). AtEachTurn (λ turn taken. TakesOf ms cat₁.rows turn xs taken) (turns_of vs)) (sym c.as_slice-4.ensures.value)
-    (subst (λ (l : List ManifestState). AtEachTurn (λ turn taken. TakesOf l cat₁.rows turn xs taken) (turns_of c.in_ok-turns.turns.items)) c.as_slice-3.ensures.value c.in_ok-turns.ensures.takes) in
+    let takes = taken_of c.as_slice-3.result.now ms cat₁.rows xs c.in_ok-turns.turns.items turns c.as_slice-3.ensures.value c.as_slice-4.ensures.value c.in_ok-turns.ensures.takes in
     let three = count_of c.requires.ready.0 ms c.requires.ready.1 c.requires.ready.2.granularity in
-    turns_unopened (disk.opened made) cat₁.rows ms xs (turns_of turns) (all_unopened (disk.files old) cat.rows ms (disk.opened made) xs three (none_later cat.rows ms (disk.opened old) (disk.opened made) spared.fewer (c.requires.unopened tells)) found) takes
-
-pub list_all-requires-clause-few : goal.list_all-requires-clause-few
-list_all-requires-clause-few g c tells =
-    let disk = g.D.Disk in
-    let cat = c.args.catalogue.now in
-    let ms = c.args.manifests.now.items in
-    let old = c.args.disk.now in
-    let xs = c.in_ok-unlisted.unlisted.items in
-    let found : AreUnlistedOf (disk.files old) cat.rows ms xs = subst (λ (l : List ManifestState). AreUnlistedOf (disk.files old) cat.rows l xs) c.as_slice.ensures.value (c.in_ok-unlisted.ensures.found tells) in
-    let cat₁ = c.register_all.new.catalogue in
-    let turns = c.as_slice-4.result.now in
-    let takes : AtEachTurn (λ turn taken. TakesOf ms cat₁.rows turn xs taken) (turns_of turns) = subst (λ (vs : List (Vec Taken Global)). AtEachTurn (λ turn taken. TakesOf ms cat₁.rows turn xs taken) (turns_of vs)) (sym c.as_slice-4.ensures.value)
-    (subst (λ (l : List ManifestState). AtEachTurn (λ turn taken. TakesOf l cat₁.rows turn xs taken) (turns_of c.in_ok-turns.turns.items)) c.as_slice-3.ensures.value c.in_ok-turns.ensures.takes) in
-    let three = count_of c.requires.ready.0 ms c.requires.ready.1 c.requires.ready.2.granularity in
-    turns_few (disk.files old) cat.rows cat₁.rows ms xs (turns_of turns) three c.requires.coarse found takes
+    let found : IsTrue disk.tells → AreUnlistedOf (disk.files old) cat.rows ms xs = λ tells. subst (λ (l : List ManifestState). AreUnlistedOf (disk.files old) cat.rows l xs) c.as_slice.ensures.value (c.in_ok-unlisted.ensures.found tells) in
+    let changed = spared disk old mid made c.find_unlisted.ensures.read c.register_all.ensures.spares in
+    record {
+      count = ap length c.as_slice-4.ensures.value ∙ c.in_ok-turns.ensures.count;
+      ready = (c.requires.ready.0, c.requires.ready.1, c.in_ok-register_all.ensures.ready c.requires.ready.0 ms c.requires.ready.2);
+      parts = turns_have_parts ms cat₁.rows xs (turns_of turns) (subst (λ (l : List ManifestState). All (IsOfPlace l) xs) c.as_slice.ensures.value c.in_ok-unlisted.ensures.shape) takes;
+      has = λ tells.
+          let was = c.requires.has tells in
+          let goes = c.in_ok-register_all.ensures.goes tells ms (was.0, (reads disk cat ms old mid c.find_unlisted.ensures.read).ends was.0 was.1) in
+          (made_by goes.steps was.0, goes.makes.ends was.0 ((reads disk cat ms old mid c.find_unlisted.ensures.read).ends was.0 was.1));
+      may = λ tells turn taken here g₁ at.
+          may_later g₁ (disk.files old) (disk.files made) cat₁.rows (row_of turn) (place_of turn) taken (journals_same disk _ _ (changed tells).now) (turns_may (disk.files old) cat.rows cat₁.rows ms xs (turns_of turns) three (found tells) takes turn taken here g₁ at);
+      unopened = λ tells.
+          turns_unopened (disk.opened made) cat₁.rows ms xs (turns_of turns) (all_unopened (disk.files old) cat.rows ms (disk.opened made) xs three (none_later cat.rows ms (disk.opened old) (disk.opened made) (changed tells).fewer (c.requires.unopened tells)) (found tells)) takes;
+      few = λ tells. turns_few (disk.files old) cat.rows cat₁.rows ms xs (turns_of turns) three c.requires.coarse (found tells) takes;
+    }
 
 pub returns-in_err-list_all-clause-leaves_off : goal.returns-in_err-list_all-clause-leaves_off
 returns-in_err-list_all-clause-leaves_off g c tells gs image held of_gs same has =
@@ -182,51 +122,31 @@ returns-in_err-list_all-clause-leaves_off g c tells gs image held of_gs same has
     let ms = c.args.manifests.now.items in
     let old = c.args.disk.now in
     let mid = c.find_unlisted.new.disk in
-    let r = c.find_unlisted.ensures.read in
     let xs = c.in_ok-unlisted.unlisted.items in
-    let read = steps_read disk cat ms old mid r.files r.opened r.any_moment r.faults in
+    let read = reads disk cat ms old mid c.find_unlisted.ensures.read in
     let found : AreUnlistedOf (disk.files old) cat.rows ms xs = subst (λ (l : List ManifestState). AreUnlistedOf (disk.files old) cat.rows l xs) c.as_slice.ensures.value (c.in_ok-unlisted.ensures.found tells) in
     let are = all_of gs image (disk.files old) cat ms held xs of_gs same has.known found in
     let made = c.register_all.new.disk in
     let cat₁ = c.register_all.new.catalogue in
     let goes : Goes disk (λ whole. GetRows whole cat.rows [] xs) (λ whole steps. steps ≡ []) cat ms mid cat₁ ms made = subst (λ (l : List Unlisted). Goes disk (λ whole. GetRows whole cat.rows [] l) (λ whole steps. steps ≡ []) cat ms mid cat₁ ms made) c.as_slice-2.ensures.value (c.in_ok-register_all.ensures.goes tells ms (held, read.ends held has)) in
-    let spared = spares_then disk old mid made (spares_read disk old mid (r.files tells) (r.opened tells) (r.any_moment tells)) (c.register_all.ensures.spares tells) in
+    let changed = spared disk old mid made c.find_unlisted.ensures.read c.register_all.ensures.spares tells in
     let turns = c.as_slice-4.result.now in
-    let takes : AtEachTurn (λ turn taken. TakesOf ms cat₁.rows turn xs taken) (turns_of turns) = subst (λ (vs : List (Vec Taken Global)). AtEachTurn (λ turn taken. TakesOf ms cat₁.rows turn xs taken) (turns_of vs)) (sym c.as_slice-4.ensures.value)
-    (subst (λ (l : List ManifestState). AtEachTurn (λ turn taken. TakesOf l cat₁.rows turn xs taken) (turns_of c.in_ok-turns.turns.items)) c.as_slice-3.ensures.value c.in_ok-turns.ensures.takes) in
+    let takes = taken_of c.as_slice-3.result.now ms cat₁.rows xs c.in_ok-turns.turns.items turns c.as_slice-3.ensures.value c.as_slice-4.ensures.value c.in_ok-turns.ensures.takes in
     let count : length turns ≡ 3 * length cat₁.rows = ap length c.as_slice-4.ensures.value ∙ c.in_ok-turns.ensures.count in
     let are_turns = turns_are cat ms held cat₁.rows xs (turns_of turns) has.known takes in
     let m₁ = c.list_all.new.manifests.items in
     let new = c.list_all.new.disk in
-    let stops = c.in_err-list_all.ensures.stops tells image held xs (λ n other. journals_same disk _ _ spared.now n other ∙ same n other) are_turns in
+    let stops = c.in_err-list_all.ensures.stops tells image held xs (λ n other. journals_same disk _ _ changed.now n other ∙ same n other) are_turns in
     let p = err_from_is_err_and c.from_residual-in_err-list_all.result c.from_residual-in_err-list_all.ensures.1 in
     rw p.1 (inr (false, left_lists disk gs image held xs cat ms old mid are has read cat₁ made goes (length turns) count m₁ new stops))
 
 pub returns-in_err-list_all-clause-spares : goal.returns-in_err-list_all-clause-spares
 returns-in_err-list_all-clause-spares g c tells =
-    let disk = g.D.Disk in
-    let cat = c.args.catalogue.now in
-    let ms = c.args.manifests.now.items in
-    let old = c.args.disk.now in
-    let mid = c.find_unlisted.new.disk in
-    let r = c.find_unlisted.ensures.read in
-    let made = c.register_all.new.disk in
-    let cat₁ = c.register_all.new.catalogue in
-    let spared = spares_then disk old mid made (spares_read disk old mid (r.files tells) (r.opened tells) (r.any_moment tells)) (c.register_all.ensures.spares tells) in
-    spares_then disk old made c.list_all.new.disk spared (c.list_all.ensures.spares tells)
+    spares_then g.D.Disk c.args.disk.now c.register_all.new.disk c.list_all.new.disk (spared g.D.Disk c.args.disk.now c.find_unlisted.new.disk c.register_all.new.disk c.find_unlisted.ensures.read c.register_all.ensures.spares tells) (c.list_all.ensures.spares tells)
 
 pub returns-clause-spares : goal.returns-clause-spares
 returns-clause-spares g c tells =
-    let disk = g.D.Disk in
-    let cat = c.args.catalogue.now in
-    let ms = c.args.manifests.now.items in
-    let old = c.args.disk.now in
-    let mid = c.find_unlisted.new.disk in
-    let r = c.find_unlisted.ensures.read in
-    let made = c.register_all.new.disk in
-    let cat₁ = c.register_all.new.catalogue in
-    let spared = spares_then disk old mid made (spares_read disk old mid (r.files tells) (r.opened tells) (r.any_moment tells)) (c.register_all.ensures.spares tells) in
-    spares_then disk old made c.list_all.new.disk spared (c.list_all.ensures.spares tells)
+    spares_then g.D.Disk c.args.disk.now c.register_all.new.disk c.list_all.new.disk (spared g.D.Disk c.args.disk.now c.find_unlisted.new.disk c.register_all.new.disk c.find_unlisted.ensures.read c.register_all.ensures.spares tells) (c.list_all.ensures.spares tells)
 
 pub overflow_sub-rows : goal.overflow_sub-rows
 overflow_sub-rows g c =
@@ -241,23 +161,21 @@ returns-clause-follows g c tells gs image held of_gs same has =
     let ms = c.args.manifests.now.items in
     let old = c.args.disk.now in
     let mid = c.find_unlisted.new.disk in
-    let r = c.find_unlisted.ensures.read in
     let xs = c.in_ok-unlisted.unlisted.items in
-    let read = steps_read disk cat ms old mid r.files r.opened r.any_moment r.faults in
+    let read = reads disk cat ms old mid c.find_unlisted.ensures.read in
     let found : AreUnlistedOf (disk.files old) cat.rows ms xs = subst (λ (l : List ManifestState). AreUnlistedOf (disk.files old) cat.rows l xs) c.as_slice.ensures.value (c.in_ok-unlisted.ensures.found tells) in
     let are = all_of gs image (disk.files old) cat ms held xs of_gs same has.known found in
     let made = c.register_all.new.disk in
     let cat₁ = c.register_all.new.catalogue in
     let goes : Goes disk (λ whole. GetRows whole cat.rows [] xs) (λ whole steps. steps ≡ []) cat ms mid cat₁ ms made = subst (λ (l : List Unlisted). Goes disk (λ whole. GetRows whole cat.rows [] l) (λ whole steps. steps ≡ []) cat ms mid cat₁ ms made) c.as_slice-2.ensures.value (c.in_ok-register_all.ensures.goes tells ms (held, read.ends held has)) in
-    let spared = spares_then disk old mid made (spares_read disk old mid (r.files tells) (r.opened tells) (r.any_moment tells)) (c.register_all.ensures.spares tells) in
+    let changed = spared disk old mid made c.find_unlisted.ensures.read c.register_all.ensures.spares tells in
     let turns = c.as_slice-4.result.now in
-    let takes : AtEachTurn (λ turn taken. TakesOf ms cat₁.rows turn xs taken) (turns_of turns) = subst (λ (vs : List (Vec Taken Global)). AtEachTurn (λ turn taken. TakesOf ms cat₁.rows turn xs taken) (turns_of vs)) (sym c.as_slice-4.ensures.value)
-    (subst (λ (l : List ManifestState). AtEachTurn (λ turn taken. TakesOf l cat₁.rows turn xs taken) (turns_of c.in_ok-turns.turns.items)) c.as_slice-3.ensures.value c.in_ok-turns.ensures.takes) in
+    let takes = taken_of c.as_slice-3.result.now ms cat₁.rows xs c.in_ok-turns.turns.items turns c.as_slice-3.ensures.value c.as_slice-4.ensures.value c.in_ok-turns.ensures.takes in
     let count : length turns ≡ 3 * length cat₁.rows = ap length c.as_slice-4.ensures.value ∙ c.in_ok-turns.ensures.count in
     let are_turns = turns_are cat ms held cat₁.rows xs (turns_of turns) has.known takes in
     let m₁ = c.list_all.new.manifests.items in
     let new = c.list_all.new.disk in
-    let lists = c.in_ok-list_all.ensures.goes tells image held xs (λ n other. journals_same disk _ _ spared.now n other ∙ same n other) are_turns in
+    let lists = c.in_ok-list_all.ensures.goes tells image held xs (λ n other. journals_same disk _ _ changed.now n other ∙ same n other) are_turns in
     record {
       all = followed disk gs image held xs cat ms old mid are has read cat₁ made goes (length turns) count m₁ new lists;
       counts =
