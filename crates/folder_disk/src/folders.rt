@@ -386,8 +386,12 @@ impl<R: Files<File = File> + Drop> Folders<R> {
             return Err(only_reads());
         }
         let file = self.file(name)?;
-        if file.metadata()?.len() < len {
+        let size = file.metadata()?.len();
+        if size < len {
             return Err(ErrorKind::InvalidInput.into());
+        }
+        if size == len {
+            return Ok(());
         }
         file.set_len(len)
     }
