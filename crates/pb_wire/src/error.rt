@@ -1,3 +1,5 @@
+// Why bytes are no message at all.
+
 /// Why a message can't be read, and how many bytes stand before the tag, length or value at fault.
 ///
 /// At a tag the order is `Short` or `BadVarint`, `BadTag`, `Group`, and then the value's own.

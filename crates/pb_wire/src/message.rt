@@ -1,3 +1,5 @@
+// The fields of a message, as a reader gives them and a writer takes them.
+
 /// A value on the wire, by its wire type.
 #[derive(Clone, Copy, Debug, PartialEq, Eq)]
 pub enum Wire<'a> {
