@@ -118,10 +118,10 @@ numbers_left steps rooms pass opens posts few = let one : length (stands pass) �
 module _ {D R : Type 0} (disk : Ghosts D R) (steps : Shared (Observed D R) R → ℕ → ℕ → Act → Answer R → Shared (Observed D R) R → Type 0) (reply : Answer R → Reply) (rooms : Rooms (Shared (Observed D R) R) Act (Answer R)) (old : Pass (Shared (Observed D R) R) Act (Answer R))
     (opens : Opens steps rooms (opened rooms) old) where
   abbrev Stood : Shared (Observed D R) R → Machine → Type 0
-  Stood room m = SharedStands (λ o n. Stands disk.tells (parts disk o.archive) n) room m
+  Stood room m = SharedStands (λ o n. Stands disk.tells (parts disk o.archive.value) n) room m
 
   -- a room that was just opened stands for what its archive stands for
-  pub stands_first : (m : Machine) → Stands disk.tells (parts disk (opened rooms).archive.archive) m → StandsFor steps Stood rooms old m
+  pub stands_first : (m : Machine) → Stands disk.tells (parts disk (opened rooms).archive.archive.value) m → StandsFor steps Stood rooms old m
   stands_first m s = record { is_pass = opens.rooms; begun = (m, s); now = subst (λ (h : List (RoomEntry (Shared (Observed D R) R) Act (Answer R))). Stood (end_of (opened rooms) h) m) (sym opens.knows) s }
 
   module _ (new : Pass (Shared (Observed D R) R) Act (Answer R)) where
@@ -142,8 +142,8 @@ module _ {D R : Type 0} (disk : Ghosts D R) (steps : Shared (Observed D R) R →
       answered = f.answer;
     }
 
-    pub leaves_room : (doors : ℕ) (Given : Machine → List Entry → Type 0) (began : Bool) (told : AllServed) (left : Archive D R) → IsPassOf steps rooms new → left ≡ (end_of (opened rooms) (known new)).archive.archive → (began ≡ false → known new ≡ known old)
-        → (began ≡ true → (m : Machine) → Stands disk.tells (parts disk (opened rooms).archive.archive) m → Given m (all_kept reply (known new))) → (told.spent ≡ true → most_acts ≤ length (known new)) → (told.disk_fault ≡ true → HasFlushFault reply old new)
+    pub leaves_room : (doors : ℕ) (Given : Machine → List Entry → Type 0) (began : Bool) (told : AllServed) (left : Archive D R) → IsPassOf steps rooms new → left ≡ (end_of (opened rooms) (known new)).archive.archive.value → (began ≡ false → known new ≡ known old)
+        → (began ≡ true → (m : Machine) → Stands disk.tells (parts disk (opened rooms).archive.archive.value) m → Given m (all_kept reply (known new))) → (told.spent ≡ true → most_acts ≤ length (known new)) → (told.disk_fault ≡ true → HasFlushFault reply old new)
         → ((m : Machine) → StandsFor steps Stood rooms old m → m.doors ≡ doors → told.spent ≡ false → told.memory ≡ false → told.disk_fault ≡ false → (mover : ℕ) × EndsInTurns steps Stood reply rooms old new m mover)
         → LeavesRoom disk steps reply (opened rooms) doors Given began told left
     leaves_room doors Given began told left is_pass is none given spent failed ends = record {
@@ -170,16 +170,16 @@ module _ {D R : Type 0} (disk : Ghosts D R) (steps : Shared (Observed D R) R →
 
 -- whatever order the turns take, the acts run in the machine, and lose no more than it does
 pub turns_run_on : {D R : Type 0} (disk : Ghosts D R) (reads : Bool) (bytes : R → List ℕ) (faults : R → ℕ) (acts : List (RoomEntry (Shared (Observed D R) R) Act (Answer R))) (room : Shared (Observed D R) R) (m : Machine)
-    → Stands disk.tells (parts disk room.archive.archive) m → Legal (ArchiveStep disk reads bytes faults) room acts
-    → RunsOn disk.tells (parts disk room.archive.archive) m (all_kept (reply_of reads bytes faults) acts) (parts disk (end_of room acts).archive.archive)
-turns_run_on {D} {R} disk reads bytes faults acts room m stands legal = room_runs_on disk.tells (λ (o : Observed D R). parts disk o.archive) reads bytes faults acts room m stands legal
+    → Stands disk.tells (parts disk room.archive.archive.value) m → Legal (ArchiveStep disk reads bytes faults) room acts
+    → RunsOn disk.tells (parts disk room.archive.archive.value) m (all_kept (reply_of reads bytes faults) acts) (parts disk (end_of room acts).archive.archive.value)
+turns_run_on {D} {R} disk reads bytes faults acts room m stands legal = room_runs_on disk.tells (λ (o : Observed D R). parts disk o.archive.value) reads bytes faults acts room m stands legal
 
-pub leaves_archive : {D R : Type 0} (disk : Ghosts D R) (steps : Shared (Observed D R) R → ℕ → ℕ → Act → Answer R → Shared (Observed D R) R → Type 0) (reply : Answer R → Reply) (room : Shared (Observed D R) R) (old : Archive D R) (doors : ℕ) (Given : Machine → List Entry → Type 0) (began : Bool) (told : AllServed) (left : Archive D R) → room.archive.archive ≡ old
-    → ((acts : List (RoomEntry (Shared (Observed D R) R) Act (Answer R))) (m : Machine) → Stands disk.tells (parts disk room.archive.archive) m → Legal steps room acts → RunsOn disk.tells (parts disk room.archive.archive) m (all_kept reply acts) (parts disk (end_of room acts).archive.archive))
+pub leaves_archive : {D R : Type 0} (disk : Ghosts D R) (steps : Shared (Observed D R) R → ℕ → ℕ → Act → Answer R → Shared (Observed D R) R → Type 0) (reply : Answer R → Reply) (room : Shared (Observed D R) R) (old : Archive D R) (doors : ℕ) (Given : Machine → List Entry → Type 0) (began : Bool) (told : AllServed) (left : Archive D R) → room.archive.archive.value ≡ old
+    → ((acts : List (RoomEntry (Shared (Observed D R) R) Act (Answer R))) (m : Machine) → Stands disk.tells (parts disk room.archive.archive.value) m → Legal steps room acts → RunsOn disk.tells (parts disk room.archive.archive.value) m (all_kept reply acts) (parts disk (end_of room acts).archive.archive.value))
     → LeavesRoom disk steps reply room doors Given began told left → LeavesArchive disk old doors Given began told left
 leaves_archive {D} {R} disk steps reply room old doors Given began told left is law leaves = subst (λ (a : Archive D R). LeavesArchive disk a doors Given began told left) is (record {
   entries = all_kept reply leaves.acts;
-  run = λ m stands. subst (λ (a : Archive D R). RunsOn disk.tells (parts disk room.archive.archive) m (all_kept reply leaves.acts) (parts disk a)) (sym leaves.is_left) (law leaves.acts m stands leaves.legal);
+  run = λ m stands. subst (λ (a : Archive D R). RunsOn disk.tells (parts disk room.archive.archive.value) m (all_kept reply leaves.acts) (parts disk a)) (sym leaves.is_left) (law leaves.acts m stands leaves.legal);
   none = λ is. ap (λ (h : List (RoomEntry (Shared (Observed D R) R) Act (Answer R))). all_kept reply h) (leaves.none is);
   given = leaves.given;
   spent = λ so. subst (λ (n : ℕ). most_acts ≤ n) (sym (length-map leaves.acts (λ (e : RoomEntry (Shared (Observed D R) R) Act (Answer R)). kept reply e.who e.act e.answer))) (leaves.spent so);

@@ -143,7 +143,7 @@ pub record HasFailedFlush (entries : List Entry) : Type 0 where
 
 -- a step of an archive that many share
 abbrev pub ArchiveStep : {D R : Type 0} → Ghosts D R → Bool → (R → List ℕ) → (R → ℕ) → Shared (Observed D R) R → ℕ → ℕ → Act → Answer R → Shared (Observed D R) R → Type 0
-ArchiveStep {D} {R} disk told bytes faults = SharedStep (λ o n. Stands disk.tells (parts disk o.archive) n) (λ o e p. Leaves disk.tells (parts disk o.archive) e (parts disk p.archive)) told bytes faults
+ArchiveStep {D} {R} disk told bytes faults = SharedStep (λ o n. Stands disk.tells (parts disk o.archive.value) n) (λ o e p. Leaves disk.tells (parts disk o.archive.value) e (parts disk p.archive.value)) told bytes faults
 
 -- All acts that were made in a room in which an archive is shared, and the archive as they left it: none where nobody began. `Given` says
 -- what was given by them to those who came, from whatever the archive stood for. Where nothing was wanting and the last flush didn't fail,
@@ -151,12 +151,12 @@ ArchiveStep {D} {R} disk told bytes faults = SharedStep (λ o n. Stands disk.tel
 pub record LeavesRoom {D R : Type 0} (disk : Ghosts D R) (steps : Shared (Observed D R) R → ℕ → ℕ → Act → Answer R → Shared (Observed D R) R → Type 0) (reply : Answer R → Reply) (room : Shared (Observed D R) R) (doors : ℕ) (Given : Machine → List Entry → Type 0) (began : Bool) (told : AllServed) (left : Archive D R) : Type 0 where
   pub acts : List (RoomEntry (Shared (Observed D R) R) Act (Answer R))
   pub legal : Legal steps room acts
-  pub is_left : left ≡ (end_of room acts).archive.archive
+  pub is_left : left ≡ (end_of room acts).archive.archive.value
   pub none : began ≡ false → acts ≡ []
-  pub given : began ≡ true → (m : Machine) → Stands disk.tells (parts disk room.archive.archive) m → Given m (all_kept reply acts)
+  pub given : began ≡ true → (m : Machine) → Stands disk.tells (parts disk room.archive.archive.value) m → Given m (all_kept reply acts)
   pub spent : told.spent ≡ true → most_acts ≤ length acts
   pub failed : told.disk_fault ≡ true → HasFailedFlush (all_kept reply acts)
-  pub ends : (m : Machine) → Stands disk.tells (parts disk room.archive.archive) m → m.doors ≡ doors → told.spent ≡ false → told.memory ≡ false → told.disk_fault ≡ false
+  pub ends : (m : Machine) → Stands disk.tells (parts disk room.archive.archive.value) m → m.doors ≡ doors → told.spent ≡ false → told.memory ≡ false → told.disk_fault ≡ false
       → (mover : ℕ) × (after : Machine) × Runs m (all_kept reply acts) after × Stands disk.tells (parts disk left) after × EndsWell m (all_kept reply acts) after mover
 
 -- So it is of an archive that was shared: all that was done on it is one run from each state that it stood for.

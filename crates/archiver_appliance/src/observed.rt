@@ -1,5 +1,5 @@
 // An archive whose answers are looked at for what is to be told.
-ghost use Rattle.std.specs.Prelude.{◌≡◌};
+ghost use Rattle.std.specs.Prelude.{◌≡◌, IfErr, IfOk};
 
 use crate::drops::Whose;
 use crate::service_log::Log;
@@ -48,32 +48,38 @@ impl Tried {
 /// An archive that hands in what is to be told of its answers: the samples that it drops, and the damage that a move meets.
 #[derive(Drop)]
 pub struct Observed<D: Disk> {
-    archive: Archive<D>,
+    // In a box, since each turn moves what it acts on.
+    archive: Box<Archive<D>>,
     log: Log,
     tried: Tried,
 }
 
 impl<D: Disk> Observed<D> {
-    /// This archive. It takes no memory.
-    pub fn new(alloc: Global, archive: Archive<D>, log: Log) -> Observed<D>
-        ensures { result.archive ≡ archive }
+    /// This archive. It takes memory for it, and gives it back where that is wanting.
+    pub fn new(alloc: Global, archive: Archive<D>, log: Log) -> Result<Observed<D>, Archive<D>>
+        ensures made { IfOk result (λ observed. observed.archive.value ≡ archive) }
+        ensures back { IfErr result (λ given. given ≡ archive) }
     {
+        let archive = match Box::new(alloc, archive) {
+            Ok(archive) => archive,
+            Err(refused) => return Err(refused.value),
+        };
         let tried = Tried {
             row: None,
             name: Vec::new(alloc),
         };
-        Observed {
+        Ok(Observed {
             archive,
             log,
             tried,
-        }
+        })
     }
 
     /// The archive, given back.
     pub fn into_archive(self) -> Archive<D>
-        ensures { result ≡ self.archive }
+        ensures { result ≡ self.archive.value }
     {
-        self.archive
+        Box::into_inner(self.archive)
     }
 }
 
@@ -84,9 +90,9 @@ impl<D: Disk> Applies for Observed<D> {
 
     type Reader = D::Reader;
 
-    ghost stands = { λ o m. Stands D.tells (parts D.Disk o.archive) m };
+    ghost stands = { λ o m. Stands D.tells (parts D.Disk o.archive.value) m };
 
-    ghost leaves = { λ o e p. Leaves D.tells (parts D.Disk o.archive) e (parts D.Disk p.archive) };
+    ghost leaves = { λ o e p. Leaves D.tells (parts D.Disk o.archive.value) e (parts D.Disk p.archive.value) };
 
     ghost sound = { λ o m s. s.sound };
 

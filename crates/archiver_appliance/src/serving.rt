@@ -104,7 +104,7 @@ where
     ensures clock { Gives (C.coming clock.old) (C.coming clock.new) [] }
     ensures back { IfErr result (λ given. (given ≡ archive) × (posts.new ≡ posts.old) × (clock.new ≡ clock.old)) }
 {
-    let observed = Observed::new(alloc, archive, log.again());
+    let observed = Observed::new(alloc, archive, log.again())?;
     match Rooms::new(alloc, Shared::new(observed)) {
         Ok((rooms, pass)) => Ok(serve_in_rooms(rt, alloc, rooms, pass, posts, clock, log)),
         Err(shared) => Err(shared.into_inner().into_archive()),
@@ -133,7 +133,7 @@ where
     D::Reader: Send,
     W::L: Send,
     requires opens { Opens (ArchiveStep D.Disk D.Reader.tells D.Reader.bytes D.Reader.faults) rooms (opened rooms) pass }
-    requires stands { (m : Machine) × Stands D.tells (parts D.Disk (opened rooms).archive.archive) m }
+    requires stands { (m : Machine) × Stands D.tells (parts D.Disk (opened rooms).archive.archive.value) m }
     requires few { length posts.old < 2 ^ 32 }
     ensures leaves { (began : Bool) × LeavesRoom D.Disk (ArchiveStep D.Disk D.Reader.tells D.Reader.bytes D.Reader.faults)
         (reply_of D.Reader.tells D.Reader.bytes D.Reader.faults) (opened rooms) (length posts.old)

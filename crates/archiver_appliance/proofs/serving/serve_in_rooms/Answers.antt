@@ -39,11 +39,11 @@ returns-clause-leaves g c =
     let told = c.serve_all-told.result in
     let olds = c.args.posts.now in
     let news = c.serve_all-told.new.posts in
-    let is = c.into_archive.ensures ∙ ap (λ o. o.archive) (c.into_inner.ensures ∙ ap (λ room. room.archive) c.close.ensures) in
+    let is = c.into_archive.ensures ∙ ap (λ o. o.archive.value) (c.into_inner.ensures ∙ ap (λ room. room.archive) c.close.ensures) in
     let few = numbers_left steps rooms c.args.pass c.requires.opens (length olds) c.requires.few in
     let Sessions : Machine → List Entry → Type 0 = λ start entries. Given start R.tells R.faults L.Source.left L.Sink.written L.Sink.write_faults entries L.Source.read_faults W.is_closed W.door_faults W.ledger told olds news in
     let left =
-    posts_left _ _ _ _ _ _ _ _ (door_left _ _ _ _ _ _ _ _ _ _ _ _ _ _) (door_full _ _ _ _ _ _ _ _ _ _ _ _ _) rooms _ _ told c.args.pass new olds news ((m : Machine) → Stands disk.tells (parts disk (opened rooms).archive.archive) m → Sessions m (all_kept reply (known new)))
+    posts_left _ _ _ _ _ _ _ _ (door_left _ _ _ _ _ _ _ _ _ _ _ _ _ _) (door_full _ _ _ _ _ _ _ _ _ _ _ _ _) rooms _ _ told c.args.pass new olds news ((m : Machine) → Stands disk.tells (parts disk (opened rooms).archive.archive.value) m → Sessions m (all_kept reply (known new)))
     (λ all m s. all_given _ steps _ reply (λ before after who n act answer step. step.0) c.args.rt.now R.tells R.faults L.Source.left L.Sink.written L.Source.read_faults L.Sink.write_faults W.is_closed W.door_faults W.ledger _ g.C.Clock.coming rooms c.args.pass new c.requires.opens m s.sound s told olds news all)
     few c.serve_all-told.ensures.served in (
       left.began,
