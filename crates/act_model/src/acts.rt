@@ -108,14 +108,15 @@ pub enum Answer<R: Drop> {
     NotPaused,
     /// The row's state is set.
     Done,
-    /// The row is in this state, and isn't paused. `change` is the number of its last change, and `seen` the one that the intake knew of
-    /// when the act began: they differ only where this act settled a doubt that changed the row.
+    /// The row is in this state, and isn't paused. `change` is the number of its last change, and `seen` the one that
+    /// the intake knew of when the act began: they differ only where this act settled a doubt that changed the row.
     RenameNotPaused {
         state: State,
         change: u64,
         seen: u64,
     },
-    /// The last accepted sample of the variable, at this moment, isn't durable yet; its last durable one is at the other.
+    /// The last accepted sample of the variable, at this moment, isn't durable yet; its last
+    /// durable one is at the other.
     NotDurable {
         last: u64,
         durable: Option<u64>,
@@ -210,7 +211,8 @@ pub enum Answer<R: Drop> {
     NoPiece {
         pieces: u64,
     },
-    /// A reader of the piece, the name of its file, the length of its header's line with the newline, and its own length, in bytes.
+    /// A reader of the piece, the name of its file, the length of its header's line with the newline, and
+    /// its own length, in bytes.
     Piece {
         reader: R,
         name: FileName,
@@ -230,8 +232,8 @@ pub enum Answer<R: Drop> {
     DoorsLeft {
         doors: u64,
     },
-    /// The disk failed, which it has counted. The act's change was made or not; the next act that touches the disk's journals finds out.
-    /// Where only the removal of a file failed, a MoveStep or a Sweep has done all else.
+    /// The disk failed, which it has counted. The act's change was made or not; the next act that touches the disk's
+    /// journals finds out. Where only the removal of a file failed, a MoveStep or a Sweep has done all else.
     DiskFault,
     /// Memory ran out. Nothing was changed.
     Memory,

@@ -1,4 +1,5 @@
-//! What each act is answered, as a type of its own. What each answer means says [`Answer`](crate::Answer); want of memory changes nothing.
+//! What each act is answered, as a type of its own. What each answer means says [`Answer`](crate::Answer); want
+//! of memory changes nothing.
 use crate::details::Details;
 use disk_model::FileName;
 use event_types::{About, State};

@@ -1,13 +1,16 @@
 //! Each act as a function of its own, which answers just what that act may be answered.
 //!
-//! Each does what [`ask`](crate::ask) does, and requires what its act requires. `asked` says that just this act was made under the
-//! actor's number, with the answer that the result stands for, or none, where no act is left.
+//! Each does what [`ask`](crate::ask) does, and requires what its act requires. `asked` says that just this act was
+//! made under the actor's number, with the answer that the result stands for, or none, where no act is left.
 ghost use Rattle.std.specs.Prelude.{◌≡◌, ◌≤◌};
 ghost use Rattle.act_model.specs.Event.{IsEvent};
 ghost use Rattle.act_model.specs.Machine.{Machine};
 ghost use Rattle.act_model.specs.Step.{MayAsk};
 ghost use Rattle.act_model.specs.Answers.{is_answer_to};
-ghost use Rattle.act_model.specs.Asks.{Asked, registered_reply, paused_reply, resumed_reply, renamed_reply, offered_reply, ticked_reply, flushed_reply, move_begun_reply, move_stepped_reply, swept_reply, pinned_reply, piece_opened_reply, unpinned_reply, names_told_reply, details_told_reply, doors_left_reply};
+ghost use Rattle.act_model.specs.Asks.{Asked, registered_reply, paused_reply, resumed_reply, renamed_reply};
+ghost use Rattle.act_model.specs.Asks.{offered_reply, ticked_reply, flushed_reply, move_begun_reply};
+ghost use Rattle.act_model.specs.Asks.{move_stepped_reply, swept_reply, pinned_reply, piece_opened_reply};
+ghost use Rattle.act_model.specs.Asks.{unpinned_reply, names_told_reply, details_told_reply, doors_left_reply};
 
 use crate::actor::{Actor, Spent, ask};
 use crate::acts::Act;
@@ -39,7 +42,8 @@ pub fn ask_register<A: Actor>(
     about: About,
 ) -> Result<Registered, Spent>
     requires stands { (m : Machine) × A.stands actor.old m }
-    ensures asked { Asked A.number A.between A.is_spent registered_reply actor.old (Act.Register name about) result actor.new }
+    ensures asked { Asked A.number A.between A.is_spent registered_reply actor.old
+        (Act.Register name about) result actor.new }
     ensures stands { (n : Machine) × A.stands actor.new n }
 {
     ask_own(actor, Act::Register { name, about })
@@ -66,14 +70,15 @@ pub fn ask_resume<A: Actor>(actor: &mut A, name: Blob) -> Result<Resumed, Spent>
 /// Asks for a new name for a variable, which goes on in a new row.
 pub fn ask_rename<A: Actor>(actor: &mut A, name: Blob, newname: PvName) -> Result<Renamed, Spent>
     requires stands { (m : Machine) × A.stands actor.old m }
-    ensures asked { Asked A.number A.between A.is_spent renamed_reply actor.old (Act.Rename name newname) result actor.new }
+    ensures asked { Asked A.number A.between A.is_spent renamed_reply actor.old
+        (Act.Rename name newname) result actor.new }
     ensures stands { (n : Machine) × A.stands actor.new n }
 {
     ask_own(actor, Act::Rename { name, newname })
 }
 
-/// Offers a sample: `line` is an event of `ty` at the moment `t`, escaped and without its newline. Moments are nanoseconds since
-/// 1970-01-01T00:00:00Z.
+/// Offers a sample: `line` is an event of `ty` at the moment `t`, escaped and without its newline. Moments
+/// are nanoseconds since 1970-01-01T00:00:00Z.
 pub fn ask_offer<A: Actor>(
     actor: &mut A,
     name: Blob,
@@ -84,7 +89,8 @@ pub fn ask_offer<A: Actor>(
 ) -> Result<Offered, Spent>
     requires stands { (m : Machine) × A.stands actor.old m }
     requires event { IsEvent ty (record { t = t; line = line }) }
-    ensures asked { Asked A.number A.between A.is_spent offered_reply actor.old (Act.Offer name ty t line now) result actor.new }
+    ensures asked { Asked A.number A.between A.is_spent offered_reply actor.old
+        (Act.Offer name ty t line now) result actor.new }
     ensures stands { (n : Machine) × A.stands actor.new n }
 {
     ask_own(
@@ -123,7 +129,8 @@ pub fn ask_move_begin<A: Actor>(actor: &mut A, store: u8, now: u64) -> Result<Mo
     requires stands { (m : Machine) × A.stands actor.old m }
     requires low { 1 ≤ store }
     requires high { store ≤ 2 }
-    ensures asked { Asked A.number A.between A.is_spent move_begun_reply actor.old (Act.MoveBegin store now) result actor.new }
+    ensures asked { Asked A.number A.between A.is_spent move_begun_reply actor.old
+        (Act.MoveBegin store now) result actor.new }
     ensures stands { (n : Machine) × A.stands actor.new n }
 {
     ask_own(actor, Act::MoveBegin { store, now })
@@ -163,7 +170,9 @@ pub fn ask_open_piece<A: Actor>(
     i: u32,
 ) -> Result<PieceOpened<A::Reader>, Spent>
     requires stands { (m : Machine) × A.stands actor.old m }
-    ensures asked { Asked A.number A.between A.is_spent (piece_opened_reply A.Reader.tells A.Reader.bytes A.Reader.faults) actor.old (Act.OpenPiece pin i) result actor.new }
+    ensures asked { Asked A.number A.between A.is_spent
+        (piece_opened_reply A.Reader.tells A.Reader.bytes A.Reader.faults) actor.old
+        (Act.OpenPiece pin i) result actor.new }
     ensures stands { (n : Machine) × A.stands actor.new n }
 {
     ask_own(actor, Act::OpenPiece { pin, i })
@@ -182,7 +191,8 @@ pub fn ask_unpin<A: Actor>(actor: &mut A, pin: u32) -> Result<Unpinned, Spent>
 pub fn ask_names<A: Actor>(actor: &mut A, from: u32, most: u32) -> Result<NamesTold, Spent>
     requires stands { (m : Machine) × A.stands actor.old m }
     requires some { 1 ≤ most }
-    ensures asked { Asked A.number A.between A.is_spent names_told_reply actor.old (Act.Names from most) result actor.new }
+    ensures asked { Asked A.number A.between A.is_spent names_told_reply actor.old
+        (Act.Names from most) result actor.new }
     ensures stands { (n : Machine) × A.stands actor.new n }
 {
     ask_own(actor, Act::Names { from, most })
@@ -191,7 +201,8 @@ pub fn ask_names<A: Actor>(actor: &mut A, from: u32, most: u32) -> Result<NamesT
 /// Asks what is known of a variable.
 pub fn ask_details<A: Actor>(actor: &mut A, name: Blob) -> Result<DetailsTold, Spent>
     requires stands { (m : Machine) × A.stands actor.old m }
-    ensures asked { Asked A.number A.between A.is_spent details_told_reply actor.old (Act.Details name) result actor.new }
+    ensures asked { Asked A.number A.between A.is_spent details_told_reply actor.old
+        (Act.Details name) result actor.new }
     ensures stands { (n : Machine) × A.stands actor.new n }
 {
     ask_own(actor, Act::Details { name })

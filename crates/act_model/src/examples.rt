@@ -1,5 +1,6 @@
 //! Small histories, worked out. Each is a clause of a function that does nothing.
-ghost use Rattle.act_model.specs.Examples.{LateAndEarlyOffers, APauseGivesUpWhatIsHeld, AFullIntakeIsFlushed, PinsAreTheirOwners, ARenamedVariableGoesOn, ANewNameWaitsForTheFlush};
+ghost use Rattle.act_model.specs.Examples.{LateAndEarlyOffers, APauseGivesUpWhatIsHeld, AFullIntakeIsFlushed};
+ghost use Rattle.act_model.specs.Examples.{PinsAreTheirOwners, ARenamedVariableGoesOn, ANewNameWaitsForTheFlush};
 
 /// Samples that aren't later than a row's last, or are too far ahead, are dropped with the reason.
 pub fn late_and_early_offers()

@@ -1,16 +1,17 @@
 //! What an archive is: one abstract machine over plain lists, and those who act on it.
 //!
-//! An archive has rows, one for each name of a variable, and seventeen acts may be asked of it. `specs/` says what it has, what each act
-//! does and answers, what always holds, and what a crash at any moment leaves; `docs/MACHINE.md` tells it in words. The model in a
-//! sentence: of each row a list of samples is accepted, a front of it is durable, both only grow, and whatever happens the next opening has
-//! a list between the two.
+//! An archive has rows, one for each name of a variable, and seventeen acts may be asked of it. `specs/` says what it
+//! has, what each act does and answers, what always holds, and what a crash at any moment leaves; `docs/MACHINE.md`
+//! tells it in words. The model in a sentence: of each row a list of samples is accepted, a front of it is durable,
+//! both only grow, and whatever happens the next opening has a list between the two.
 //!
-//! [`Actor`] is the trait by which all above acts on an archive, and each act is a function over it that answers just what this act may
-//! be answered, as [`ask_offer`] does. [`Out`] is the trait by which answers are written. [`laws`] and [`examples`] are functions that do
-//! nothing: their clauses say what is proved of the definitions.
+//! [`Actor`] is the trait by which all above acts on an archive, and each act is a function over it that answers just
+//! what this act may be answered, as [`ask_offer`] does. [`Out`] is the trait by which answers are written. [`laws`]
+//! and [`examples`] are functions that do nothing: their clauses say what is proved of the definitions.
 //!
-//! Caveats: an act that touches a disk may fail, and then its change may have been made or not; the next act that touches the disk finds
-//! out which. Of samples in files the laws speak only where the disk tells its files and they stand as they are listed.
+//! Caveats: an act that touches a disk may fail, and then its change may have been made or not; the next act that
+//! touches the disk finds out which. Of samples in files the laws speak only where the disk tells its files and they
+//! stand as they are listed.
 #![tactic(auto)]
 
 mod actor;

@@ -1,9 +1,15 @@
-//! From any act's answer to the answer of one act. An answer of another act can't come, by condition, so each case that is left out is
-//! proved never to be met.
+//! From any act's answer to the answer of one act. An answer of another act can't come, by condition, so each case that
+//! is left out is proved never to be met.
 ghost use Rattle.std.specs.Prelude.{◌≡◌, Bool, true};
 ghost use Rattle.act_model.specs.Reply.{Reply, reply_of};
-ghost use Rattle.act_model.specs.Answers.{answers_register, answers_pause, answers_resume, answers_rename, answers_offer, answers_tick, answers_flush, answers_move_begin, answers_move_step, answers_sweep, answers_pin, answers_open_piece, answers_unpin, answers_names, answers_details, answers_doors};
-ghost use Rattle.act_model.specs.Asks.{registered_reply, paused_reply, resumed_reply, renamed_reply, offered_reply, ticked_reply, flushed_reply, move_begun_reply, move_stepped_reply, swept_reply, pinned_reply, piece_opened_reply, unpinned_reply, names_told_reply, details_told_reply, doors_left_reply};
+ghost use Rattle.act_model.specs.Answers.{answers_register, answers_pause, answers_resume, answers_rename};
+ghost use Rattle.act_model.specs.Answers.{answers_offer, answers_tick, answers_flush, answers_move_begin};
+ghost use Rattle.act_model.specs.Answers.{answers_move_step, answers_sweep, answers_pin, answers_open_piece};
+ghost use Rattle.act_model.specs.Answers.{answers_unpin, answers_names, answers_details, answers_doors};
+ghost use Rattle.act_model.specs.Asks.{registered_reply, paused_reply, resumed_reply, renamed_reply, offered_reply};
+ghost use Rattle.act_model.specs.Asks.{ticked_reply, flushed_reply, move_begun_reply, move_stepped_reply, swept_reply};
+ghost use Rattle.act_model.specs.Asks.{pinned_reply, piece_opened_reply, unpinned_reply, names_told_reply};
+ghost use Rattle.act_model.specs.Asks.{details_told_reply, doors_left_reply};
 
 use crate::acts::Answer;
 use crate::answers::{

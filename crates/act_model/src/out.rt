@@ -17,12 +17,14 @@ pub enum OutErr {
     Memory,
 }
 
-/// A text of an answer, written as the answer's samples come: `begin` once, then `sample` for each sample in order, then `finish`.
+/// A text of an answer, written as the answer's samples come: `begin` once, then `sample` for each
+/// sample in order, then `finish`.
 ///
-/// Each kind of output says what its text is, by three relations between the output before `begin` and the output now. After an
-/// error a front of the text went out, whatever samples were still to come, and no further call is made.
+/// Each kind of output says what its text is, by three relations between the output before `begin` and the output now.
+/// After an error a front of the text went out, whatever samples were still to come, and no further call is made.
 pub trait Out {
-    /// It has begun with this subject and was given these samples. Their text went out, or is gathered, as far as it has come.
+    /// It has begun with this subject and was given these samples. Their text went out, or is
+    /// gathered, as far as it has come.
     ghost gave: { Self → Subject → List Sample → Self → Type 0 };
 
     /// The whole text of these samples went out.
@@ -36,27 +38,38 @@ pub trait Out {
 
     /// Begins the text of an answer of the variable `name`.
     fn begin(&mut self, name: &[u8], about: &About, query: Query) -> Result<(), OutErr>
-        ensures begun { OnOk result (gave self.old (record { name = name.now; about = about.now; query = query }) [] self.new) }
-        ensures broken { OnErr result ((all : List Sample) → AreEvents about.now.ty all → broke self.old (record { name = name.now; about = about.now; query = query }) all self.new) }
+        ensures begun { OnOk result
+            (gave self.old (record { name = name.now; about = about.now; query = query }) [] self.new) }
+        ensures broken { OnErr result ((all : List Sample) → AreEvents about.now.ty all
+            → broke self.old (record { name = name.now; about = about.now; query = query }) all self.new) }
         ensures faults { faults self.old ≤ faults self.new }
         ensures cause { IsErrOf result OutErr.SinkFault → Rose (faults self.old) (faults self.new) };
 
-    /// Gives the next sample: `line` is an event of the variable's type at the moment `t`, escaped and without its newline.
+    /// Gives the next sample: `line` is an event of the variable's type at the moment `t`,
+    /// escaped and without its newline.
     fn sample(&mut self, t: u64, line: &[u8]) -> Result<(), OutErr>
         requires event { MayGive gave self.old (record { t = t; line = line.now }) }
-        ensures given { (before : Self) (subject : Subject) (xs : List Sample) → gave before subject xs self.old → OnOk result (gave before subject (xs ++ record { t = t; line = line.now } ∷ []) self.new) }
-        ensures broken { (before : Self) (subject : Subject) (xs more : List Sample) → AreEvents subject.about.ty (xs ++ record { t = t; line = line.now } ∷ more) → gave before subject xs self.old
+        ensures given { (before : Self) (subject : Subject) (xs : List Sample) → gave before subject xs self.old
+            → OnOk result (gave before subject (xs ++ record { t = t; line = line.now } ∷ []) self.new) }
+        ensures broken { (before : Self) (subject : Subject) (xs more : List Sample)
+            → AreEvents subject.about.ty (xs ++ record { t = t; line = line.now } ∷ more)
+            → gave before subject xs self.old
             → OnErr result (broke before subject (xs ++ record { t = t; line = line.now } ∷ more) self.new) }
         ensures faults { faults self.old ≤ faults self.new }
         ensures cause { IsErrOf result OutErr.SinkFault → Rose (faults self.old) (faults self.new) };
 
     /// Ends the text.
     fn finish(&mut self) -> Result<(), OutErr>
-        ensures finished { (before : Self) (subject : Subject) (xs : List Sample) → gave before subject xs self.old → OnOk result (finished before subject xs self.new) }
-        ensures broken { (before : Self) (subject : Subject) (xs : List Sample) → gave before subject xs self.old → OnErr result (broke before subject xs self.new) }
+        ensures finished { (before : Self) (subject : Subject) (xs : List Sample) → gave before subject xs self.old
+            → OnOk result (finished before subject xs self.new) }
+        ensures broken { (before : Self) (subject : Subject) (xs : List Sample) → gave before subject xs self.old
+            → OnErr result (broke before subject xs self.new) }
         ensures faults { faults self.old ≤ faults self.new }
         ensures cause { IsErrOf result OutErr.SinkFault → Rose (faults self.old) (faults self.new) };
 
     /// What was given is a front, whatever events follow.
-    ghost front: { (before now : Self) (subject : Subject) (xs more : List Sample) → AreEvents subject.about.ty (xs ++ more) → gave before subject xs now → broke before subject (xs ++ more) now };
+    ghost front: { (before now : Self) (subject : Subject) (xs more : List Sample)
+        → AreEvents subject.about.ty (xs ++ more)
+        → gave before subject xs now
+        → broke before subject (xs ++ more) now };
 }

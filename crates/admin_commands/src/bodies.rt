@@ -1,6 +1,8 @@
 // The bodies of replies at success, without the newline that ends each.
 ghost use Rattle.std.specs.Prelude.{◌≡◌, ◌++◌, IfOk, OnOk};
-ghost use Rattle.admin_commands.specs.Bodies.{count_members, details_text, done_text, files_member, flushed_text, method_members, method_text, names_text, number_member, period_of, row_text, state_members, state_text, status_text, text_member};
+ghost use Rattle.admin_commands.specs.Bodies.{count_members, details_text, done_text, files_member, flushed_text};
+ghost use Rattle.admin_commands.specs.Bodies.{method_members, method_text, names_text, number_member, period_of};
+ghost use Rattle.admin_commands.specs.Bodies.{row_text, state_members, state_text, status_text, text_member};
 
 use act_model::Details;
 use event_types::{Method, State};

@@ -2,9 +2,11 @@
 ghost use Rattle.std.specs.Prelude.{◌≡◌, ◌∷◌, [], true, IfOk};
 ghost use Rattle.act_model.specs.Machine.{Machine};
 ghost use Rattle.act_model.specs.declared.acts.Act.{Act};
-ghost use Rattle.act_model.specs.Asks.{Asked, details_told_reply, flushed_reply, names_told_reply, paused_reply, registered_reply, renamed_reply, resumed_reply};
+ghost use Rattle.act_model.specs.Asks.{Asked, details_told_reply, flushed_reply, names_told_reply, paused_reply};
+ghost use Rattle.act_model.specs.Asks.{registered_reply, renamed_reply, resumed_reply};
 ghost use Rattle.admin_commands.specs.Bodies.{names_text};
-ghost use Rattle.admin_commands.specs.Next.{details_told, flushes, is_management, registered, renamed, set, status_told, tells};
+ghost use Rattle.admin_commands.specs.Next.{details_told, flushes, is_management, registered, renamed, set};
+ghost use Rattle.admin_commands.specs.Next.{status_told, tells};
 ghost use Rattle.admin_commands.specs.Pages.{EndsBelow, Gathers, LeavesNone};
 ghost use Rattle.admin_commands.specs.Serving.{Comes, Tells};
 
@@ -76,7 +78,8 @@ fn archive<A: Actor>(
     about: &About,
 ) -> Result<WebReply, Stopped>
     requires stands { (m : Machine) × A.stands actor.old m }
-    ensures comes { Comes A.number A.between A.is_spent (WebCall.ArchivePv pv.now about.now) actor.old result actor.new }
+    ensures comes { Comes A.number A.between A.is_spent
+        (WebCall.ArchivePv pv.now about.now) actor.old result actor.new }
     ensures stands { (n : Machine) × A.stands actor.new n }
 {
     let Ok((name, about)) = copies_of(pv, about) else {
@@ -163,7 +166,8 @@ fn rename<A: Actor>(
     newname: &PvName,
 ) -> Result<WebReply, Stopped>
     requires stands { (m : Machine) × A.stands actor.old m }
-    ensures comes { Comes A.number A.between A.is_spent (WebCall.RenamePv pv.now newname.now) actor.old result actor.new }
+    ensures comes { Comes A.number A.between A.is_spent
+        (WebCall.RenamePv pv.now newname.now) actor.old result actor.new }
     ensures stands { (n : Machine) × A.stands actor.new n }
 {
     let Ok((name, newname)) = names_of(alloc, pv, newname) else {
@@ -337,7 +341,8 @@ fn gather_names<A: Actor>(alloc: Global, actor: &mut A) -> Result<Blobs, Stopped
 
 fn ask_page<A: Actor>(actor: &mut A, from: u32) -> Result<NamesTold, Spent>
     requires stands { (m : Machine) × A.stands actor.old m }
-    ensures asked { Asked A.number A.between A.is_spent names_told_reply actor.old (Act.Names from PAGE) result actor.new }
+    ensures asked { Asked A.number A.between A.is_spent names_told_reply actor.old
+        (Act.Names from PAGE) result actor.new }
     ensures below { IfOk result (EndsBelow from) }
     ensures stands { (n : Machine) × A.stands actor.new n }
 {

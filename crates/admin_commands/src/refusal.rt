@@ -33,8 +33,8 @@ pub enum Refusal {
     NotPaused,
     /// A variable that isn't paused gets no other name.
     RenameNotPaused,
-    /// A variable gets no other name before its last accepted sample is durable: the moments of the last one, and of the last durable
-    /// one, in nanoseconds since 1970-01-01T00:00:00Z.
+    /// A variable gets no other name before its last accepted sample is durable: the moments of the last one, and of
+    /// the last durable one, in nanoseconds since 1970-01-01T00:00:00Z.
     NotDurable { last: u64, durable: Option<u64> },
     /// The disk failed.
     DiskFault,

@@ -77,8 +77,10 @@ pub(crate) fn send<K: Sink>(alloc: Global, sink: &mut K, reply: WebReply) -> Res
 // Writes the head of a body, and the body.
 fn send_body<K: Sink>(alloc: Global, sink: &mut K, status: u16, body: &[u8]) -> Result<(), OutErr>
     requires { IsTrue (list_any (λ listed. listed == status) statuses) }
-    ensures all { OnOk result (Appends (K.written sink.old) (K.written sink.new) (head_text (head_of status body.now) ++ body.now)) }
-    ensures front { AppendsFront (K.written sink.old) (K.written sink.new) (head_text (head_of status body.now) ++ body.now) }
+    ensures all { OnOk result
+        (Appends (K.written sink.old) (K.written sink.new) (head_text (head_of status body.now) ++ body.now)) }
+    ensures front { AppendsFront (K.written sink.old) (K.written sink.new)
+        (head_text (head_of status body.now) ++ body.now) }
     ensures memory { IsErrOf result OutErr.Memory → sink.new ≡ sink.old }
     ensures faults { K.write_faults sink.old ≤ K.write_faults sink.new }
     ensures cause { IsErrOf result OutErr.SinkFault → Rose (K.write_faults sink.old) (K.write_faults sink.new) }
@@ -98,10 +100,11 @@ fn send_body<K: Sink>(alloc: Global, sink: &mut K, status: u16, body: &[u8]) -> 
 
 /// Writes the whole reply of a request that is refused.
 ///
-/// After an error a front of the reply went out. `SinkFault` comes only where the sink's count of failed writes rose; at `Memory` nothing
-/// was written.
+/// After an error a front of the reply went out. `SinkFault` comes only where the sink's count of failed writes rose;
+/// at `Memory` nothing was written.
 pub fn refuse<K: Sink>(alloc: Global, sink: &mut K, refusal: Refusal) -> Result<(), OutErr>
-    ensures all { OnOk result (Appends (K.written sink.old) (K.written sink.new) (reply_text (WebReply.Refused refusal))) }
+    ensures all { OnOk result
+        (Appends (K.written sink.old) (K.written sink.new) (reply_text (WebReply.Refused refusal))) }
     ensures front { AppendsFront (K.written sink.old) (K.written sink.new) (reply_text (WebReply.Refused refusal)) }
     ensures memory { IsErrOf result OutErr.Memory → sink.new ≡ sink.old }
     ensures faults { K.write_faults sink.old ≤ K.write_faults sink.new }

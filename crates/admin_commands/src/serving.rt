@@ -14,11 +14,11 @@ use edge_io::Sink;
 use http_front::WebCall;
 use std::alloc::Global;
 
-/// Serves a management call, which is neither of the two retrievals: makes just the acts that it asks for, in order, and writes the whole
-/// reply over their answers. A fault of the disk is a reply.
+/// Serves a management call, which is neither of the two retrievals: makes just the acts that it asks for, in order,
+/// and writes the whole reply over their answers. A fault of the disk is a reply.
 ///
-/// `SinkFault` comes only where the sink's count of failed writes rose, and then a front of the reply went out. `Spent` comes only where
-/// no act is left, and then the reply that says so went out. At `Memory` nothing was written.
+/// `SinkFault` comes only where the sink's count of failed writes rose, and then a front of the reply went out. `Spent`
+/// comes only where no act is left, and then the reply that says so went out. At `Memory` nothing was written.
 pub fn admin<A: Actor, K: Sink>(
     alloc: Global,
     actor: &mut A,
@@ -27,7 +27,8 @@ pub fn admin<A: Actor, K: Sink>(
 ) -> Result<(), AdminErr>
     requires stands { (m : Machine) × A.stands actor.old m }
     requires management { is_management call.now ≡ true }
-    ensures serves { Serves A.number A.between A.is_spent call.now actor.old result actor.new (K.written sink.old) (K.written sink.new) }
+    ensures serves { Serves A.number A.between A.is_spent call.now actor.old result actor.new
+        (K.written sink.old) (K.written sink.new) }
     ensures stands { (n : Machine) × A.stands actor.new n }
     ensures memory { IsErrOf result AdminErr.Memory → sink.new ≡ sink.old }
     ensures write_faults { K.write_faults sink.old ≤ K.write_faults sink.new }

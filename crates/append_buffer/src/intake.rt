@@ -1,5 +1,6 @@
 // What is held of all rows.
-ghost use Rattle.std.specs.Prelude.{◌≡◌, ◌≢◌, ◌+◌, ◌≤◌, ◌<◌, ◌^◌, ◌↔◌, ◌++◌, ◌∷◌, [], ℕ, length, vec_len, OnOk, OnErr, IfOk, Err};
+ghost use Rattle.std.specs.Prelude.{◌≡◌, ◌≢◌, ◌+◌, ◌≤◌, ◌<◌, ◌^◌, ◌↔◌, ◌++◌, ◌∷◌, [], ℕ, length, vec_len, OnOk, OnErr};
+ghost use Rattle.std.specs.Prelude.{IfOk, Err};
 ghost use Rattle.series_model.specs.Series.{since};
 ghost use Rattle.append_buffer.specs.Tails.{tail_at, held_bytes, batch_of, KeepsSpares, KeepsTails, SetsTail};
 ghost use Rattle.append_buffer.specs.declared.intake.OfferErr.TheVariants.{IntakeFull, Memory};
@@ -96,7 +97,8 @@ impl Intake {
         ensures spare { (tail_at self.old row).spare ≤ (tail_at self.new row).spare + 1 }
         ensures spares { (other : ℕ) → other ≢ row → (tail_at self.old other).spare ≤ (tail_at self.new other).spare }
 
-        ensures full { (held : ℕ) → (result ≡ Err (IntakeFull held)) ↔ ((held ≡ held_bytes self.old) × (67108864 < held_bytes self.old + (length sample.line + 1))) }
+        ensures full { (held : ℕ) → (result ≡ Err (IntakeFull held))
+            ↔ ((held ≡ held_bytes self.old) × (67108864 < held_bytes self.old + (length sample.line + 1))) }
         ensures memory { result ≡ Err Memory → (tail_at self.old row).spare ≡ 0 }
         ensures tails { OnErr result (KeepsTails self.old self.new) }
         ensures kept { OnErr result (KeepsSpares self.old self.new) }
@@ -111,7 +113,8 @@ impl Intake {
         Ok(())
     }
 
-    /// Gives up the samples of a row that are not later than `t`. It takes no memory, and each of the row's samples is looked at once.
+    /// Gives up the samples of a row that are not later than `t`. It takes no memory, and each of the row's
+    /// samples is looked at once.
     pub fn trim(&mut self, row: u32, t: u64)
         ensures tail { SetsTail row (since (t + 1) (tail_at self.old row).samples) self.old self.new }
         ensures spares { KeepsSpares self.old self.new }
@@ -123,7 +126,8 @@ impl Intake {
         }
     }
 
-    /// Whole tails, in the order of rows, until they have `limit` bytes; at least one, where any is held. No sample is copied.
+    /// Whole tails, in the order of rows, until they have `limit` bytes; at least one, where any is
+    /// held. No sample is copied.
     pub fn lend(&self, limit: u64) -> Result<Vec<LentSamples<'_>>, AllocError>
         ensures { IfOk result (λ lent. lent.items ≡ batch_of limit self.now) }
     {

@@ -1,6 +1,8 @@
 //! Moments as ISO 8601 texts.
-ghost use Rattle.std.specs.Prelude.{◌≡◌, ℕ, List, ◌++◌, ◌*◌, ◌^◌, ◌<◌, ◌≤◌, length, drop, ◌↔◌, Some, Ok, IfSome, IfNone, OnOk, OnErr};
-ghost use Rattle.arch_time.specs.Iso.{IsDateText, IsMinuteText, IsClockText, IsFraction, IsZone, IsMomentAt, IsIso, IsPrinted, AppendsIso};
+ghost use Rattle.std.specs.Prelude.{◌≡◌, ℕ, List, ◌++◌, ◌*◌, ◌^◌, ◌<◌, ◌≤◌, length, drop, ◌↔◌, Some, Ok, IfSome};
+ghost use Rattle.std.specs.Prelude.{IfNone, OnOk, OnErr};
+ghost use Rattle.arch_time.specs.Iso.{IsDateText, IsMinuteText, IsClockText, IsFraction, IsZone, IsMomentAt, IsIso};
+ghost use Rattle.arch_time.specs.Iso.{IsPrinted, AppendsIso};
 
 use crate::calendar::{CivilDate, UNIX_DAY};
 use crate::digits::{number, two_digits};

@@ -34,7 +34,8 @@ impl<'a, X: Applies> Actor for Alone<'a, X> {
     ghost stands = { λ a m. X.stands a.archive.now m };
 
     // It acts on the archive that it was made with, so its lender has that archive back.
-    ghost between = { λ a entries b. (b.archive.ghost_name ≡ a.archive.ghost_name) × (b.who ≡ a.who) × ActsAlone X.stands X.leaves a.who a.archive.now entries b.archive.now };
+    ghost between = { λ a entries b. (b.archive.ghost_name ≡ a.archive.ghost_name) × (b.who ≡ a.who)
+        × ActsAlone X.stands X.leaves a.who a.archive.now entries b.archive.now };
 
     ghost is_spent = { λ a. ⊥ };
 
@@ -42,13 +43,18 @@ impl<'a, X: Applies> Actor for Alone<'a, X> {
         Ok(self.archive.apply(self.who, act))
     }
 
-    ghost legal = { λ a b entries m h s. alone_legal X.stands X.leaves a.who a.archive.now b.archive.now entries m h.2 s };
+    ghost legal = { λ a b entries m h s.
+        alone_legal X.stands X.leaves a.who a.archive.now b.archive.now entries m h.2 s };
 
     ghost sound = { λ a m s. X.sound a.archive.now m s };
 
     ghost nothing = { λ a. (refl, refl, alone_nothing X.stands X.leaves a.who a.archive.now) };
 
-    ghost joined = { λ a b c xs ys p q. (q.0 ∙ p.0, q.1 ∙ p.1, alone_joined X.stands X.leaves a.who b.who a.archive.now b.archive.now c.archive.now xs ys p.1 p.2 q.2) };
+    ghost joined = { λ a b c xs ys p q. (
+      q.0 ∙ p.0,
+      q.1 ∙ p.1,
+      alone_joined X.stands X.leaves a.who b.who a.archive.now b.archive.now c.archive.now xs ys p.1 p.2 q.2,
+    ) };
 
     ghost number_stays = { λ a b entries h. h.1 };
 }

@@ -17,7 +17,8 @@ pub trait Applies: Drop {
     /// The states that it stands for.
     ghost stands: { Self → Machine → Type 0 };
 
-    /// What an act and its answer leave, where they lead from one value to another: as of a disk, and of a crash within the act.
+    /// What an act and its answer leave, where they lead from one value to another: as of a disk, and
+    /// of a crash within the act.
     ghost leaves: { Self → Entry → Self → Type 0 };
 
     /// It stands for sound states alone.
@@ -28,6 +29,11 @@ pub trait Applies: Drop {
         requires stands { (m : Machine) × stands self.old m }
         requires may_ask { MayAsk act }
         ensures step { (m : Machine) → stands self.old m
-            → (n : Machine) × Step who act m (reply_of Self.Reader.tells Self.Reader.bytes Self.Reader.faults result) n × stands self.new n }
-        ensures leaves { leaves self.old (record { who = who; act = act; answer = reply_of Self.Reader.tells Self.Reader.bytes Self.Reader.faults result }) self.new };
+            → (n : Machine) × Step who act m (reply_of Self.Reader.tells Self.Reader.bytes Self.Reader.faults result) n
+            × stands self.new n }
+        ensures leaves { leaves self.old (record {
+          who = who;
+          act = act;
+          answer = reply_of Self.Reader.tells Self.Reader.bytes Self.Reader.faults result;
+        }) self.new };
 }

@@ -39,7 +39,8 @@ impl<X: Applies> Room for Shared<X> {
 
     ghost fits = { λ room who n act. (m : Machine) × X.stands room.archive m };
 
-    ghost steps = { λ room who n act answer new. SharedStep X.stands X.leaves X.Reader.tells X.Reader.bytes X.Reader.faults room who n act answer new };
+    ghost steps = { λ room who n act answer new.
+        SharedStep X.stands X.leaves X.Reader.tells X.Reader.bytes X.Reader.faults room who n act answer new };
 
     fn apply(&mut self, who: u64, n: u64, act: Act) -> Answer<X::Reader> {
         let _ = n;

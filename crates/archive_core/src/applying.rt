@@ -20,7 +20,8 @@ impl<D: Disk> Archive<D> {
     fn act(&mut self, who: u64, act: Act) -> Answer<D::Reader>
         requires stands { (m : Machine) × Stands D.tells (parts D.Disk self.old) m }
         requires may_ask { MayAsk act }
-        ensures { Acted D.tells who act (parts D.Disk self.old) (reply_of D.Reader.tells D.Reader.bytes D.Reader.faults result) (parts D.Disk self.new) }
+        ensures { Acted D.tells who act (parts D.Disk self.old)
+            (reply_of D.Reader.tells D.Reader.bytes D.Reader.faults result) (parts D.Disk self.new) }
     {
         match act {
             Act::Register { name, about } => self.register(&name, &about),
@@ -49,17 +50,21 @@ impl<D: Disk> Archive<D> {
         }
     }
 
-    /// Makes an act, which is asked under a number: that of the owner of pins. What is answered when is said at the method of each act.
-    /// `Memory` is answered for no refusal, and for no sample but one that would be kept.
+    /// Makes an act, which is asked under a number: that of the owner of pins. What is answered when is said at the
+    /// method of each act. `Memory` is answered for no refusal, and for no sample but one that would be kept.
     ///
-    /// Where nothing stood in doubt and neither `DiskFault`, `Damaged` nor `Memory` is answered, nothing stands in doubt then, and a file of the
-    /// stores that no list, no limbo and no running move knows was one before.
+    /// Where nothing stood in doubt and neither `DiskFault`, `Damaged` nor `Memory` is answered, nothing stands in
+    /// doubt then, and a file of the stores that no list, no limbo and no running move knows was one before.
     pub fn apply(&mut self, who: u64, act: Act) -> Answer<D::Reader>
         requires stands { (m : Machine) × Stands D.tells (parts D.Disk self.old) m }
         requires may_ask { MayAsk act }
-        ensures step { Steps D.tells (Step who act) (parts D.Disk self.old) (reply_of D.Reader.tells D.Reader.bytes D.Reader.faults result) (parts D.Disk self.new) }
-        ensures tidy { ActsTidily D.tells (parts D.Disk self.old) (reply_of D.Reader.tells D.Reader.bytes D.Reader.faults result) (parts D.Disk self.new) }
-        ensures leaves { Leaves D.tells (parts D.Disk self.old) (record { who = who; act = act; answer = reply_of D.Reader.tells D.Reader.bytes D.Reader.faults result }) (parts D.Disk self.new) }
+        ensures step { Steps D.tells (Step who act) (parts D.Disk self.old)
+            (reply_of D.Reader.tells D.Reader.bytes D.Reader.faults result) (parts D.Disk self.new) }
+        ensures tidy { ActsTidily D.tells (parts D.Disk self.old)
+            (reply_of D.Reader.tells D.Reader.bytes D.Reader.faults result) (parts D.Disk self.new) }
+        ensures leaves { Leaves D.tells (parts D.Disk self.old)
+            (record { who = who; act = act; answer = reply_of D.Reader.tells D.Reader.bytes D.Reader.faults result })
+            (parts D.Disk self.new) }
     {
         self.act(who, act)
     }

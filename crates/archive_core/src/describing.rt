@@ -17,7 +17,8 @@ impl<D: Disk> Archive<D> {
     // Tells of the row that has the name, if one has it. The memory for the tail is taken before.
     fn describe_named(&mut self, name: &[u8]) -> Result<Answer<D::Reader>, DiskErr>
         requires stands { (m : Machine) × Stands D.tells (parts D.Disk self.old) m }
-        ensures acted { (who : ℕ) → Acted D.tells who (DetailsAct name.now) (parts D.Disk self.old) (reply_of D.Reader.tells D.Reader.bytes D.Reader.faults (answer_of result)) (parts D.Disk self.new) }
+        ensures acted { (who : ℕ) → Acted D.tells who (DetailsAct name.now) (parts D.Disk self.old)
+            (reply_of D.Reader.tells D.Reader.bytes D.Reader.faults (answer_of result)) (parts D.Disk self.new) }
         ensures moves { self.new.moves ≡ self.old.moves }
     {
         let Some(_) = self.store.catalogue().find(name) else {
@@ -31,13 +32,15 @@ impl<D: Disk> Archive<D> {
         Ok(self.store.details(name, &tail))
     }
 
-    /// Tells what is known of a variable: its name, what the catalogue has about it, and its state, how many files each store lists of it
-    /// under this name, how many samples of it are durable and how many are accepted, under the names before it too, and the moments of the
-    /// first and the last of these. A change that stands in doubt is settled first, and files are only read. `DiskFault` comes only where the
-    /// disk's count of faults rose in the call. `Memory` comes also where no `u64` has a number of samples.
+    /// Tells what is known of a variable: its name, what the catalogue has about it, and its state, how many files each
+    /// store lists of it under this name, how many samples of it are durable and how many are accepted, under the names
+    /// before it too, and the moments of the first and the last of these. A change that stands in doubt is settled
+    /// first, and files are only read. `DiskFault` comes only where the disk's count of faults rose in the call.
+    /// `Memory` comes also where no `u64` has a number of samples.
     pub fn details(&mut self, name: &[u8]) -> Answer<D::Reader>
         requires stands { (m : Machine) × Stands D.tells (parts D.Disk self.old) m }
-        ensures acted { (who : ℕ) → Acted D.tells who (DetailsAct name.now) (parts D.Disk self.old) (reply_of D.Reader.tells D.Reader.bytes D.Reader.faults result) (parts D.Disk self.new) }
+        ensures acted { (who : ℕ) → Acted D.tells who (DetailsAct name.now) (parts D.Disk self.old)
+            (reply_of D.Reader.tells D.Reader.bytes D.Reader.faults result) (parts D.Disk self.new) }
         ensures moves { self.new.moves ≡ self.old.moves }
     {
         answered(self.describe_named(name))

@@ -104,12 +104,15 @@ pub(crate) fn trim_flushed<D: Disk>(
 }
 
 impl<D: Disk> Archive<D> {
-    // Flushes where nothing stands in doubt. What is kept of the batch is taken from it before, so that want of memory leaves nothing done.
+    // Flushes where nothing stands in doubt. What is kept of the batch is taken from it before, so that want of
+    // memory leaves nothing done.
     fn flush_settled(&mut self, limit: u64) -> Result<u64, DiskErr>
         requires limit { 1 ≤ limit }
         requires rests { (m : Machine) × Rests D.tells (parts D.Disk self.old) m }
-        ensures changed { Changed D.tells (Appends (batch_of limit self.old.intake)) (parts D.Disk self.old) (parts D.Disk self.new) result }
-        ensures count { IfOk result (λ samples. (m : Machine) → Rests D.tells (parts D.Disk self.old) m → m.told ≡ true → samples ≡ count_in (batch_of limit self.old.intake)) }
+        ensures changed { Changed D.tells (Appends (batch_of limit self.old.intake))
+            (parts D.Disk self.old) (parts D.Disk self.new) result }
+        ensures count { IfOk result (λ samples. (m : Machine) → Rests D.tells (parts D.Disk self.old) m → m.told ≡ true
+            → samples ≡ count_in (batch_of limit self.old.intake)) }
     {
         let batch = self.intake.lend(limit)?;
         let ends = row_ends(self.alloc, &batch)?;
@@ -131,22 +134,25 @@ impl<D: Disk> Archive<D> {
     fn flush_tails(&mut self, limit: u64) -> Result<u64, DiskErr>
         requires limit { 1 ≤ limit }
         requires stands { (m : Machine) × Stands D.tells (parts D.Disk self.old) m }
-        ensures { (who : ℕ) → Acted D.tells who (FlushAct limit) (parts D.Disk self.old) (flush_reply (parts D.Disk self.new) result) (parts D.Disk self.new) }
+        ensures { (who : ℕ) → Acted D.tells who (FlushAct limit) (parts D.Disk self.old)
+            (flush_reply (parts D.Disk self.new) result) (parts D.Disk self.new) }
     {
         self.settle()?;
         self.flush_settled(limit)
     }
 
-    /// Makes accepted samples durable: whole tails, in the order of rows, go to store 1 until they have `limit` bytes, and at least one
-    /// where any is held; each line is counted with its newline. It answers how many samples these are, how many bytes the intake still
-    /// holds, and how many doors are open. A change that stands in doubt is settled first.
+    /// Makes accepted samples durable: whole tails, in the order of rows, go to store 1 until they have `limit`
+    /// bytes, and at least one where any is held; each line is counted with its newline. It answers how many
+    /// samples these are, how many bytes the intake still holds, and how many doors are open. A change that stands
+    /// in doubt is settled first.
     ///
-    /// `DiskFault` comes only where the disk's count of faults rose in the call. The intake gives nothing up then: whether the samples are
-    /// durable may stand in doubt, and the next act that settles it finds out.
+    /// `DiskFault` comes only where the disk's count of faults rose in the call. The intake gives nothing up then:
+    /// whether the samples are durable may stand in doubt, and the next act that settles it finds out.
     pub fn flush(&mut self, limit: u64) -> Answer<D::Reader>
         requires limit { 1 ≤ limit }
         requires stands { (m : Machine) × Stands D.tells (parts D.Disk self.old) m }
-        ensures { (who : ℕ) → Acted D.tells who (FlushAct limit) (parts D.Disk self.old) (reply_of D.Reader.tells D.Reader.bytes D.Reader.faults result) (parts D.Disk self.new) }
+        ensures { (who : ℕ) → Acted D.tells who (FlushAct limit) (parts D.Disk self.old)
+            (reply_of D.Reader.tells D.Reader.bytes D.Reader.faults result) (parts D.Disk self.new) }
     {
         match self.flush_tails(limit) {
             Ok(samples) => Answer::Flushed {

@@ -20,8 +20,8 @@ pub struct RowEnd {
     pub last: Option<u64>,
 }
 
-/// The change that a failed write may have made: what is to be done in memory where it turns out to be made. Of a retirement nothing is kept,
-/// since nothing is to be done there.
+/// The change that a failed write may have made: what is to be done in memory where it turns out to be made. Of a
+/// retirement nothing is kept, since nothing is to be done there.
 #[derive(Drop)]
 pub enum Doubt {
     /// A row was added, whose memory is there already.

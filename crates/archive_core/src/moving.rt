@@ -25,7 +25,11 @@ use running_moves::Running;
 fn rule_at(config: &Config, store: u8, now: u64) -> MoveRule
     requires first { 1 ≤ store }
     requires last { store ≤ 2 }
-    ensures { result ≡ record { hold = slice_index config.now.hold (store - 1); gather = slice_index config.now.gather (store - 1); at = now } }
+    ensures { result ≡ record {
+      hold = slice_index config.now.hold (store - 1);
+      gather = slice_index config.now.gather (store - 1);
+      at = now;
+    } }
 {
     MoveRule {
         hold: config.hold(store),
@@ -41,8 +45,10 @@ impl<D: Disk> Archive<D> {
         requires last { store ≤ 2 }
         requires rests { (m : Machine) × Rests D.tells (parts D.Disk self.old) m }
         ensures begins { IfOk result (λ begun. (m : Machine) → Rests D.tells (parts D.Disk self.old) m
-            → BeginsThere D.tells (store_of store) now m (reply_of D.Reader.tells D.Reader.bytes D.Reader.faults begun) (parts D.Disk self.new)) }
-        ensures spent { OnErr result ((m : Machine) → Rests D.tells (parts D.Disk self.old) m → Stands D.tells (parts D.Disk self.new) m) }
+            → BeginsThere D.tells (store_of store) now m
+            (reply_of D.Reader.tells D.Reader.bytes D.Reader.faults begun) (parts D.Disk self.new)) }
+        ensures spent { OnErr result
+            ((m : Machine) → Rests D.tells (parts D.Disk self.old) m → Stands D.tells (parts D.Disk self.new) m) }
         ensures memory { IfErr result (λ e. e ≡ Memory) }
         ensures store { self.new.store ≡ self.old.store }
         ensures tidy { OnOk result (Tidies D.tells (parts D.Disk self.old) (parts D.Disk self.new)) }
@@ -70,24 +76,27 @@ impl<D: Disk> Archive<D> {
         requires first { 1 ≤ store }
         requires last { store ≤ 2 }
         requires stands { (m : Machine) × Stands D.tells (parts D.Disk self.old) m }
-        ensures acted { (who : ℕ) → Acted D.tells who (MoveBeginAct store now) (parts D.Disk self.old) (reply_of D.Reader.tells D.Reader.bytes D.Reader.faults (answer_of result)) (parts D.Disk self.new) }
+        ensures acted { (who : ℕ) → Acted D.tells who (MoveBeginAct store now) (parts D.Disk self.old)
+            (reply_of D.Reader.tells D.Reader.bytes D.Reader.faults (answer_of result)) (parts D.Disk self.new) }
         ensures quiet { IsSettled (seen D.Disk self.old.store) → self.new.store.disk ≡ self.old.store.disk }
     {
         self.settle()?;
         self.begin_chosen(store, now)
     }
 
-    /// Begins the move that is to be made from store 1 or 2 to the next, at a moment in nanoseconds since 1970: of the least row that has
-    /// one to make and none running. It gets the least free number, and tells the row and how many of its oldest partitions move. Where
-    /// each row that has a move to make has one running, that of the least such row is told. Nothing is copied yet.
+    /// Begins the move that is to be made from store 1 or 2 to the next, at a moment in nanoseconds since 1970: of the
+    /// least row that has one to make and none running. It gets the least free number, and tells the row and how many
+    /// of its oldest partitions move. Where each row that has a move to make has one running, that of the least such
+    /// row is told. Nothing is copied yet.
     ///
-    /// A change that stands in doubt is settled first, for which the disk is read. `DiskFault` comes only where the disk's count of faults
-    /// rose in the call.
+    /// A change that stands in doubt is settled first, for which the disk is read. `DiskFault` comes only where the
+    /// disk's count of faults rose in the call.
     pub fn begin_move(&mut self, store: u8, now: u64) -> Answer<D::Reader>
         requires first { 1 ≤ store }
         requires last { store ≤ 2 }
         requires stands { (m : Machine) × Stands D.tells (parts D.Disk self.old) m }
-        ensures acted { (who : ℕ) → Acted D.tells who (MoveBeginAct store now) (parts D.Disk self.old) (reply_of D.Reader.tells D.Reader.bytes D.Reader.faults result) (parts D.Disk self.new) }
+        ensures acted { (who : ℕ) → Acted D.tells who (MoveBeginAct store now) (parts D.Disk self.old)
+            (reply_of D.Reader.tells D.Reader.bytes D.Reader.faults result) (parts D.Disk self.new) }
         ensures quiet { IsSettled (seen D.Disk self.old.store) → self.new.store.disk ≡ self.old.store.disk }
     {
         answered(self.begin_due(store, now))

@@ -26,7 +26,8 @@ impl<D: Disk> Archive<D> {
         requires here { row < length self.old.store.catalogue.rows }
         requires there { row < length self.old.rows.items }
         requires event { IsEvent ty sample }
-        ensures step { EndsNamed D.tells row (λ name. WithWants (WouldKeep name ty sample now) (OfferStep name ty sample now)) (parts D.Disk self.old) (offered_reply result) (parts D.Disk self.new) }
+        ensures step { EndsNamed D.tells row (λ name. WithWants (WouldKeep name ty sample now)
+            (OfferStep name ty sample now)) (parts D.Disk self.old) (offered_reply result) (parts D.Disk self.new) }
         ensures store { self.new.store ≡ self.old.store }
         ensures moves { self.new.moves ≡ self.old.moves }
     {
@@ -37,8 +38,8 @@ impl<D: Disk> Archive<D> {
         }
     }
 
-    /// Offers a sample: its line is an event of the type at its moment, escaped and without its newline. It makes no call of the disk,
-    /// and takes no memory but for the row's tail, and that only where the tail has none to spare.
+    /// Offers a sample: its line is an event of the type at its moment, escaped and without its newline. It makes no
+    /// call of the disk, and takes no memory but for the row's tail, and that only where the tail has none to spare.
     pub fn offer(
         &mut self,
         name: &[u8],
@@ -48,7 +49,9 @@ impl<D: Disk> Archive<D> {
     ) -> Answer<D::Reader>
         requires stands { (m : Machine) × Stands D.tells (parts D.Disk self.old) m }
         requires event { IsEvent ty sample }
-        ensures acted { (who : ℕ) → Acted D.tells who (OfferAct name.now ty sample.t sample.line now) (parts D.Disk self.old) (reply_of D.Reader.tells D.Reader.bytes D.Reader.faults result) (parts D.Disk self.new) }
+        ensures acted { (who : ℕ)
+            → Acted D.tells who (OfferAct name.now ty sample.t sample.line now) (parts D.Disk self.old)
+            (reply_of D.Reader.tells D.Reader.bytes D.Reader.faults result) (parts D.Disk self.new) }
         ensures store { self.new.store ≡ self.old.store }
         ensures moves { self.new.moves ≡ self.old.moves }
     {
@@ -58,11 +61,12 @@ impl<D: Disk> Archive<D> {
         }
     }
 
-    /// Tries what a sampled row holds, where its period is over. It makes no call of the disk, and takes no memory but for the row's
-    /// tail.
+    /// Tries what a sampled row holds, where its period is over. It makes no call of the disk, and takes no
+    /// memory but for the row's tail.
     pub fn tick(&mut self, row: u32, now: u64) -> Answer<D::Reader>
         requires stands { (m : Machine) × Stands D.tells (parts D.Disk self.old) m }
-        ensures acted { (who : ℕ) → Acted D.tells who (TickAct row now) (parts D.Disk self.old) (reply_of D.Reader.tells D.Reader.bytes D.Reader.faults result) (parts D.Disk self.new) }
+        ensures acted { (who : ℕ) → Acted D.tells who (TickAct row now) (parts D.Disk self.old)
+            (reply_of D.Reader.tells D.Reader.bytes D.Reader.faults result) (parts D.Disk self.new) }
         ensures store { self.new.store ≡ self.old.store }
         ensures moves { self.new.moves ≡ self.old.moves }
     {

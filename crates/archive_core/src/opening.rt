@@ -91,8 +91,9 @@ fn open_rows<D: Disk>(alloc: Global, store: &TierStore<D>) -> Result<Vec<RowMemo
 }
 
 impl<D: Disk> Archive<D> {
-    /// The archive of stores that no change stands in doubt of and that have no pin and no file in limbo, with so many doors. All that is
-    /// durable is accepted, and nothing else. Moves are due by the settings that the stores have then.
+    /// The archive of stores that no change stands in doubt of and that have no pin and no file in limbo,
+    /// with so many doors. All that is durable is accepted, and nothing else. Moves are due by the settings
+    /// that the stores have then.
     ///
     /// `Err` comes for want of memory alone, and gives the stores back.
     pub fn of(alloc: Global, store: TierStore<D>, doors: u32) -> Result<Archive<D>, TierStore<D>>
@@ -100,7 +101,8 @@ impl<D: Disk> Archive<D> {
         requires settled { (held : Stores) × Has D.tells (seen D.Disk store) held }
         requires limbo { store.limbo.items ≡ [] }
         requires pins { store.pinned ≡ map.empty }
-        ensures opened { IfOk result (λ archive. OpensAs D.tells (seen D.Disk store) store.config doors (parts D.Disk archive)) }
+        ensures opened { IfOk result (λ archive.
+            OpensAs D.tells (seen D.Disk store) store.config doors (parts D.Disk archive)) }
         ensures store { IfOk result (λ archive. archive.store ≡ store) }
         ensures intake { IfOk result (λ archive. archive.intake ≡ []) }
         ensures back { IfErr result (λ given. given ≡ store) }

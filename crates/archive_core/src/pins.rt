@@ -3,7 +3,8 @@ ghost use Rattle.std.specs.Prelude.{◌≡◌, ℕ};
 ghost use Rattle.tier_store.specs.Opening.{answer_of};
 ghost use Rattle.act_model.specs.Machine.{Machine};
 ghost use Rattle.act_model.specs.Reply.{reply_of};
-ghost use Rattle.act_model.specs.declared.acts.Act.TheVariants.{OpenPiece as OpenPieceAct, Pin as PinAct, Unpin as UnpinAct};
+ghost use Rattle.act_model.specs.declared.acts.Act.TheVariants.{OpenPiece as OpenPieceAct, Pin as PinAct};
+ghost use Rattle.act_model.specs.declared.acts.Act.TheVariants.{Unpin as UnpinAct};
 ghost use Rattle.archive_core.specs.Acting.{Acted};
 ghost use Rattle.archive_core.specs.Parts.{parts};
 ghost use Rattle.archive_core.specs.Stands.{Stands};
@@ -23,7 +24,8 @@ impl<D: Disk> Archive<D> {
         query: Query,
     ) -> Result<Answer<D::Reader>, DiskErr>
         requires stands { (m : Machine) × Stands D.tells (parts D.Disk self.old) m }
-        ensures acted { Acted D.tells who (PinAct name.now query) (parts D.Disk self.old) (reply_of D.Reader.tells D.Reader.bytes D.Reader.faults (answer_of result)) (parts D.Disk self.new) }
+        ensures acted { Acted D.tells who (PinAct name.now query) (parts D.Disk self.old)
+            (reply_of D.Reader.tells D.Reader.bytes D.Reader.faults (answer_of result)) (parts D.Disk self.new) }
         ensures moves { self.new.moves ≡ self.old.moves }
     {
         let Some(_) = self.store.catalogue().find(name) else {
@@ -37,23 +39,27 @@ impl<D: Disk> Archive<D> {
         Ok(self.store.pin(who, name, query, tail))
     }
 
-    /// Pins files of a variable that are enough for its samples of an interval, maybe more than these need, for the actor of this number:
-    /// under the least number that no pin has. Those under names that the variable had before come first. It tells how many they are, and the
-    /// samples that no store lists yet; the files in their order and these over them answer the query as all samples that are accepted do. A
-    /// change that stands in doubt is settled first. `DiskFault` comes only where the disk's count of faults rose in the call.
+    /// Pins files of a variable that are enough for its samples of an interval, maybe more than these need, for the
+    /// actor of this number: under the least number that no pin has. Those under names that the variable had before
+    /// come first. It tells how many they are, and the samples that no store lists yet; the files in their order and
+    /// these over them answer the query as all samples that are accepted do. A change that stands in doubt is settled
+    /// first. `DiskFault` comes only where the disk's count of faults rose in the call.
     pub fn pin(&mut self, who: u64, name: &[u8], query: Query) -> Answer<D::Reader>
         requires stands { (m : Machine) × Stands D.tells (parts D.Disk self.old) m }
-        ensures acted { Acted D.tells who (PinAct name.now query) (parts D.Disk self.old) (reply_of D.Reader.tells D.Reader.bytes D.Reader.faults result) (parts D.Disk self.new) }
+        ensures acted { Acted D.tells who (PinAct name.now query) (parts D.Disk self.old)
+            (reply_of D.Reader.tells D.Reader.bytes D.Reader.faults result) (parts D.Disk self.new) }
         ensures moves { self.new.moves ≡ self.old.moves }
     {
         answered(self.pin_named(who, name, query))
     }
 
-    /// Opens piece `i` of a pin of the actor of this number: the reader has just the bytes that were pinned, whatever has become of the
-    /// file. A change that stands in doubt stays so. `DiskFault` comes only where the disk's count of faults rose in the call.
+    /// Opens piece `i` of a pin of the actor of this number: the reader has just the bytes that were pinned, whatever
+    /// has become of the file. A change that stands in doubt stays so. `DiskFault` comes only where the disk's count
+    /// of faults rose in the call.
     pub fn open_piece(&mut self, who: u64, pin: u32, i: u32) -> Answer<D::Reader>
         requires stands { (m : Machine) × Stands D.tells (parts D.Disk self.old) m }
-        ensures acted { Acted D.tells who (OpenPieceAct pin i) (parts D.Disk self.old) (reply_of D.Reader.tells D.Reader.bytes D.Reader.faults result) (parts D.Disk self.new) }
+        ensures acted { Acted D.tells who (OpenPieceAct pin i) (parts D.Disk self.old)
+            (reply_of D.Reader.tells D.Reader.bytes D.Reader.faults result) (parts D.Disk self.new) }
         ensures moves { self.new.moves ≡ self.old.moves }
     {
         self.store.open_piece(who, pin, i)
@@ -62,8 +68,12 @@ impl<D: Disk> Archive<D> {
     /// Gives up a pin of the actor of this number. It makes no call of the disk, and takes no memory.
     pub fn unpin(&mut self, who: u64, pin: u32) -> Answer<D::Reader>
         requires stands { (m : Machine) × Stands D.tells (parts D.Disk self.old) m }
-        ensures acted { Acted D.tells who (UnpinAct pin) (parts D.Disk self.old) (reply_of D.Reader.tells D.Reader.bytes D.Reader.faults result) (parts D.Disk self.new) }
-        ensures same { (self.new.store.catalogue ≡ self.old.store.catalogue) × (self.new.store.manifests ≡ self.old.store.manifests) × (self.new.store.disk ≡ self.old.store.disk) × (self.new.store.limbo ≡ self.old.store.limbo) }
+        ensures acted { Acted D.tells who (UnpinAct pin) (parts D.Disk self.old)
+            (reply_of D.Reader.tells D.Reader.bytes D.Reader.faults result) (parts D.Disk self.new) }
+        ensures same { (self.new.store.catalogue ≡ self.old.store.catalogue)
+            × (self.new.store.manifests ≡ self.old.store.manifests)
+            × (self.new.store.disk ≡ self.old.store.disk)
+            × (self.new.store.limbo ≡ self.old.store.limbo) }
         ensures moves { self.new.moves ≡ self.old.moves }
     {
         self.store.unpin(who, pin)

@@ -68,7 +68,8 @@ impl<D: Disk> Archive<D> {
     fn add_row(&mut self, name: &PvName, about: &About) -> Result<u32, DiskErr>
         requires rests { (m : Machine) × Rests D.tells (parts D.Disk self.old) m }
         requires free { (e : RegisterErr) → Refuses self.old.store.catalogue.rows name.now e → ⊥ }
-        ensures changed { Changed D.tells (AddsRow name.now about.now) (parts D.Disk self.old) (parts D.Disk self.new) result }
+        ensures changed { Changed D.tells (AddsRow name.now about.now)
+            (parts D.Disk self.old) (parts D.Disk self.new) result }
         ensures number { IfOk result (λ row. row ≡ length self.old.store.catalogue.rows) }
     {
         let count = self.store.catalogue().rows().len();
@@ -88,7 +89,8 @@ impl<D: Disk> Archive<D> {
 
     fn register_name(&mut self, name: &PvName, about: &About) -> Result<u32, RegisterErr>
         requires stands { (m : Machine) × Stands D.tells (parts D.Disk self.old) m }
-        ensures { (who : ℕ) → Acted D.tells who (RegisterAct name.now about.now) (parts D.Disk self.old) (register_reply result) (parts D.Disk self.new) }
+        ensures { (who : ℕ) → Acted D.tells who (RegisterAct name.now about.now) (parts D.Disk self.old)
+            (register_reply result) (parts D.Disk self.new) }
     {
         refuse_taken(self.store.catalogue(), name)?;
         self.settle()?;
@@ -96,11 +98,12 @@ impl<D: Disk> Archive<D> {
         Ok(self.add_row(name, about)?)
     }
 
-    /// Registers a variable, whose row is running and has no samples, and answers the row's number. A change that stands in doubt is
-    /// settled first. `DiskFault` comes only where the disk's count of faults rose in the call.
+    /// Registers a variable, whose row is running and has no samples, and answers the row's number. A change that
+    /// stands in doubt is settled first. `DiskFault` comes only where the disk's count of faults rose in the call.
     pub fn register(&mut self, name: &PvName, about: &About) -> Answer<D::Reader>
         requires stands { (m : Machine) × Stands D.tells (parts D.Disk self.old) m }
-        ensures { (who : ℕ) → Acted D.tells who (RegisterAct name.now about.now) (parts D.Disk self.old) (reply_of D.Reader.tells D.Reader.bytes D.Reader.faults result) (parts D.Disk self.new) }
+        ensures { (who : ℕ) → Acted D.tells who (RegisterAct name.now about.now) (parts D.Disk self.old)
+            (reply_of D.Reader.tells D.Reader.bytes D.Reader.faults result) (parts D.Disk self.new) }
     {
         registered(self.register_name(name, about))
     }

@@ -62,7 +62,8 @@ impl From<RegisterErr> for Unnamed {
 
 // The row of this name, where it is paused. The change number is told where it isn't.
 fn paused_row(catalogue: &Catalogue, name: &[u8], change: u64) -> Result<u32, Unnamed>
-    ensures found { IfOk result (λ row. IsFound catalogue.now.rows name.now (Some row) × HasState catalogue.now.rows row Paused) }
+    ensures found { IfOk result (λ row. IsFound catalogue.now.rows name.now (Some row)
+        × HasState catalogue.now.rows row Paused) }
     ensures refused { IfErr result (IsUnpaused catalogue.now.rows name.now change) }
 {
     let Some(row) = catalogue.find(name) else {
@@ -113,10 +114,12 @@ impl<D: Disk> Archive<D> {
         })
     }
 
-    // The row of this name, where its variable may get the new one. The change number is told where the row isn't paused.
+    // The row of this name, where its variable may get the new one. The change number is told
+    // where the row isn't paused.
     fn row_to_rename(&self, name: &[u8], newname: &PvName, change: u64) -> Result<u32, Unnamed>
         requires stands { (m : Machine) × Stands D.tells (parts D.Disk self.now) m }
-        ensures found { IfOk result (λ row. IsFound self.now.store.catalogue.rows name.now (Some row) × CanRename (parts D.Disk self.now) newname.now row) }
+        ensures found { IfOk result (λ row. IsFound self.now.store.catalogue.rows name.now (Some row)
+            × CanRename (parts D.Disk self.now) newname.now row) }
         ensures refused { IfErr result (IsUnnamed (parts D.Disk self.now) name.now newname.now change) }
     {
         let catalogue = self.store.catalogue();
@@ -126,12 +129,13 @@ impl<D: Disk> Archive<D> {
         Ok(row)
     }
 
-    // Gives the variable of a row the new name, where it may get it and nothing stands in doubt. The memory for what is kept of its new row is
-    // taken before.
+    // Gives the variable of a row the new name, where it may get it and nothing stands in doubt. The memory for what is
+    // kept of its new row is taken before.
     fn rename_row(&mut self, row: u32, newname: &PvName) -> Result<u32, DiskErr>
         requires rests { (m : Machine) × Rests D.tells (parts D.Disk self.old) m }
         requires can { CanRename (parts D.Disk self.old) newname.now row }
-        ensures changed { Changed D.tells (Renames row newname.now) (parts D.Disk self.old) (parts D.Disk self.new) result }
+        ensures changed { Changed D.tells (Renames row newname.now)
+            (parts D.Disk self.old) (parts D.Disk self.new) result }
         ensures number { IfOk result (λ id. id ≡ length self.old.store.catalogue.rows) }
     {
         let rows = self.store.catalogue().rows();
@@ -156,7 +160,8 @@ impl<D: Disk> Archive<D> {
 
     fn rename_name(&mut self, name: &[u8], newname: &PvName) -> Result<u32, Unnamed>
         requires stands { (m : Machine) × Stands D.tells (parts D.Disk self.old) m }
-        ensures { (who : ℕ) → Acted D.tells who (RenameAct name.now newname.now) (parts D.Disk self.old) (rename_reply result) (parts D.Disk self.new) }
+        ensures { (who : ℕ) → Acted D.tells who (RenameAct name.now newname.now) (parts D.Disk self.old)
+            (rename_reply result) (parts D.Disk self.new) }
     {
         self.row_to_rename(name, newname, 0)?;
         self.settle()?;
@@ -164,10 +169,11 @@ impl<D: Disk> Archive<D> {
         Ok(self.rename_row(row, newname)?)
     }
 
-    /// Gives a variable a new name: it goes on in a new row, which is paused and whose number is answered; its old row is retired, and keeps its
-    /// samples for good. The variable must be paused, with all its samples durable, and the new name free as for `register`; where it isn't
-    /// paused, its change number is told as 1 if this call itself settled a change of it that stood in doubt, and as 0 if not. A change that
-    /// stands in doubt is settled first. `DiskFault` comes only where the disk's count of faults rose in the call.
+    /// Gives a variable a new name: it goes on in a new row, which is paused and whose number is answered; its old row
+    /// is retired, and keeps its samples for good. The variable must be paused, with all its samples durable, and the
+    /// new name free as for `register`; where it isn't paused, its change number is told as 1 if this call itself
+    /// settled a change of it that stood in doubt, and as 0 if not. A change that stands in doubt is settled first.
+    /// `DiskFault` comes only where the disk's count of faults rose in the call.
     pub fn rename(&mut self, name: &[u8], newname: &PvName) -> Answer<D::Reader>
         requires stands { (m : Machine) × Stands D.tells (parts D.Disk self.old) m }
         ensures { (who : ℕ) → Acted D.tells who (RenameAct name.now newname.now) (parts D.Disk self.old)

@@ -13,9 +13,10 @@ use act_model::{Act, Answer};
 use disk_model::Disk;
 use std::alloc::AllocError;
 
-/// Makes these acts one after another, each for the actor of its number, and gives their answers in the same order. From whatever the archive
-/// stood for they run in the machine; and each image that a crash at any moment since the first may leave has of each variable what was
-/// durable before the first, and no more than what is accepted after the last.
+/// Makes these acts one after another, each for the actor of its number, and gives their answers in the same
+/// order. From whatever the archive stood for they run in the machine; and each image that a crash at any
+/// moment since the first may leave has of each variable what was durable before the first, and no more than
+/// what is accepted after the last.
 ///
 /// Room for the answers is made first. Where memory is wanting for that, no act is made.
 pub fn run_acts<D: Disk>(
@@ -24,7 +25,8 @@ pub fn run_acts<D: Disk>(
 ) -> Result<Vec<Answer<D::Reader>>, AllocError>
     requires stands { (m : Machine) × Stands D.tells (parts D.Disk archive.old) m }
     requires may_ask { AllByRecursion (λ asked. MayAsk asked.1) acts.items }
-    ensures made { IfOk result (λ answers. MakesAll D.tells (parts D.Disk archive.old) acts.items (map (reply_of D.Reader.tells D.Reader.bytes D.Reader.faults) answers.items) (parts D.Disk archive.new)) }
+    ensures made { IfOk result (λ answers. MakesAll D.tells (parts D.Disk archive.old) acts.items
+        (map (reply_of D.Reader.tells D.Reader.bytes D.Reader.faults) answers.items) (parts D.Disk archive.new)) }
     ensures unchanged { IsErr result → archive.new ≡ archive.old }
 {
     let mut answers = Vec::with_capacity(archive.alloc, acts.len())?;

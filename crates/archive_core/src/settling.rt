@@ -61,8 +61,8 @@ fn clear_set(rows: &[Row], kept: &mut Vec<RowMemory>, doubt: &Option<Doubt>)
 }
 
 impl<D: Disk> Archive<D> {
-    /// Finds out whether a change that stands in doubt was made, and takes it in where it was. It changes no file but those of a journal, and
-    /// makes no call of the disk where nothing stands in doubt.
+    /// Finds out whether a change that stands in doubt was made, and takes it in where it was. It changes no file but
+    /// those of a journal, and makes no call of the disk where nothing stands in doubt.
     ///
     /// After an error the doubt stands as before. `Fault` comes only where the disk's count of faults rose in the call.
     pub fn settle(&mut self) -> Result<(), DiskErr>

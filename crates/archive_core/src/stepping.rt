@@ -30,8 +30,8 @@ fn published_lengths(alloc: Global, moving: &Move) -> Result<Vec<u64>, AllocErro
 }
 
 impl<D: Disk> Archive<D> {
-    // Copies more of the parts of a move that was taken out of the table, where nothing stands in doubt, and puts the move back under its
-    // number. After a fault, or where a file is damaged, it isn't put back.
+    // Copies more of the parts of a move that was taken out of the table, where nothing stands in doubt, and puts the
+    // move back under its number. After a fault, or where a file is damaged, it isn't put back.
     fn copy_taken(
         &mut self,
         number: u32,
@@ -63,8 +63,8 @@ impl<D: Disk> Archive<D> {
         }
     }
 
-    // Lists what a move has copied that was taken out of the table, where nothing stands in doubt, and puts it back under its number. After a
-    // fault it isn't put back.
+    // Lists what a move has copied that was taken out of the table, where nothing stands in doubt, and puts it back
+    // under its number. After a fault it isn't put back.
     fn publish_taken(
         &mut self,
         number: u32,
@@ -95,9 +95,10 @@ impl<D: Disk> Archive<D> {
         }
     }
 
-    // Retires the parts of a move that was taken out of the table and whose copies are listed, where nothing stands in doubt. The move has
-    // ended then, whether its parts have left their store or one of them has grown, and after a fault, be it that of a removal behind the
-    // commit. Where memory was wanting it is put back. Of a doubted retirement nothing is kept: all that it changes in memory is the stores'.
+    // Retires the parts of a move that was taken out of the table and whose copies are listed, where nothing stands in
+    // doubt. The move has ended then, whether its parts have left their store or one of them has grown, and after a
+    // fault, be it that of a removal behind the commit. Where memory was wanting it is put back. Of a doubted
+    // retirement nothing is kept: all that it changes in memory is the stores'.
     fn retire_taken(
         &mut self,
         number: u32,
@@ -166,14 +167,16 @@ impl<D: Disk> Archive<D> {
         self.go_on(number, running)
     }
 
-    /// Goes on with the move of this number by one step. A move copies what the next store lacks of its parts, at most 1,048,576 bytes of
-    /// lines a step or one longer line, then it is listed what was copied, and then the parts leave their store. What is accepted and what
-    /// is durable stay as they are. The step tells what it came to; where a part has grown since it was copied, nothing is retired, and
-    /// the move has ended, as it has once its parts are retired. A file that is told as damaged is that of a part of the move, at a place
-    /// within the length that is listed of it; the move has ended then too.
+    /// Goes on with the move of this number by one step. A move copies what the next store lacks of its parts, at most
+    /// 1,048,576 bytes of lines a step or one longer line, then it is listed what was copied, and then the parts leave
+    /// their store. What is accepted and what is durable stay as they are. The step tells what it came to; where a part
+    /// has grown since it was copied, nothing is retired, and the move has ended, as it has once its parts are retired.
+    /// A file that is told as damaged is that of a part of the move, at a place within the length that is listed of it;
+    /// the move has ended then too.
     ///
-    /// A change that stands in doubt is settled first. `DiskFault` comes only where the disk's count of faults rose in the call; the move
-    /// has ended then. Where only the removal of a part failed, all parts have left their store. `Memory` leaves it as it was.
+    /// A change that stands in doubt is settled first. `DiskFault` comes only where the disk's count of faults rose in
+    /// the call; the move has ended then. Where only the removal of a part failed, all parts have left their store.
+    /// `Memory` leaves it as it was.
     pub fn move_step(&mut self, number: u32) -> Answer<D::Reader>
         requires stands { (m : Machine) × Stands D.tells (parts D.Disk self.old) m }
         ensures { (who : ℕ) → Acted D.tells who (MoveStepAct number) (parts D.Disk self.old)

@@ -36,7 +36,8 @@ impl<D: Disk> Archive<D> {
     // The names of the files that running moves have written to and not listed yet.
     fn written_names(&self) -> Result<Vec<FileName>, AllocError>
         requires rests { (m : Machine) × Rests D.tells (parts D.Disk self.now) m }
-        ensures { IfOk result (λ names. AreWritten self.now.store.catalogue.rows self.now.moves.slots.items names.items) }
+        ensures { IfOk result (λ names.
+            AreWritten self.now.store.catalogue.rows self.now.moves.slots.items names.items) }
     {
         written_names(
             self.alloc,
@@ -48,20 +49,23 @@ impl<D: Disk> Archive<D> {
     // Sweeps the stores, but for the files that running moves have written to.
     fn sweep_stores(&mut self) -> Result<Swept, DiskErr>
         requires stands { (m : Machine) × Stands D.tells (parts D.Disk self.old) m }
-        ensures { (who : ℕ) → Acted D.tells who SweepAct (parts D.Disk self.old) (sweep_reply result) (parts D.Disk self.new) }
+        ensures { (who : ℕ)
+            → Acted D.tells who SweepAct (parts D.Disk self.old) (sweep_reply result) (parts D.Disk self.new) }
     {
         self.settle()?;
         let written = self.written_names()?;
         self.store.sweep(&written)
     }
 
-    /// Removes the files that were retired and that nothing needs any more, and answers how many these are: those that no pin names, and
-    /// into which no running move has copied. A change that stands in doubt is settled first. `DiskFault` comes only where the disk's count
-    /// of faults rose in the call: from the settling, or where a removal failed. Then the act has done all else, and the file counts for
-    /// nothing any more. `Memory` leaves all as it was, but for a doubt that is settled.
+    /// Removes the files that were retired and that nothing needs any more, and answers how many these are: those that
+    /// no pin names, and into which no running move has copied. A change that stands in doubt is settled first.
+    /// `DiskFault` comes only where the disk's count of faults rose in the call: from the settling, or where a removal
+    /// failed. Then the act has done all else, and the file counts for nothing any more. `Memory` leaves all as it was,
+    /// but for a doubt that is settled.
     pub fn sweep(&mut self) -> Answer<D::Reader>
         requires stands { (m : Machine) × Stands D.tells (parts D.Disk self.old) m }
-        ensures { (who : ℕ) → Acted D.tells who SweepAct (parts D.Disk self.old) (reply_of D.Reader.tells D.Reader.bytes D.Reader.faults result) (parts D.Disk self.new) }
+        ensures { (who : ℕ) → Acted D.tells who SweepAct (parts D.Disk self.old)
+            (reply_of D.Reader.tells D.Reader.bytes D.Reader.faults result) (parts D.Disk self.new) }
     {
         swept(self.sweep_stores())
     }

@@ -75,7 +75,8 @@ impl From<DiskErr> for Unset {
 
 // The row of this name, where its state may be set so.
 fn row_to_switch(catalogue: &Catalogue, name: &[u8], switch: Switch) -> Result<u32, Unset>
-    ensures found { IfOk result (λ row. IsFound catalogue.now.rows name.now (Some row) × HasState catalogue.now.rows row (from_of switch)) }
+    ensures found { IfOk result (λ row. IsFound catalogue.now.rows name.now (Some row)
+        × HasState catalogue.now.rows row (from_of switch)) }
     ensures refused { IfErr result (IsUnset catalogue.now.rows name.now switch) }
 {
     let Some(row) = catalogue.find(name) else {
@@ -91,7 +92,8 @@ fn row_to_switch(catalogue: &Catalogue, name: &[u8], switch: Switch) -> Result<u
 fn switch_in<D: Disk>(store: &mut TierStore<D>, row: u32, switch: Switch) -> Result<(), StateErr>
     requires row { row < length store.old.catalogue.rows }
     requires has { (held : Stores) × Has D.tells (seen D.Disk store.old) held }
-    ensures changes { Changes D.tells (switching switch row) (seen D.Disk store.old) (seen D.Disk store.new) (end_of_switch result) }
+    ensures changes { Changes D.tells (switching switch row)
+        (seen D.Disk store.old) (seen D.Disk store.new) (end_of_switch result) }
     ensures frame { Frame D.tells (seen_all D.Disk store.old) (seen_all D.Disk store.new) }
     ensures tidy { OnOk result (LeavesTidy D.tells (seen_all D.Disk store.old) (seen_all D.Disk store.new)) }
     ensures limbo { store.new.limbo ≡ store.old.limbo }
@@ -124,7 +126,8 @@ impl<D: Disk> Archive<D> {
     fn switch(&mut self, row: u32, switch: Switch) -> Result<(), DiskErr>
         requires rests { (m : Machine) × Rests D.tells (parts D.Disk self.old) m }
         requires state { HasState self.old.store.catalogue.rows row (from_of switch) }
-        ensures { Changed D.tells (SetsState row (to_of switch)) (parts D.Disk self.old) (parts D.Disk self.new) result }
+        ensures { Changed D.tells (SetsState row (to_of switch))
+            (parts D.Disk self.old) (parts D.Disk self.new) result }
     {
         match switch_in(&mut self.store, row, switch) {
             Ok(()) => {
@@ -144,7 +147,8 @@ impl<D: Disk> Archive<D> {
 
     fn set_state(&mut self, name: &[u8], switch: Switch) -> Result<(), Unset>
         requires stands { (m : Machine) × Stands D.tells (parts D.Disk self.old) m }
-        ensures { (who : ℕ) → Acted D.tells who (act_of switch name.now) (parts D.Disk self.old) (switch_reply switch result) (parts D.Disk self.new) }
+        ensures { (who : ℕ) → Acted D.tells who (act_of switch name.now) (parts D.Disk self.old)
+            (switch_reply switch result) (parts D.Disk self.new) }
     {
         row_to_switch(self.store.catalogue(), name, switch)?;
         self.settle()?;
@@ -153,20 +157,23 @@ impl<D: Disk> Archive<D> {
         Ok(())
     }
 
-    /// Drops a running variable's samples from now on, until it is resumed, and gives up what a sampled row holds. A change that stands
-    /// in doubt is settled first. `DiskFault` comes only where the disk's count of faults rose in the call.
+    /// Drops a running variable's samples from now on, until it is resumed, and gives up what a sampled row
+    /// holds. A change that stands in doubt is settled first. `DiskFault` comes only where the disk's count
+    /// of faults rose in the call.
     pub fn pause(&mut self, name: &[u8]) -> Answer<D::Reader>
         requires stands { (m : Machine) × Stands D.tells (parts D.Disk self.old) m }
-        ensures { (who : ℕ) → Acted D.tells who (PauseAct name.now) (parts D.Disk self.old) (reply_of D.Reader.tells D.Reader.bytes D.Reader.faults result) (parts D.Disk self.new) }
+        ensures { (who : ℕ) → Acted D.tells who (PauseAct name.now) (parts D.Disk self.old)
+            (reply_of D.Reader.tells D.Reader.bytes D.Reader.faults result) (parts D.Disk self.new) }
     {
         set(Switch::Pause, self.set_state(name, Switch::Pause))
     }
 
-    /// Takes a paused variable's samples again; a sampled row's next tick is due at once. A change that stands in doubt is settled
-    /// first. `DiskFault` comes only where the disk's count of faults rose in the call.
+    /// Takes a paused variable's samples again; a sampled row's next tick is due at once. A change that stands in doubt
+    /// is settled first. `DiskFault` comes only where the disk's count of faults rose in the call.
     pub fn resume(&mut self, name: &[u8]) -> Answer<D::Reader>
         requires stands { (m : Machine) × Stands D.tells (parts D.Disk self.old) m }
-        ensures { (who : ℕ) → Acted D.tells who (ResumeAct name.now) (parts D.Disk self.old) (reply_of D.Reader.tells D.Reader.bytes D.Reader.faults result) (parts D.Disk self.new) }
+        ensures { (who : ℕ) → Acted D.tells who (ResumeAct name.now) (parts D.Disk self.old)
+            (reply_of D.Reader.tells D.Reader.bytes D.Reader.faults result) (parts D.Disk self.new) }
     {
         set(Switch::Resume, self.set_state(name, Switch::Resume))
     }

@@ -2,7 +2,8 @@
 ghost use Rattle.std.specs.Prelude.{◌≡◌, ◌≤◌, ℕ, IfOk, take, drop, map};
 ghost use Rattle.pv_catalog.specs.declared.row.Row.{Row};
 ghost use Rattle.act_model.specs.Reply.{reply_of};
-ghost use Rattle.act_model.specs.declared.acts.Act.TheVariants.{DoorDone as DoorDoneAct, Doors as DoorsAct, Names as NamesAct};
+ghost use Rattle.act_model.specs.declared.acts.Act.TheVariants.{DoorDone as DoorDoneAct, Doors as DoorsAct};
+ghost use Rattle.act_model.specs.declared.acts.Act.TheVariants.{Names as NamesAct};
 ghost use Rattle.archive_core.specs.Acting.{Acted};
 ghost use Rattle.archive_core.specs.Parts.{parts};
 
@@ -27,9 +28,11 @@ fn names_of(alloc: Global, rows: &[Row], from: usize, most: usize) -> Result<Blo
 }
 
 impl<D: Disk> Archive<D> {
-    /// The names of rows from a number on, at most `most`, and whether a row stands behind them. It makes no call of the disk.
+    /// The names of rows from a number on, at most `most`, and whether a row stands behind them. It
+    /// makes no call of the disk.
     pub fn names(&self, from: u32, most: u32) -> Answer<D::Reader>
-        ensures { (who : ℕ) → Acted D.tells who (NamesAct from most) (parts D.Disk self.now) (reply_of D.Reader.tells D.Reader.bytes D.Reader.faults result) (parts D.Disk self.now) }
+        ensures { (who : ℕ) → Acted D.tells who (NamesAct from most) (parts D.Disk self.now)
+            (reply_of D.Reader.tells D.Reader.bytes D.Reader.faults result) (parts D.Disk self.now) }
     {
         let rows = self.store.catalogue().rows();
         match names_of(self.alloc, rows, from as usize, most as usize) {
@@ -43,14 +46,16 @@ impl<D: Disk> Archive<D> {
 
     /// How many doors are open. It makes no call of the disk.
     pub fn doors(&self) -> Answer<D::Reader>
-        ensures { (who : ℕ) → Acted D.tells who DoorsAct (parts D.Disk self.now) (reply_of D.Reader.tells D.Reader.bytes D.Reader.faults result) (parts D.Disk self.now) }
+        ensures { (who : ℕ) → Acted D.tells who DoorsAct (parts D.Disk self.now)
+            (reply_of D.Reader.tells D.Reader.bytes D.Reader.faults result) (parts D.Disk self.now) }
     {
         Answer::DoorsLeft { doors: self.doors }
     }
 
     /// Counts a door off that has ended, and tells how many are open. It makes no call of the disk.
     pub fn door_done(&mut self) -> Answer<D::Reader>
-        ensures acted { (who : ℕ) → Acted D.tells who DoorDoneAct (parts D.Disk self.old) (reply_of D.Reader.tells D.Reader.bytes D.Reader.faults result) (parts D.Disk self.new) }
+        ensures acted { (who : ℕ) → Acted D.tells who DoorDoneAct (parts D.Disk self.old)
+            (reply_of D.Reader.tells D.Reader.bytes D.Reader.faults result) (parts D.Disk self.new) }
         ensures store { self.new.store ≡ self.old.store }
         ensures moves { self.new.moves ≡ self.old.moves }
     {

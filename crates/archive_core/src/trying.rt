@@ -1,5 +1,6 @@
 // Samples that are tried: whether one is accepted, and where it goes then.
-ghost use Rattle.std.specs.Prelude.{◌≡◌, ◌⊎◌, true, false, ◌≤◌, ◌<◌, ◌+◌, ◌++◌, ◌∷◌, [], ℕ, length, Some, None, IfSome, IsSome, OnOk, OnErr};
+ghost use Rattle.std.specs.Prelude.{◌≡◌, ◌⊎◌, true, false, ◌≤◌, ◌<◌, ◌+◌, ◌++◌, ◌∷◌, [], ℕ, length, Some, None, IfSome};
+ghost use Rattle.std.specs.Prelude.{IsSome, OnOk, OnErr};
 ghost use Rattle.append_buffer.specs.Tails.{tail_at, held_bytes, KeepsTails, SetsTail};
 ghost use Rattle.series_model.specs.Admission.{admit_before, admit_after};
 ghost use Rattle.sampler.specs.Row.{SampledRow};
@@ -35,7 +36,9 @@ pub(crate) fn runs(row: &Row) -> bool
 
 // The first of the first three reasons to drop a sample of the type that is offered to this row.
 pub(crate) fn reason_by_row(row: &Row, ty: PayloadType) -> Option<Reason>
-    ensures { (next : ℕ) → result ≡ admit_before (Some (record { is_running = is_running row.now.state; ty = number_of row.now.about.ty; next = next })) (number_of ty) }
+    ensures { (next : ℕ) → result ≡ admit_before
+        (Some (record { is_running = is_running row.now.state; ty = number_of row.now.about.ty; next = next }))
+        (number_of ty) }
 {
     if !runs(row) {
         Some(Reason::Paused)
@@ -106,7 +109,8 @@ pub(crate) fn try_sample(
 ) -> Result<(), Refusal>
     requires time { sample.t < 18446744073709551615 }
     ensures tried { IsTried memory.old.next (held_bytes intake.old) sample.t (length sample.line) now result }
-    ensures kept { OnOk result (SetsTail row ((tail_at intake.old row).samples ++ sample ∷ []) intake.old intake.new × (memory.new ≡ record memory.old { next = sample.t + 1 })) }
+    ensures kept { OnOk result (SetsTail row ((tail_at intake.old row).samples ++ sample ∷ []) intake.old intake.new
+        × (memory.new ≡ record memory.old { next = sample.t + 1 })) }
     ensures refused { OnErr result (KeepsTails intake.old intake.new × (memory.new ≡ memory.old)) }
 {
     examine(intake, row, memory.next, &sample, now)?;
@@ -114,7 +118,8 @@ pub(crate) fn try_sample(
     Ok(())
 }
 
-// Takes an offer to a row to which none of the first three reasons applies: a sampled row holds the sample, another one tries it.
+// Takes an offer to a row to which none of the first three reasons applies: a sampled row holds the
+// sample, another one tries it.
 pub(crate) fn offer_row(
     intake: &mut Intake,
     memory: &mut RowMemory,
@@ -145,7 +150,9 @@ fn examine_held(
     now: u64,
 ) -> Option<Result<(), Refusal>>
     ensures none { result ≡ None → (sampled : SampledRow) → memory.now.scan ≡ Some sampled → sampled.cell.held ≡ None }
-    ensures tried { IfSome result (λ r. (sampled : SampledRow) → memory.now.scan ≡ Some sampled → (s : SampleValue) × (sampled.cell.held ≡ Some s) × IsTried memory.now.next (held_bytes intake.old) s.t (length s.line) now r) }
+    ensures tried { IfSome result (λ r. (sampled : SampledRow) → memory.now.scan ≡ Some sampled
+        → (s : SampleValue) × (sampled.cell.held ≡ Some s)
+        × IsTried memory.now.next (held_bytes intake.old) s.t (length s.line) now r) }
     ensures spare { IfSome result (λ r. OnOk r (1 ≤ (tail_at intake.new row).spare)) }
     ensures tails { KeepsTails intake.old intake.new }
     ensures held { held_bytes intake.new ≡ held_bytes intake.old }
@@ -157,7 +164,8 @@ fn examine_held(
 // Gives up what a sampled row holds, at a tick that is due.
 fn move_on(memory: &mut RowMemory, now: u64) -> Option<Sample>
     requires due { (sampled : SampledRow) → memory.old.scan ≡ Some sampled → sampled.cell.due ≤ now }
-    ensures held { (sampled : SampledRow) → memory.old.scan ≡ Some sampled → (result ≡ sampled.cell.held) × (memory.new ≡ moved_on memory.old sampled now) }
+    ensures held { (sampled : SampledRow) → memory.old.scan ≡ Some sampled
+        → (result ≡ sampled.cell.held) × (memory.new ≡ moved_on memory.old sampled now) }
 {
     match &mut memory.scan {
         Some(scan) => scan.tick(now),
@@ -169,8 +177,10 @@ fn move_on(memory: &mut RowMemory, now: u64) -> Option<Sample>
 pub(crate) fn try_held(intake: &mut Intake, memory: &mut RowMemory, row: u32, now: u64) -> Ticked
     requires sampled { IsSome memory.old.scan }
     requires due { (sampled : SampledRow) → memory.old.scan ≡ Some sampled → sampled.cell.due ≤ now }
-    requires time { (sampled : SampledRow) (s : SampleValue) → memory.old.scan ≡ Some sampled → sampled.cell.held ≡ Some s → s.t < 18446744073709551615 }
-    ensures { (sampled : SampledRow) → memory.old.scan ≡ Some sampled → IsTickedDue intake.old memory.old sampled row now result intake.new memory.new }
+    requires time { (sampled : SampledRow) (s : SampleValue) → memory.old.scan ≡ Some sampled
+        → sampled.cell.held ≡ Some s → s.t < 18446744073709551615 }
+    ensures { (sampled : SampledRow) → memory.old.scan ≡ Some sampled
+        → IsTickedDue intake.old memory.old sampled row now result intake.new memory.new }
 {
     match examine_held(intake, memory, row, now) {
         None => {
@@ -202,10 +212,14 @@ pub(crate) fn tick_row(
     is_running: bool,
     now: u64,
 ) -> Ticked
-    requires time { (sampled : SampledRow) (s : SampleValue) → memory.old.scan ≡ Some sampled → sampled.cell.held ≡ Some s → s.t < 18446744073709551615 }
-    ensures none { (memory.old.scan ≡ None) ⊎ (is_running ≡ false) → (result ≡ TickNone) × (intake.new ≡ intake.old) × (memory.new ≡ memory.old) }
-    ensures early { (sampled : SampledRow) → memory.old.scan ≡ Some sampled → is_running ≡ true → now < sampled.cell.due → (result ≡ NotDue sampled.cell.due) × (intake.new ≡ intake.old) × (memory.new ≡ memory.old) }
-    ensures due { (sampled : SampledRow) → memory.old.scan ≡ Some sampled → is_running ≡ true → sampled.cell.due ≤ now → IsTickedDue intake.old memory.old sampled row now result intake.new memory.new }
+    requires time { (sampled : SampledRow) (s : SampleValue) → memory.old.scan ≡ Some sampled
+        → sampled.cell.held ≡ Some s → s.t < 18446744073709551615 }
+    ensures none { (memory.old.scan ≡ None) ⊎ (is_running ≡ false)
+        → (result ≡ TickNone) × (intake.new ≡ intake.old) × (memory.new ≡ memory.old) }
+    ensures early { (sampled : SampledRow) → memory.old.scan ≡ Some sampled → is_running ≡ true → now < sampled.cell.due
+        → (result ≡ NotDue sampled.cell.due) × (intake.new ≡ intake.old) × (memory.new ≡ memory.old) }
+    ensures due { (sampled : SampledRow) → memory.old.scan ≡ Some sampled → is_running ≡ true → sampled.cell.due ≤ now
+        → IsTickedDue intake.old memory.old sampled row now result intake.new memory.new }
 {
     if !is_running {
         return Ticked::TickNone;

@@ -20,7 +20,8 @@ fn add_names(
     names: &mut Vec<FileName>,
 ) -> Result<(), AllocError>
     requires listable { IsListable rows.now running.now }
-    ensures { OnOk result (names.new.items ≡ names.old.items ++ map (written_name rows.now running.now) running.now.moving.pending) }
+    ensures { OnOk result
+        (names.new.items ≡ names.old.items ++ map (written_name rows.now running.now) running.now.moving.pending) }
 {
     let store = running.store + 1;
     for entry in running.moving.pending() {
@@ -35,7 +36,8 @@ pub(crate) fn written_names(
     rows: &[Row],
     slots: &[Option<Running<Move>>],
 ) -> Result<Vec<FileName>, AllocError>
-    requires listable { (n : ℕ) (running : RunningValue Moving) → at slots.now n ≡ Some running → IsListable rows.now running }
+    requires listable { (n : ℕ) (running : RunningValue Moving) → at slots.now n ≡ Some running
+        → IsListable rows.now running }
     ensures { IfOk result (λ names. AreWritten rows.now slots.now names.items) }
 {
     let mut names = Vec::new(alloc);

@@ -1,4 +1,5 @@
-// What is asked of an archive, read from the words of a line. A word that is missing is empty, and one that is no number is 0.
+// What is asked of an archive, read from the words of a line. A word that is missing is empty, and
+// one that is no number is 0.
 ghost use Rattle.std.specs.Prelude.{◌≤◌, IfOk};
 ghost use Rattle.act_model.specs.Event.{IsEvent};
 ghost use Rattle.act_model.specs.Step.{MayAsk};

@@ -77,7 +77,8 @@ impl Ledger {
         })
     }
 
-    // A row is behind those in front of this place, if it is there. Those were made, and one in its place that was in doubt wasn't.
+    // A row is behind those in front of this place, if it is there. Those were made, and one in its place
+    // that was in doubt wasn't.
     fn push(&mut self, told: RowTold, place: usize) -> Result<()> {
         self.rows.truncate(place);
         for row in &mut self.rows {
@@ -170,7 +171,8 @@ impl Ledger {
             return Ok(());
         };
         match (act, answer) {
-            // Where the act found a doubt, it tells what the change has made; else a doubt may stand that it hasn't looked at.
+            // Where the act found a doubt, it tells what the change has made; else a doubt may stand
+            // that it hasn't looked at.
             (
                 "rename",
                 Answer::RenameNotPaused {
@@ -193,8 +195,9 @@ impl Ledger {
         Ok(())
     }
 
-    /// Puts what is wrong with what an image holds: each row that was told is there, in its state; its samples are a front of what was
-    /// accepted, and all that was told to be durable is among them. It tells whether the image holds more than was told to be durable.
+    /// Puts what is wrong with what an image holds: each row that was told is there, in its state; its samples are a
+    /// front of what was accepted, and all that was told to be durable is among them. It tells whether the image holds
+    /// more than was told to be durable.
     pub(crate) fn put_wrong(&self, left: &[RowLeft], text: &mut String) -> Result<bool> {
         let mut is_ahead = false;
         let mut left = left;

@@ -1,5 +1,5 @@
-//! Scripts of acts on an archive over a disk in memory, read from the input. What comes of each line is written as a line; what must come
-//! of it `interop/archive_script` works out.
+//! Scripts of acts on an archive over a disk in memory, read from the input. What comes of each line is written as a
+//! line; what must come of it `interop/archive_script` works out.
 //!
 //! A script begins with `script NAME`, and has these lines:
 //!
@@ -13,7 +13,11 @@
 //! | `power IMAGE` | the power ends; this image of the disk is opened |
 //! | `OWNER ACT WORD ..` | an act on the archive, if it was opened |
 //! | `images` | the power ends; what is reported of the images 0 to 5 |
-//! | `each call fails`, `each call stops`, `each call asked again` | runs the script with each of its calls of the disk failing alone, with all from it on failing, or failing alone and what was asked for then asked once more; what images hold at the end that they may not |
+//! | `each call fails` | runs the script with each of its calls of the disk failing alone |
+//! | `each call stops` | with all from that call on failing |
+//! | `each call asked again` | with that call failing alone, and what was asked for then asked once more |
+//!
+//! The last three tell what images hold at the end that they may not.
 //!
 //! Moments are nanoseconds since 1970-01-01T00:00:00Z, and bytes stand in hexadecimal digits.
 #![tactic(auto)]

@@ -49,7 +49,8 @@ impl<X: Applies> Actor for Owner<X> {
 
     ghost nothing = { λ a. (refl, alone_nothing X.stands X.leaves a.who a.archive) };
 
-    ghost joined = { λ a b c xs ys p q. (q.0 ∙ p.0, alone_joined X.stands X.leaves a.who b.who a.archive b.archive c.archive xs ys p.0 p.1 q.1) };
+    ghost joined = { λ a b c xs ys p q.
+        (q.0 ∙ p.0, alone_joined X.stands X.leaves a.who b.who a.archive b.archive c.archive xs ys p.0 p.1 q.1) };
 
     ghost number_stays = { λ a b entries h. h.0 };
 }

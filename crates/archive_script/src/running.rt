@@ -122,8 +122,8 @@ fn turns(
     Ok(into_disk(owner))
 }
 
-// Opens a disk and makes the acts that stand from a place on. It gives the disk that is left where the power ends, and tells whether it was
-// opened.
+// Opens a disk and makes the acts that stand from a place on. It gives the disk that is left where the power ends, and
+// tells whether it was opened.
 fn lived(run: &mut Run, disk: MemDisk, lines: &[&str], place: usize) -> Result<(MemDisk, bool)>
     requires { IsUnopened (files_of disk.calls) (opened_of disk.calls) }
 {
@@ -141,7 +141,8 @@ fn lived(run: &mut Run, disk: MemDisk, lines: &[&str], place: usize) -> Result<(
     }
 }
 
-// The same with an empty disk of which these calls fail. Where it isn't opened and that is to be, it is opened once more.
+// The same with an empty disk of which these calls fail. Where it isn't opened and that is to
+// be, it is opened once more.
 fn lived_first(
     run: &mut Run,
     failing: &[u64],
@@ -255,8 +256,8 @@ fn new_run(alloc: Global, again: bool) -> Run {
     }
 }
 
-// Runs a script anew with a call of its disk gone wrong, and puts what images hold then that they may not. It tells whether any holds more
-// than was told, and whether anything failed.
+// Runs a script anew with a call of its disk gone wrong, and puts what images hold then that they may not. It tells
+// whether any holds more than was told, and whether anything failed.
 fn put_call(
     alloc: Global,
     script: &str,

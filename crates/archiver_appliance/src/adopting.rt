@@ -23,7 +23,8 @@ use std::alloc::Global;
 use store_reopen::laws::one_verdict;
 use store_reopen::{AdoptErr, Adopted, adopt};
 
-/// Opens the disk, takes over the files that no manifest lists, and tells how many. Nothing is asked of a source and a clock.
+/// Opens the disk, takes over the files that no manifest lists, and tells how many. Nothing is
+/// asked of a source and a clock.
 pub fn adopt_found<K: Sink, D: Disk>(
     alloc: Global,
     config: &Config,
@@ -68,7 +69,8 @@ fn stopped<D: Disk>(err: AdoptErr<D>) -> Came<D>
 // Writes the five numbers. It takes no memory.
 fn tell_adopted<K: Sink>(adopted: Adopted, sink: &mut K) -> Status
     ensures told { ((result ≡ Status.Done) × Appends (K.written sink.old) (K.written sink.new) (adopted_text adopted))
-        ⊎ ((result ≡ Status.SinkFault) × AppendsFront (K.written sink.old) (K.written sink.new) (adopted_text adopted)) }
+        ⊎ ((result ≡ Status.SinkFault)
+        × AppendsFront (K.written sink.old) (K.written sink.new) (adopted_text adopted)) }
     ensures failed { result ≡ Status.SinkFault → Rose (K.write_faults sink.old) (K.write_faults sink.new) }
     ensures faults { K.write_faults sink.old ≤ K.write_faults sink.new }
 {

@@ -12,8 +12,8 @@ use std::io;
 use std::net::{Net, TcpListener, TcpStream};
 use std::sync::Arc;
 
-/// A door that closes once the service is to end. It gives no connection that it gets then. The first of a service that is asked tells that
-/// it serves, and each tells when it fails.
+/// A door that closes once the service is to end. It gives no connection that it gets then. The first of a service that
+/// is asked tells that it serves, and each tells when it fails.
 #[derive(Drop)]
 pub struct ServiceDoor<'a> {
     door: TcpDoor<&'a HostRuntime>,
@@ -118,8 +118,8 @@ impl<'a> Doors<'a> {
         }
     }
 
-    /// Doors for feeds by the one port and for requests by the other, at this address, to an archive in these folders. Those of a port share
-    /// its listener.
+    /// Doors for feeds by the one port and for requests by the other, at this address, to an archive in these folders.
+    /// Those of a port share its listener.
     pub fn open<N: Net<Listener = TcpListener, Stream = TcpStream>>(
         net: &N,
         rt: &'a HostRuntime,

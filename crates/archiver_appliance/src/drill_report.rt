@@ -6,7 +6,8 @@ ghost use Rattle.archive_core.specs.Parts.{parts};
 ghost use Rattle.archive_core.specs.Stands.{Stands};
 ghost use Rattle.drill_feed.specs.Report.{tiers_text};
 ghost use Rattle.drill_feed.specs.Workload.{name_text};
-ghost use Rattle.archiver_appliance.specs.Drilling.{CameTo, HasFiles, HasTally, IsLine, Tells, TellsOn, TellsVariable, added, query_of, tiers_of, told_u32};
+ghost use Rattle.archiver_appliance.specs.Drilling.{CameTo, HasFiles, HasTally, IsLine, Tells, TellsOn, TellsVariable};
+ghost use Rattle.archiver_appliance.specs.Drilling.{added, query_of, tiers_of, told_u32};
 ghost use Rattle.archiver_appliance.specs.Tallying.{IsEarly};
 
 use crate::tallying::TallyOut;
@@ -19,16 +20,17 @@ use retrieval_query::{Retrieved, retrieve};
 use series_model::{Blob, Query};
 use std::alloc::{AllocError, Global};
 
-/// The text of what the archive holds: a line for each variable, and one for the files of each store. It fails for want of memory, or of the
-/// disk, which is the drill's own; one who acts alone never lacks acts.
+/// The text of what the archive holds: a line for each variable, and one for the files of each store. It fails for want
+/// of memory, or of the disk, which is the drill's own; one who acts alone never lacks acts.
 pub fn report<D: Disk>(
     alloc: Global,
     archive: &mut Archive<D>,
     drill: Drill,
 ) -> Result<Vec<u8>, AllocError>
     requires stands { (m : Machine) × Stands D.tells (parts D.Disk archive.old) m }
-    ensures tells { IfOk result (λ text. TellsOn D.Disk archive.old archive.new
-        (λ m entries. (lines files : List ℕ) × Tells m entries drill.hours 4 lines files × (text.items ≡ lines ++ tiers_text (tiers_of files)))) }
+    ensures tells { IfOk result (λ text. TellsOn D.Disk archive.old archive.new (λ m entries. (lines files : List ℕ)
+        × Tells m entries drill.hours 4 lines files
+        × (text.items ≡ lines ++ tiers_text (tiers_of files)))) }
 {
     let mut text = Vec::new(alloc);
     let mut files = [0; 3];
@@ -57,8 +59,8 @@ fn put_variable<D: Disk>(
     requires known { variable < VARIABLES }
     requires stands { (m : Machine) × Stands D.tells (parts D.Disk archive.old) m }
     ensures stands { (m : Machine) × Stands D.tells (parts D.Disk archive.new) m }
-    ensures tells { OnOk result (TellsOn D.Disk archive.old archive.new
-        (λ m entries. (line more : List ℕ) × TellsVariable m entries drill.hours variable line more × (text.new.items ≡ text.old.items ++ line)
+    ensures tells { OnOk result (TellsOn D.Disk archive.old archive.new (λ m entries. (line more : List ℕ)
+        × TellsVariable m entries drill.hours variable line more × (text.new.items ≡ text.old.items ++ line)
         × (files.new ≡ added files.old more))) }
 {
     let name = name_of(variable);
@@ -83,7 +85,8 @@ fn tally_of<D: Disk>(
     requires stands { (m : Machine) × Stands D.tells (parts D.Disk archive.old) m }
     ensures stands { (m : Machine) × Stands D.tells (parts D.Disk archive.new) m }
     ensures early { IfOk result IsEarly }
-    ensures tally { IfOk result (λ tally. TellsOn D.Disk archive.old archive.new (λ m entries. CameTo m entries (HasTally name.now query tally))) }
+    ensures tally { IfOk result (λ tally.
+        TellsOn D.Disk archive.old archive.new (λ m entries. CameTo m entries (HasTally name.now query tally))) }
 {
     let mut actor = Alone::new(archive, 0);
     let mut out = TallyOut::new();
@@ -121,7 +124,8 @@ fn files_of<D: Disk>(
 ) -> Result<[u64; 3], AllocError>
     requires stands { (m : Machine) × Stands D.tells (parts D.Disk archive.old) m }
     ensures stands { (m : Machine) × Stands D.tells (parts D.Disk archive.new) m }
-    ensures files { IfOk result (λ files. TellsOn D.Disk archive.old archive.new (λ m entries. CameTo m entries (HasFiles name.now files))) }
+    ensures files { IfOk result (λ files.
+        TellsOn D.Disk archive.old archive.new (λ m entries. CameTo m entries (HasFiles name.now files))) }
 {
     let name = Blob::from(Vec::from_slice(alloc, name.as_bytes())?);
     let mut actor = Alone::new(archive, 0);

@@ -14,7 +14,8 @@ ghost use Rattle.serving_loops.specs.declared.due.DueMoved.{DueMoved};
 ghost use Rattle.serving_loops.specs.Due.{MovesAll};
 ghost use Rattle.link_service.specs.declared.served.Kind.TheVariants.{Feed};
 ghost use Rattle.archiver_appliance.specs.Acting.{ActsAlone, IsFresh};
-ghost use Rattle.archiver_appliance.specs.Drilling.{AreFed, Drills, HasRegistered, IsBegunWith, IsDrillText, OfHeld, OpensWell, WereSpent, nothing_held, registers, shipped, unmoving};
+ghost use Rattle.archiver_appliance.specs.Drilling.{AreFed, Drills, HasRegistered, IsBegunWith, IsDrillText, OfHeld};
+ghost use Rattle.archiver_appliance.specs.Drilling.{OpensWell, WereSpent, nothing_held, registers, shipped, unmoving};
 
 use crate::drill_report::report;
 use crate::service_log::Log;
@@ -57,8 +58,8 @@ impl From<AllocError> for Lack {
     }
 }
 
-/// Serves the feeds of the drill on an archive in memory, opens it again, moves what is due, and writes what it holds then: a line for each
-/// variable, and one for the files. Nothing is written before all of it is known.
+/// Serves the feeds of the drill on an archive in memory, opens it again, moves what is due, and writes what it holds
+/// then: a line for each variable, and one for the files. Nothing is written before all of it is known.
 pub fn run_drill<R: Threads + Wait + Sync, K: Sink>(
     rt: &R,
     alloc: Global,
@@ -100,7 +101,8 @@ where
     requires told { IsTrue D.tells }
     requires unopened { IsTrue D.tells → IsUnopened (D.files disk) (D.opened disk) }
     requires opens { OpensWell (stores_of shipped) (D.past disk) }
-    ensures text { IfOk result (λ text. OfHeld (stores_of shipped) (D.past disk) (λ held. IsDrillText drill.hours held text.items)) }
+    ensures text { IfOk result (λ text.
+        OfHeld (stores_of shipped) (D.past disk) (λ held. IsDrillText drill.hours held text.items)) }
     ensures spent { IsErrOf result Lack.Acts → OfHeld (stores_of shipped) (D.past disk) (WereSpent drill.hours) }
 {
     let disk = served(rt, alloc, drill, disk)?;
@@ -121,8 +123,10 @@ where
     requires unopened { IsTrue D.tells → IsUnopened (D.files disk) (D.opened disk) }
     requires opens { IsTrue D.tells → OpensWell (stores_of shipped) (D.past disk) }
     ensures unopened { IfOk result (λ left. IsTrue D.tells → IsUnopened (D.files left) (D.opened left)) }
-    ensures fed { IfOk result (λ left. IsTrue D.tells → OfHeld (stores_of shipped) (D.past disk) (λ held. AreFed drill.hours held (D.past left))) }
-    ensures spent { IsErrOf result Lack.Acts → IsTrue D.tells → OfHeld (stores_of shipped) (D.past disk) (WereSpent drill.hours) }
+    ensures fed { IfOk result (λ left. IsTrue D.tells
+        → OfHeld (stores_of shipped) (D.past disk) (λ held. AreFed drill.hours held (D.past left))) }
+    ensures spent { IsErrOf result Lack.Acts → IsTrue D.tells
+        → OfHeld (stores_of shipped) (D.past disk) (WereSpent drill.hours) }
 {
     let mut posts = [post(alloc, drill, 0)?, post(alloc, drill, 1)?];
     let mut clock = drill.clock(alloc)?;
@@ -152,7 +156,8 @@ fn begun<D: Disk>(alloc: Global, disk: D) -> Result<Archive<D>, AllocError>
     requires opens { IsTrue D.tells → OpensWell (stores_of shipped) (D.past disk) }
     ensures stands { IfOk result (λ archive. (m : Machine) × Stands D.tells (parts D.Disk archive) m) }
     ensures begun { IfOk result (λ archive. IsTrue D.tells
-        → OfHeld (stores_of shipped) (D.past disk) (λ held. (m : Machine) × Stands D.tells (parts D.Disk archive) m × HasRegistered D.tells held 4 m)) }
+        → OfHeld (stores_of shipped) (D.past disk) (λ held. (m : Machine) × Stands D.tells (parts D.Disk archive) m
+        × HasRegistered D.tells held 4 m)) }
 {
     let mut archive = opened(alloc, disk, &unmoving(), DOORS)?;
     for variable in 0..VARIABLES {
@@ -198,7 +203,8 @@ fn on_stores<D: Disk>(
     doors: u32,
 ) -> Result<Archive<D>, AllocError>
     requires fresh { IsFresh D.Disk store }
-    ensures { IfOk result (λ archive. (held : Stores) → Has D.tells (seen D.Disk store) held → IsBegunWith D.Disk store.config held doors archive) }
+    ensures { IfOk result (λ archive. (held : Stores) → Has D.tells (seen D.Disk store) held
+        → IsBegunWith D.Disk store.config held doors archive) }
 {
     match Archive::of(alloc, store, doors) {
         Ok(archive) => Ok(archive),
@@ -238,7 +244,8 @@ fn post(alloc: Global, drill: Drill, door: u32) -> Result<Post<ListDoor<MemLink>
 // Moves all that is due.
 fn moved<D: Disk>(rt: &impl Wait, archive: &mut Archive<D>, now: u64) -> Result<(), AllocError>
     requires stands { (m : Machine) × Stands D.tells (parts D.Disk archive.old) m }
-    ensures { OnOk result ((done : List Done) × (moved : DueMoved) × MovesAll now moved done × ActsAlone D.Disk archive.old done archive.new) }
+    ensures { OnOk result ((done : List Done) × (moved : DueMoved) × MovesAll now moved done
+        × ActsAlone D.Disk archive.old done archive.new) }
 {
     let mut actor = Alone::new(archive, 0);
     match move_all_due(rt, &mut actor, now) {

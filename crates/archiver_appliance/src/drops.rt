@@ -11,8 +11,8 @@ pub enum Whose<'n> {
     Row(u32),
 }
 
-/// How many samples were dropped for each reason, and of which variable the last one was. Each number stays at the last one that a u64 can
-/// show.
+/// How many samples were dropped for each reason, and of which variable the last one was. Each number stays at the
+/// last one that a u64 can show.
 #[derive(Drop)]
 pub struct Drops {
     unknown: u64,
@@ -85,7 +85,8 @@ impl Drops {
             ..
         } = self;
         let mut text = format!(in alloc;
-            "dropped {total} samples: {unknown} of no variable, {paused} paused, {wrong_type} of another type, {late} late, {ahead} ahead; the last of "
+            "dropped {total} samples: {unknown} of no variable, {paused} paused, {wrong_type} of another type, \
+             {late} late, {ahead} ahead; the last of "
         )?;
         match self.row {
             Some(row) => text.push_str(&format!(in alloc; "row {row}")?)?,

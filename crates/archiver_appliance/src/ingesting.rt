@@ -41,10 +41,14 @@ pub fn ingest_into<S: Source, D: Disk, C: Clock>(
     clock: &mut C,
 ) -> Came<D>
     requires fresh { IsFresh D.Disk store }
-    ensures ingests { (IsNotMade store.disk result.disk result.status × (source.new ≡ source.old) × (clock.new ≡ clock.old))
-        ⊎ ((held : Stores) → Has D.tells (seen D.Disk store) held → IngestsInto (λ image. ⊥) D.tells store.config held (S.left source.old) (C.coming clock.old) (C.coming clock.new) (D.past store.disk) (D.past result.disk) result.status) }
+    ensures ingests { (IsNotMade store.disk result.disk result.status
+        × (source.new ≡ source.old) × (clock.new ≡ clock.old))
+        ⊎ ((held : Stores) → Has D.tells (seen D.Disk store) held
+        → IngestsInto (λ image. ⊥) D.tells store.config held (S.left source.old)
+        (C.coming clock.old) (C.coming clock.new) (D.past store.disk) (D.past result.disk) result.status) }
     ensures lists { IsTrue D.tells → (i : ℕ) (m : ManifestState) → slice_get store.manifests.items i ≡ Some m
-        → LeavesListed ((i + 1, store.catalogue.rows), m.entries) (D.files store.disk) (D.files result.disk) (D.past store.disk) (D.past result.disk) }
+        → LeavesListed ((i + 1, store.catalogue.rows), m.entries) (D.files store.disk) (D.files result.disk)
+        (D.past store.disk) (D.past result.disk) }
     ensures opened { IsOfOpened result.status }
     ensures undamaged { NoDamage result.status }
     ensures ends { EndsAs asked.Ingest (S.left source.old) result.status }
@@ -76,7 +80,8 @@ fn ingest_alone<S: Source, D: Disk, C: Clock>(
     clock: &mut C,
 ) -> Fed
     requires stands { (m : Machine) × Stands D.tells (parts D.Disk archive.old) m }
-    ensures session { (taken : List Taken) × (done : List Done) × Session true result taken (S.left source.old) (C.coming clock.old) (C.coming clock.new) done
+    ensures session { (taken : List Taken) × (done : List Done)
+        × Session true result taken (S.left source.old) (C.coming clock.old) (C.coming clock.new) done
         × ActsAlone D.Disk archive.old done archive.new }
     ensures not_spent { result ≡ Fed.Spent → ⊥ }
     ensures read_faults { S.read_faults source.old ≤ S.read_faults source.new }

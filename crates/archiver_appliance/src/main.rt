@@ -1,14 +1,15 @@
 //! `archappl`, the program: its words, its commands and their statuses.
 //!
-//! `run` does all that the program does, over a source, a sink, a sink for complaints, a disk, a clock and the doors of a service; `main`
-//! hands it the standard streams, the disk of the folders that the environment names, the system's clock and doors of TCP, and ends with its
-//! status.
+//! `run` does all that the program does, over a source, a sink, a sink for complaints, a disk, a clock and the doors of
+//! a service; `main` hands it the standard streams, the disk of the folders that the environment names, the system's
+//! clock and doors of TCP, and ends with its status.
 //!
-//! The commands that change or read samples act alone on an archive (`archive_core`) that is opened on the disk's three stores: each of
-//! its acts is a step of the machine of `act_model`, so what is promised of the machine is promised of the program.
+//! The commands that change or read samples act alone on an archive (`archive_core`) that is opened on the
+//! disk's three stores: each of its acts is a step of the machine of `act_model`, so what is promised of the
+//! machine is promised of the program.
 //!
-//! Model: a command is a function from the words, the source's bytes, the image of the disk and the clock's moments to a text, an
-//! image, a status and a complaint.
+//! Model: a command is a function from the words, the source's bytes, the image of the disk and the clock's moments to
+//! a text, an image, a status and a complaint.
 #![tactic(auto)]
 
 mod adopting;
@@ -111,7 +112,8 @@ struct Watched {
     log: Log,
 }
 
-// What the words and the environment ask for: the folders, and the doors of a service. A folder whose name isn't UTF-8 can't be used.
+// What the words and the environment ask for: the folders, and the doors of a service. A folder whose name
+// isn't UTF-8 can't be used.
 fn prepare<'a, H>(
     rt: &'a HostRuntime,
     threads: &'a H,
@@ -206,8 +208,8 @@ fn run_over<H: Threads + Wait + Sync>(
     Ok(ended.status)
 }
 
-// The disk, of which each fault is told from now on, where a service is to begin. What its archive has is told with the service's first
-// line: a report finds it. Where that fails the service does too, and tells why.
+// The disk, of which each fault is told from now on, where a service is to begin. What its archive has is told with the
+// service's first line: a report finds it. Where that fails the service does too, and tells why.
 fn counted<'a, H: Threads + Wait + Sync>(
     rt: &HostRuntime,
     handles: &H,
@@ -255,8 +257,8 @@ fn opened_doors<'a>(
     Ok(Doors::open(net, rt, folders, address, &asked, stop)?)
 }
 
-// The commands that change nothing leave others beside them, and need not be allowed to write. An adoption takes stores that have no mark yet,
-// and goes on where one was stopped on its way.
+// The commands that change nothing leave others beside them, and need not be allowed to write. An adoption takes stores
+// that have no mark yet, and goes on where one was stopped on its way.
 fn access(words: &[&str]) -> Access {
     match words.first() {
         Some(word) if ["get", "status", "check"].contains(word) => Access::Read,

@@ -33,8 +33,8 @@ use std::alloc::Global;
 use std::sync::Wait;
 use tier_store::TierStore;
 
-/// Opens an archive on the stores, reads one moment, and moves all that is due then. It tells how many partitions stores 1 and 2 retired.
-/// A file that it tells as damaged is one that a store lists in the end.
+/// Opens an archive on the stores, reads one moment, and moves all that is due then. It tells how many partitions
+/// stores 1 and 2 retired. A file that it tells as damaged is one that a store lists in the end.
 pub fn move_due<K: Sink, D: Disk, C: Clock>(
     rt: &impl Wait,
     alloc: Global,
@@ -44,9 +44,11 @@ pub fn move_due<K: Sink, D: Disk, C: Clock>(
 ) -> Came<D>
     requires fresh { IsFresh D.Disk store }
     ensures moves { (IsNotMade store.disk result.disk result.status × (sink.new ≡ sink.old) × (clock.new ≡ clock.old))
-        ⊎ ((held : Stores) → Has D.tells (seen D.Disk store) held → MovesFrom (λ image. ⊥) D.tells store.config held (C.coming clock.old) (C.coming clock.new) (K.written sink.old) (K.written sink.new) (D.past store.disk) (D.past result.disk) result.status) }
-    ensures damaged { IsTrue D.tells → (held : Stores) → Has D.tells (seen D.Disk store) held → IsTrue held.stands → (file : Name) (at : ℕ)
-        → result.status ≡ Status.Damaged file at → ⊥ }
+        ⊎ ((held : Stores) → Has D.tells (seen D.Disk store) held
+        → MovesFrom (λ image. ⊥) D.tells store.config held (C.coming clock.old) (C.coming clock.new)
+        (K.written sink.old) (K.written sink.new) (D.past store.disk) (D.past result.disk) result.status) }
+    ensures damaged { IsTrue D.tells → (held : Stores) → Has D.tells (seen D.Disk store) held → IsTrue held.stands
+        → (file : Name) (at : ℕ) → result.status ≡ Status.Damaged file at → ⊥ }
     ensures part { IsTrue D.tells → FindsPart (stores_of store.config) (D.files result.disk) result.status }
     ensures opened { IsOfOpened result.status }
     ensures ends { (input : Option (List ℕ)) → EndsAs asked.Etl input result.status }

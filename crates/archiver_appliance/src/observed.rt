@@ -45,7 +45,8 @@ impl Tried {
     }
 }
 
-/// An archive that hands in what is to be told of its answers: the samples that it drops, and the damage that a move meets.
+/// An archive that hands in what is to be told of its answers: the samples that it drops, and the
+/// damage that a move meets.
 #[derive(Drop)]
 pub struct Observed<D: Disk> {
     // In a box, since each turn moves what it acts on.

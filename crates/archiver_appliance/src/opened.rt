@@ -5,7 +5,8 @@ ghost use Rattle.disk_model.specs.Files.{Name, Rose};
 ghost use Rattle.edge_io.specs.Moments.{Gives};
 ghost use Rattle.partition_names.specs.declared.granularity.Granularity.{Granularity as GranularityValue};
 ghost use Rattle.store_reopen.specs.Adoption.{NoneFiner, NoneFoundOpened};
-ghost use Rattle.store_reopen.specs.Reopen.{HasRead, IsReady, IsSwept, IsUnopened, OpensEither, disk_in, disk_of, lists_of, stores_of};
+ghost use Rattle.store_reopen.specs.Reopen.{HasRead, IsReady, IsSwept, IsUnopened, OpensEither, disk_in, disk_of};
+ghost use Rattle.store_reopen.specs.Reopen.{lists_of, stores_of};
 ghost use Rattle.store_reopen.specs.Verdict.{AreSaid, Differs, IsDamaged, IsWhole};
 ghost use Rattle.store_reopen.specs.declared.error.ReopenErr.TheVariants.{DiskFault, Damaged, GranularityDiffers};
 ghost use Rattle.tier_store.specs.Change.{Has};
@@ -13,7 +14,8 @@ ghost use Rattle.tier_store.specs.Seen.{seen};
 ghost use Rattle.tier_store.specs.Stores.{Stores};
 ghost use Rattle.archiver_appliance.specs.Judging.{refusal_of};
 ghost use Rattle.archiver_appliance.specs.Outside.{outside, IsCaused, NoneFell};
-ghost use Rattle.archiver_appliance.specs.Run.{Does, IsOfService, IsReading, IsRefused, IsReport, IsUnopenedFor, OnlyOpens, OnlyReads};
+ghost use Rattle.archiver_appliance.specs.Run.{Does, IsOfService, IsReading, IsRefused, IsReport, IsUnopenedFor};
+ghost use Rattle.archiver_appliance.specs.Run.{OnlyOpens, OnlyReads};
 ghost use Rattle.command_words.specs.Status.{number_of};
 ghost use Rattle.command_words.specs.declared.command.Command.TheVariants.{OverStore};
 ghost use Rattle.command_words.specs.declared.command.StoreCommand.TheVariants as asked;
@@ -88,11 +90,14 @@ where
     W::L: Send,
     requires few { length posts.old < 2 ^ 32 }
     requires unopened { IsTrue D.tells → IsUnopened (D.files disk) (D.opened disk) }
-    requires found { command ≡ asked.Adopt → IsTrue D.tells → NoneFoundOpened (stores_of config.now) (D.files disk) (D.opened disk) }
+    requires found { command ≡ asked.Adopt → IsTrue D.tells
+        → NoneFoundOpened (stores_of config.now) (D.files disk) (D.opened disk) }
     requires coarse { command ≡ asked.Adopt → NoneFiner config.now }
-    ensures does { Does config.now D.tells (OverStore command.entry) (outside S.Source K.Sink C.Clock D.Disk source.old sink.old clock.old disk)
+    ensures does { Does config.now D.tells (OverStore command.entry)
+        (outside S.Source K.Sink C.Clock D.Disk source.old sink.old clock.old disk)
         (outside S.Source K.Sink C.Clock D.Disk source.new sink.new clock.new result.disk) result.status }
-    ensures caused { IsCaused D.Reader.faults (outside S.Source K.Sink C.Clock D.Disk source.old sink.old clock.old disk)
+    ensures caused { IsCaused D.Reader.faults
+        (outside S.Source K.Sink C.Clock D.Disk source.old sink.old clock.old disk)
         (outside S.Source K.Sink C.Clock D.Disk source.new sink.new clock.new result.disk) result.status result.failed }
     ensures faults { NoneFell (outside S.Source K.Sink C.Clock D.Disk source.old sink.old clock.old disk)
         (outside S.Source K.Sink C.Clock D.Disk source.new sink.new clock.new result.disk) }
@@ -101,15 +106,20 @@ where
     ensures report_alone { IsReport command.entry → (source.new ≡ source.old) × (clock.new ≡ clock.old) }
     ensures adopt_alone { command.entry ≡ asked.Adopt → (source.new ≡ source.old) × (clock.new ≡ clock.old) }
     ensures posts_alone { ((numbers : Numbers) → command.entry ≡ asked.Serve numbers → ⊥) → posts.new ≡ posts.old }
-    ensures serve_alone { (numbers : Numbers) → command.entry ≡ asked.Serve numbers → (source.new ≡ source.old) × (sink.new ≡ sink.old)
-        × Gives (C.coming clock.old) (C.coming clock.new) [] }
+    ensures serve_alone { (numbers : Numbers) → command.entry ≡ asked.Serve numbers
+        → (source.new ≡ source.old) × (sink.new ≡ sink.old) × Gives (C.coming clock.old) (C.coming clock.new) [] }
     ensures serves { (numbers : Numbers) → command.entry ≡ asked.Serve numbers
-        → ServesPosts W.is_closed W.door_faults W.ledger (λ kind l. IsServed kind W.L.Sink.written W.L.Source.read_faults W.L.Sink.write_faults l)
+        → ServesPosts W.is_closed W.door_faults W.ledger
+        (λ kind l. IsServed kind W.L.Sink.written W.L.Source.read_faults W.L.Sink.write_faults l)
         (IsUnopenedFor config.now D.tells (outside S.Source K.Sink C.Clock D.Disk source.old sink.old clock.old disk)
         (outside S.Source K.Sink C.Clock D.Disk source.new sink.new clock.new result.disk))
-        (IsOfService config.now D.tells (length posts.old) (λ told start entries. Given start D.Reader.tells D.Reader.faults W.L.Source.left W.L.Sink.written W.L.Sink.write_faults entries W.L.Source.read_faults W.is_closed W.door_faults W.ledger told posts.old posts.new) (outside S.Source K.Sink C.Clock D.Disk source.old sink.old clock.old disk) (outside S.Source K.Sink C.Clock D.Disk source.new sink.new clock.new result.disk)) result.status posts.old posts.new }
-    ensures refused { IsRefused config.now D.tells (D.files disk) (number_of result.status) → (source.new ≡ source.old) × (sink.new ≡ sink.old)
-        × (clock.new ≡ clock.old) }
+        (IsOfService config.now D.tells (length posts.old) (λ told start entries.
+        Given start D.Reader.tells D.Reader.faults W.L.Source.left W.L.Sink.written W.L.Sink.write_faults entries
+        W.L.Source.read_faults W.is_closed W.door_faults W.ledger told posts.old posts.new)
+        (outside S.Source K.Sink C.Clock D.Disk source.old sink.old clock.old disk) (outside S.Source K.Sink C.Clock
+        D.Disk source.new sink.new clock.new result.disk)) result.status posts.old posts.new }
+    ensures refused { IsRefused config.now D.tells (D.files disk) (number_of result.status)
+        → (source.new ≡ source.old) × (sink.new ≡ sink.old) × (clock.new ≡ clock.old) }
     ensures unopened { IsTrue D.tells → IsUnopened (D.files result.disk) (D.opened result.disk) }
 {
     one_verdict();
@@ -138,24 +148,29 @@ fn opened<D: Disk>(
     command: &StoreCommand<'_>,
 ) -> Result<TierStore<D>, ReopenErr<D>>
     requires unopened { IsTrue D.tells → IsUnopened (D.files disk) (D.opened disk) }
-    ensures stands { IsTrue D.tells → (before after : Stores) → OpensEither (stores_of config.now) (D.past disk) before after
+    ensures stands { IsTrue D.tells → (before after : Stores)
+        → OpensEither (stores_of config.now) (D.past disk) before after
         → IfOk result (λ s. HasRead D.Disk (stores_of config.now) disk s before after) }
     ensures has { IfOk result (λ s. (held : Stores) × Has D.tells (seen D.Disk s) held) }
-    ensures said { IsTrue D.tells → IfOk result (λ s. let now = seen D.Disk s in AreSaid (stores_of config.now) (D.files disk) now.catalogue.rows
-        (lists_of now.manifests)) }
-    ensures ready { IfOk result (λ s. let now = seen D.Disk s in IsReady (stores_of config.now) now.catalogue now.manifests) }
+    ensures said { IsTrue D.tells → IfOk result (λ s. let now = seen D.Disk s in
+        AreSaid (stores_of config.now) (D.files disk) now.catalogue.rows (lists_of now.manifests)) }
+    ensures ready { IfOk result (λ s. let now = seen D.Disk s in
+        IsReady (stores_of config.now) now.catalogue now.manifests) }
     ensures fresh { IfOk result (λ s. (s.limbo.items ≡ []) × (s.pinned ≡ map.empty)) }
     ensures settings { IfOk result (λ s. s.config ≡ config.now) }
     ensures whole { IsTrue D.tells → IsOk result → IsWhole (stores_of config.now) (D.files disk) }
     ensures damaged { IsTrue D.tells → (d : D) (name : Name) (at : ℕ) → result ≡ Err (Damaged d name at)
         → IsDamaged (stores_of config.now) (D.files disk) name at }
-    ensures differs { IsTrue D.tells → (d : D) (kept asked : GranularityValue) → result ≡ Err (GranularityDiffers d kept asked)
+    ensures differs { IsTrue D.tells → (d : D) (kept asked : GranularityValue)
+        → result ≡ Err (GranularityDiffers d kept asked)
         → Differs (stores_of config.now) (D.files disk) kept asked }
-    ensures opens { IsTrue D.tells → OnlyOpens (stores_of config.now) (D.files disk) (D.files (disk_of result)) (D.past disk) (D.past (disk_of result)) }
+    ensures opens { IsTrue D.tells → OnlyOpens (stores_of config.now) (D.files disk) (D.files (disk_of result))
+        (D.past disk) (D.past (disk_of result)) }
     ensures swept { IsTrue D.tells → (IsReport command.now → ⊥)
         → IfOk result (λ s. IsSwept (stores_of config.now) (D.files disk) (D.files s.disk) (D.past s.disk)) }
     ensures reads { IsTrue D.tells → IsReading (stores_of config.now) command.now (D.files disk)
-        → OnlyReads (stores_of config.now) (D.files disk) (D.files (disk_of result)) (D.past disk) (D.past (disk_of result)) }
+        → OnlyReads (stores_of config.now) (D.files disk) (D.files (disk_of result))
+        (D.past disk) (D.past (disk_of result)) }
     ensures unopened { IsTrue D.tells → IsUnopened (D.files (disk_of result)) (D.opened (disk_of result)) }
     ensures faults { D.faults disk ≤ D.faults (disk_of result) }
     ensures cause { (d : D) → result ≡ Err (DiskFault d) → Rose (D.faults disk) (D.faults d) }

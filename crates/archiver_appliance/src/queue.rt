@@ -30,7 +30,8 @@ impl Queue {
         }
     }
 
-    /// Looks once a second, while no door for feeds waits for a connection, how many connections wait at their port, and tells it.
+    /// Looks once a second, while no door for feeds waits for a connection, how many connections wait at
+    /// their port, and tells it.
     pub fn tell(&mut self, rt: &HostRuntime, stop: &Stop, ports: &Ports, now: u64) {
         if !self.is_due(now) || !stop.is_serving() || stop.waiting(Kind::Feed) > 0 {
             return;
@@ -76,8 +77,9 @@ fn waiting_at(rt: &HostRuntime, port: u16) -> u64 {
     waiting
 }
 
-// How many connections wait at this port, where a line of a list tells it: behind its number stand the address with the port, that of the
-// other end, the state, and two lengths, of which the second is that of the queue. Numbers are hexadecimal.
+// How many connections wait at this port, where a line of a list tells it: behind its number stand the
+// address with the port, that of the other end, the state, and two lengths, of which the second is that of
+// the queue. Numbers are hexadecimal.
 fn waiting_in(line: &str, port: u16) -> Option<u64> {
     let mut words = line.split_whitespace();
     let (_, at) = words.nth(1)?.split_once(':')?;

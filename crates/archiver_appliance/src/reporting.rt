@@ -10,7 +10,8 @@ ghost use Rattle.store_reopen.specs.Reopen.{IsUnopened, lists_of};
 ghost use Rattle.store_reports.specs.Status.{status_text};
 ghost use Rattle.archiver_appliance.specs.Judging.{IsOfOpened};
 ghost use Rattle.archiver_appliance.specs.Outside.{IsCausedBy};
-ghost use Rattle.archiver_appliance.specs.Reporting.{ChecksAll, Tells, TellsListed, checked_file, checked_status, reported_status};
+ghost use Rattle.archiver_appliance.specs.Reporting.{ChecksAll, Tells, TellsListed, checked_file, checked_status};
+ghost use Rattle.archiver_appliance.specs.Reporting.{reported_status};
 ghost use Rattle.archiver_appliance.specs.Run.{EndsAs, NoDamage};
 ghost use Rattle.command_words.specs.declared.command.StoreCommand.TheVariants as asked;
 
@@ -27,7 +28,8 @@ pub fn tell_rows<K: Sink, D: Disk>(alloc: Global, mut store: TierStore<D>, sink:
     requires has { (held : Stores) × Has D.tells (seen D.Disk store) held }
     ensures held { (held : Stores) → Has D.tells (seen D.Disk store) held → IsTrue held.stands → IsTrue D.tells
         → Tells (status_text held) (K.written sink.old) (K.written sink.new) result.status }
-    ensures listed { TellsListed store.catalogue.rows (lists_of store.manifests.items 0) (lists_of store.manifests.items 1) (lists_of store.manifests.items 2)
+    ensures listed { TellsListed store.catalogue.rows (lists_of store.manifests.items 0)
+        (lists_of store.manifests.items 1) (lists_of store.manifests.items 2)
         (K.written sink.old) (K.written sink.new) result.status }
     ensures ends { (input : Option (List ℕ)) → EndsAs asked.Status input result.status }
     ensures files { IsTrue D.tells → D.files result.disk ≡ D.files store.disk }
@@ -49,9 +51,11 @@ pub fn tell_rows<K: Sink, D: Disk>(alloc: Global, mut store: TierStore<D>, sink:
 /// Reads every listed file, and writes one line for each.
 pub fn tell_files<K: Sink, D: Disk>(alloc: Global, mut store: TierStore<D>, sink: &mut K) -> Came<D>
     requires has { (held : Stores) × Has D.tells (seen D.Disk store) held }
-    ensures held { (held : Stores) → Has D.tells (seen D.Disk store) held → IsTrue held.stands → IsTrue D.tells → NoDamage result.status }
-    ensures checks { IsTrue D.tells → ChecksAll store.catalogue.rows (D.files store.disk) (lists_of store.manifests.items 0) (lists_of store.manifests.items 1)
-        (lists_of store.manifests.items 2) (K.written sink.old) (K.written sink.new) result.status }
+    ensures held { (held : Stores) → Has D.tells (seen D.Disk store) held → IsTrue held.stands → IsTrue D.tells
+        → NoDamage result.status }
+    ensures checks { IsTrue D.tells → ChecksAll store.catalogue.rows (D.files store.disk)
+        (lists_of store.manifests.items 0) (lists_of store.manifests.items 1) (lists_of store.manifests.items 2)
+        (K.written sink.old) (K.written sink.new) result.status }
     ensures opened { IsOfOpened result.status }
     ensures ends { (input : Option (List ℕ)) → EndsAs asked.Check input result.status }
     ensures files { IsTrue D.tells → D.files result.disk ≡ D.files store.disk }

@@ -16,7 +16,8 @@ ghost use Rattle.command_words.specs.Status.{number_of};
 ghost use Rattle.archiver_appliance.specs.Run.{EndsAs};
 ghost use Rattle.command_words.specs.declared.command.StoreCommand.TheVariants as asked;
 ghost use Rattle.archiver_appliance.specs.Outside.{HasNotFallen, IsCausedBy};
-ghost use Rattle.archiver_appliance.specs.Retrieving.{GetsRead, GetsSome, HasNone, IsRetrieved, ReadsPinAt, Retrieves, RetrievesFrom};
+ghost use Rattle.archiver_appliance.specs.Retrieving.{GetsRead, GetsSome, HasNone, IsRetrieved, ReadsPinAt, Retrieves};
+ghost use Rattle.archiver_appliance.specs.Retrieving.{RetrievesFrom};
 
 use crate::opened::{Came, out_of_memory};
 use act_model::laws::soundness_stays;
@@ -40,12 +41,16 @@ pub fn get_from<K: Sink, D: Disk>(
 ) -> Came<D>
     requires fresh { IsFresh D.Disk store }
     ensures retrieves { (IsNotMade store.disk result.disk result.status × (sink.new ≡ sink.old))
-        ⊎ ((held : Stores) → Has D.tells (seen D.Disk store) held → RetrievesFrom (λ image. ⊥) D.tells store.config held name.now query (K.written sink.old) (K.written sink.new) (D.past store.disk) (D.past result.disk) result.status) }
-    ensures some { GetsSome store.catalogue.rows name.now query (K.written sink.old) (K.written sink.new) result.status }
-    ensures read { IsTrue D.tells → GetsRead (D.files store.disk) store.catalogue.rows (lists_of store.manifests.items) name.now query (K.written sink.old)
-        (K.written sink.new) result.status }
+        ⊎ ((held : Stores) → Has D.tells (seen D.Disk store) held
+        → RetrievesFrom (λ image. ⊥) D.tells store.config held name.now query (K.written sink.old) (K.written sink.new)
+        (D.past store.disk) (D.past result.disk) result.status) }
+    ensures some { GetsSome store.catalogue.rows name.now query
+        (K.written sink.old) (K.written sink.new) result.status }
+    ensures read { IsTrue D.tells → GetsRead (D.files store.disk) store.catalogue.rows
+        (lists_of store.manifests.items) name.now query (K.written sink.old) (K.written sink.new) result.status }
     ensures none { HasNone store.catalogue.rows name.now → IsOneOf (number_of result.status) 4 7 9 }
-    ensures named { result.status ≡ Status.NoSuchVariable → HasNone store.catalogue.rows name.now × (sink.new ≡ sink.old) }
+    ensures named { result.status ≡ Status.NoSuchVariable
+        → HasNone store.catalogue.rows name.now × (sink.new ≡ sink.old) }
     ensures damaged { IsTrue D.tells → (file : Name) (at : ℕ) → result.status ≡ Status.Damaged file at
         → IsDamagedFile (D.files store.disk) store.catalogue.rows (lists_of store.manifests.items) name.now file at }
     ensures files { IsTrue D.tells → D.files result.disk ≡ D.files store.disk }
@@ -81,9 +86,11 @@ fn get_alone<K: Sink, D: Disk>(
     sink: &mut K,
 ) -> Retrieved<D::Reader>
     requires stands { (m : Machine) × Stands D.tells (parts D.Disk archive.old) m }
-    ensures retrieves { Retrieves D.Disk D.Reader.tells D.Reader.faults (Rose (K.write_faults sink.old) (K.write_faults sink.new)) archive.old name.now query
+    ensures retrieves { Retrieves D.Disk D.Reader.tells D.Reader.faults
+        (Rose (K.write_faults sink.old) (K.write_faults sink.new)) archive.old name.now query
         (K.written sink.old) (K.written sink.new) result archive.new }
-    ensures read { IsTrue D.Reader.tells → ReadsPinAt D.Disk archive.old name.now query (K.written sink.old) (K.written sink.new) result archive.new }
+    ensures read { IsTrue D.Reader.tells
+        → ReadsPinAt D.Disk archive.old name.now query (K.written sink.old) (K.written sink.new) result archive.new }
     ensures not_spent { result ≡ Retrieved.Spent → ⊥ }
     ensures untouched { result ≡ Retrieved.NoSuchVariable → sink.new ≡ sink.old }
     ensures write_faults { K.write_faults sink.old ≤ K.write_faults sink.new }

@@ -17,7 +17,8 @@ ghost use Rattle.archiver_appliance.specs.Sessions.{Given};
 ghost use Rattle.command_words.specs.Command.{IsCommand, IsFaulty};
 ghost use Rattle.archiver_appliance.specs.Outside.{outside, IsCaused, IsQuiet, NoneFell};
 ghost use Rattle.command_words.specs.Status.{number_of};
-ghost use Rattle.archiver_appliance.specs.Run.{Obeys, Ran, IsOfService, IsRefused, IsReport, IsUnopenedFor, CanBeDone, AreDoorsQuiet, EndsWellBy};
+ghost use Rattle.archiver_appliance.specs.Run.{Obeys, Ran, IsOfService, IsRefused, IsReport, IsUnopenedFor, CanBeDone};
+ghost use Rattle.archiver_appliance.specs.Run.{AreDoorsQuiet, EndsWellBy};
 
 use crate::drilling::run_drill;
 use crate::opened::{Came, serve};
@@ -58,11 +59,12 @@ pub struct Ended<D: Disk> {
 /// | 12 | the disk keeps another granularity than the configured one |
 /// | 13 | `serve`, `drill`: no act was left to make, of the 2^63 - 1 that there are |
 ///
-/// `serve` serves the posts to the ends of their doors; every other command leaves them as they are. Of what befell a service it tells the
-/// first of 11, 7, 9 and 13.
+/// `serve` serves the posts to the ends of their doors; every other command leaves them as they are. Of what befell a
+/// service it tells the first of 11, 7, 9 and 13.
 ///
-/// It needs a disk of which no journal was opened, and no listed file beyond its listed length, and leaves it so. For `adopt` it needs too
-/// that no unlisted file was opened, and leaves it so, and that no store has partitions of five minutes.
+/// It needs a disk of which no journal was opened, and no listed file beyond its listed length, and leaves it
+/// so. For `adopt` it needs too that no unlisted file was opened, and leaves it so, and that no store has
+/// partitions of five minutes.
 pub fn run<
     R: Threads + Wait + Sync,
     S: Source,
@@ -94,43 +96,55 @@ where
 
     ensures ran { Ran D.Reader.faults (map (λ w. w.now) words.now) config.now D.tells
         (outside S.Source K.Sink C.Clock D.Disk source.old sink.old clock.old disk)
-        (outside S.Source K.Sink C.Clock D.Disk source.new sink.new clock.new result.disk)
-        result.failed (E.written complaints.old) (E.written complaints.new) (E.write_faults complaints.old) (E.write_faults complaints.new) result.status }
+        (outside S.Source K.Sink C.Clock D.Disk source.new sink.new clock.new result.disk) result.failed
+        (E.written complaints.old) (E.written complaints.new)
+        (E.write_faults complaints.old) (E.write_faults complaints.new) result.status }
     ensures faults { NoneFell (outside S.Source K.Sink C.Clock D.Disk source.old sink.old clock.old disk)
-        (outside S.Source K.Sink C.Clock D.Disk source.new sink.new clock.new result.disk) × (E.write_faults complaints.old ≤ E.write_faults complaints.new) }
+        (outside S.Source K.Sink C.Clock D.Disk source.new sink.new clock.new result.disk)
+        × (E.write_faults complaints.old ≤ E.write_faults complaints.new) }
 
     ensures usage { (result.status ≡ 2) ↔ IsFaulty (map (λ w. w.now) words.now) }
-    ensures usage_does_nothing { result.status ≡ 2 → (source.new ≡ source.old) × (sink.new ≡ sink.old) × (result.disk ≡ disk) × (clock.new ≡ clock.old)
-        × (posts.new ≡ posts.old) }
-    ensures extract_alone { (query : Query) → IsCommand (map (λ w. w.now) words.now) (Extract query) → (result.disk ≡ disk) × (clock.new ≡ clock.old) }
-    ensures drill_alone { (drill : DrillValue) → IsCommand (map (λ w. w.now) words.now) (DrillOf drill) → (source.new ≡ source.old) × (result.disk ≡ disk)
-        × (clock.new ≡ clock.old) }
+    ensures usage_does_nothing { result.status ≡ 2 → (source.new ≡ source.old)
+        × (sink.new ≡ sink.old) × (result.disk ≡ disk) × (clock.new ≡ clock.old) × (posts.new ≡ posts.old) }
+    ensures extract_alone { (query : Query) → IsCommand (map (λ w. w.now) words.now) (Extract query)
+        → (result.disk ≡ disk) × (clock.new ≡ clock.old) }
+    ensures drill_alone { (drill : DrillValue) → IsCommand (map (λ w. w.now) words.now) (DrillOf drill)
+        → (source.new ≡ source.old) × (result.disk ≡ disk) × (clock.new ≡ clock.old) }
     ensures ingest_alone { IsCommand (map (λ w. w.now) words.now) (OverStore asked.Ingest) → sink.new ≡ sink.old }
     ensures move_alone { IsCommand (map (λ w. w.now) words.now) (OverStore asked.Etl) → source.new ≡ source.old }
-    ensures adopt_alone { IsCommand (map (λ w. w.now) words.now) (OverStore asked.Adopt) → (source.new ≡ source.old) × (clock.new ≡ clock.old) }
-    ensures report_alone { (command : Asked) → IsCommand (map (λ w. w.now) words.now) (OverStore command) → IsReport command → (source.new ≡ source.old)
-        × (clock.new ≡ clock.old) }
-    ensures refused { (command : Asked) → IsCommand (map (λ w. w.now) words.now) (OverStore command) → IsRefused config.now D.tells (D.files disk) result.status
+    ensures adopt_alone { IsCommand (map (λ w. w.now) words.now) (OverStore asked.Adopt)
+        → (source.new ≡ source.old) × (clock.new ≡ clock.old) }
+    ensures report_alone { (command : Asked) → IsCommand (map (λ w. w.now) words.now) (OverStore command)
+        → IsReport command → (source.new ≡ source.old) × (clock.new ≡ clock.old) }
+    ensures refused { (command : Asked) → IsCommand (map (λ w. w.now) words.now) (OverStore command)
+        → IsRefused config.now D.tells (D.files disk) result.status
         → (source.new ≡ source.old) × (sink.new ≡ sink.old) × (clock.new ≡ clock.old) }
 
     // The posts are served by `serve` alone.
     ensures posts_alone { (command : CommandValue) → IsCommand (map (λ w. w.now) words.now) command
         → ((numbers : Numbers) → command ≡ OverStore (asked.Serve numbers) → ⊥) → posts.new ≡ posts.old }
-    ensures serve_alone { (numbers : Numbers) → IsCommand (map (λ w. w.now) words.now) (OverStore (asked.Serve numbers)) → (source.new ≡ source.old)
-        × (sink.new ≡ sink.old) × Gives (C.coming clock.old) (C.coming clock.new) [] }
+    ensures serve_alone { (numbers : Numbers) → IsCommand (map (λ w. w.now) words.now) (OverStore (asked.Serve numbers))
+        → (source.new ≡ source.old) × (sink.new ≡ sink.old) × Gives (C.coming clock.old) (C.coming clock.new) [] }
     ensures serves { (numbers : Numbers) → IsCommand (map (λ w. w.now) words.now) (OverStore (asked.Serve numbers))
         → (status : StatusValue) × (result.status ≡ number_of status)
-        × ServesPosts W.is_closed W.door_faults W.ledger (λ kind l. IsServed kind W.L.Sink.written W.L.Source.read_faults W.L.Sink.write_faults l)
+        × ServesPosts W.is_closed W.door_faults W.ledger
+        (λ kind l. IsServed kind W.L.Sink.written W.L.Source.read_faults W.L.Sink.write_faults l)
         (IsUnopenedFor config.now D.tells (outside S.Source K.Sink C.Clock D.Disk source.old sink.old clock.old disk)
         (outside S.Source K.Sink C.Clock D.Disk source.new sink.new clock.new result.disk))
-        (IsOfService config.now D.tells (length posts.old) (λ told start entries. Given start D.Reader.tells D.Reader.faults W.L.Source.left W.L.Sink.written W.L.Sink.write_faults entries W.L.Source.read_faults W.is_closed W.door_faults W.ledger told posts.old posts.new) (outside S.Source K.Sink C.Clock D.Disk source.old sink.old clock.old disk) (outside S.Source K.Sink C.Clock D.Disk source.new sink.new clock.new result.disk)) status posts.old posts.new }
+        (IsOfService config.now D.tells (length posts.old) (λ told start entries.
+        Given start D.Reader.tells D.Reader.faults W.L.Source.left W.L.Sink.written W.L.Sink.write_faults entries
+        W.L.Source.read_faults W.is_closed W.door_faults W.ledger told posts.old posts.new)
+        (outside S.Source K.Sink C.Clock D.Disk source.old sink.old clock.old disk)
+        (outside S.Source K.Sink C.Clock D.Disk source.new sink.new clock.new result.disk)) status posts.old posts.new }
 
     // Where no count rose, each command is done that can be, or memory was wanting.
     ensures complete { (command : CommandValue) → IsCommand (map (λ w. w.now) words.now) command
-        → CanBeDone config.now D.tells command (outside S.Source K.Sink C.Clock D.Disk source.old sink.old clock.old disk)
+        → CanBeDone config.now D.tells command
+        (outside S.Source K.Sink C.Clock D.Disk source.old sink.old clock.old disk)
         → IsQuiet command (outside S.Source K.Sink C.Clock D.Disk source.old sink.old clock.old disk)
         (outside S.Source K.Sink C.Clock D.Disk source.new sink.new clock.new result.disk) result.failed
-        → AreDoorsQuiet W.door_faults command posts.old posts.new → EndsWellBy command result.status }
+        → AreDoorsQuiet W.door_faults command posts.old posts.new
+        → EndsWellBy command result.status }
 
     ensures unopened { IsTrue D.tells → IsUnopened (D.files result.disk) (D.opened result.disk) }
 {
@@ -170,34 +184,45 @@ where
     requires found { IsCommand (map (λ w. w.now) words.now) (OverStore asked.Adopt) → IsTrue D.tells
         → NoneFoundOpened (stores_of config.now) (D.files disk) (D.opened disk) }
     requires coarse { IsCommand (map (λ w. w.now) words.now) (OverStore asked.Adopt) → NoneFiner config.now }
-    ensures obeys { Obeys (map (λ w. w.now) words.now) config.now D.tells (outside S.Source K.Sink C.Clock D.Disk source.old sink.old clock.old disk)
+    ensures obeys { Obeys (map (λ w. w.now) words.now) config.now D.tells
+        (outside S.Source K.Sink C.Clock D.Disk source.old sink.old clock.old disk)
         (outside S.Source K.Sink C.Clock D.Disk source.new sink.new clock.new result.disk) result.status }
-    ensures caused { IsCaused D.Reader.faults (outside S.Source K.Sink C.Clock D.Disk source.old sink.old clock.old disk)
+    ensures caused { IsCaused D.Reader.faults
+        (outside S.Source K.Sink C.Clock D.Disk source.old sink.old clock.old disk)
         (outside S.Source K.Sink C.Clock D.Disk source.new sink.new clock.new result.disk) result.status result.failed }
     ensures faults { NoneFell (outside S.Source K.Sink C.Clock D.Disk source.old sink.old clock.old disk)
         (outside S.Source K.Sink C.Clock D.Disk source.new sink.new clock.new result.disk) }
     ensures usage { result.status ≡ Status.Usage → IsFaulty (map (λ w. w.now) words.now) }
-    ensures usage_does_nothing { result.status ≡ Status.Usage → (source.new ≡ source.old) × (sink.new ≡ sink.old) × (result.disk ≡ disk)
-        × (clock.new ≡ clock.old) × (posts.new ≡ posts.old) }
-    ensures extract_alone { (query : Query) → IsCommand (map (λ w. w.now) words.now) (Extract query) → (result.disk ≡ disk) × (clock.new ≡ clock.old) }
-    ensures drill_alone { (drill : DrillValue) → IsCommand (map (λ w. w.now) words.now) (DrillOf drill) → (source.new ≡ source.old) × (result.disk ≡ disk)
-        × (clock.new ≡ clock.old) }
+    ensures usage_does_nothing { result.status ≡ Status.Usage
+        → (source.new ≡ source.old)
+        × (sink.new ≡ sink.old) × (result.disk ≡ disk) × (clock.new ≡ clock.old) × (posts.new ≡ posts.old) }
+    ensures extract_alone { (query : Query) → IsCommand (map (λ w. w.now) words.now) (Extract query)
+        → (result.disk ≡ disk) × (clock.new ≡ clock.old) }
+    ensures drill_alone { (drill : DrillValue) → IsCommand (map (λ w. w.now) words.now) (DrillOf drill)
+        → (source.new ≡ source.old) × (result.disk ≡ disk) × (clock.new ≡ clock.old) }
     ensures ingest_alone { IsCommand (map (λ w. w.now) words.now) (OverStore asked.Ingest) → sink.new ≡ sink.old }
     ensures move_alone { IsCommand (map (λ w. w.now) words.now) (OverStore asked.Etl) → source.new ≡ source.old }
-    ensures adopt_alone { IsCommand (map (λ w. w.now) words.now) (OverStore asked.Adopt) → (source.new ≡ source.old) × (clock.new ≡ clock.old) }
-    ensures report_alone { (command : Asked) → IsCommand (map (λ w. w.now) words.now) (OverStore command) → IsReport command → (source.new ≡ source.old)
-        × (clock.new ≡ clock.old) }
+    ensures adopt_alone { IsCommand (map (λ w. w.now) words.now) (OverStore asked.Adopt)
+        → (source.new ≡ source.old) × (clock.new ≡ clock.old) }
+    ensures report_alone { (command : Asked) → IsCommand (map (λ w. w.now) words.now) (OverStore command)
+        → IsReport command → (source.new ≡ source.old) × (clock.new ≡ clock.old) }
     ensures refused { (command : Asked) → IsCommand (map (λ w. w.now) words.now) (OverStore command)
-        → IsRefused config.now D.tells (D.files disk) (number_of result.status) → (source.new ≡ source.old) × (sink.new ≡ sink.old) × (clock.new ≡ clock.old) }
+        → IsRefused config.now D.tells (D.files disk) (number_of result.status)
+        → (source.new ≡ source.old) × (sink.new ≡ sink.old) × (clock.new ≡ clock.old) }
     ensures posts_alone { (command : CommandValue) → IsCommand (map (λ w. w.now) words.now) command
         → ((numbers : Numbers) → command ≡ OverStore (asked.Serve numbers) → ⊥) → posts.new ≡ posts.old }
-    ensures serve_alone { (numbers : Numbers) → IsCommand (map (λ w. w.now) words.now) (OverStore (asked.Serve numbers)) → (source.new ≡ source.old)
-        × (sink.new ≡ sink.old) × Gives (C.coming clock.old) (C.coming clock.new) [] }
+    ensures serve_alone { (numbers : Numbers) → IsCommand (map (λ w. w.now) words.now) (OverStore (asked.Serve numbers))
+        → (source.new ≡ source.old) × (sink.new ≡ sink.old) × Gives (C.coming clock.old) (C.coming clock.new) [] }
     ensures serves { (numbers : Numbers) → IsCommand (map (λ w. w.now) words.now) (OverStore (asked.Serve numbers))
-        → ServesPosts W.is_closed W.door_faults W.ledger (λ kind l. IsServed kind W.L.Sink.written W.L.Source.read_faults W.L.Sink.write_faults l)
+        → ServesPosts W.is_closed W.door_faults W.ledger
+        (λ kind l. IsServed kind W.L.Sink.written W.L.Source.read_faults W.L.Sink.write_faults l)
         (IsUnopenedFor config.now D.tells (outside S.Source K.Sink C.Clock D.Disk source.old sink.old clock.old disk)
         (outside S.Source K.Sink C.Clock D.Disk source.new sink.new clock.new result.disk))
-        (IsOfService config.now D.tells (length posts.old) (λ told start entries. Given start D.Reader.tells D.Reader.faults W.L.Source.left W.L.Sink.written W.L.Sink.write_faults entries W.L.Source.read_faults W.is_closed W.door_faults W.ledger told posts.old posts.new) (outside S.Source K.Sink C.Clock D.Disk source.old sink.old clock.old disk) (outside S.Source K.Sink C.Clock D.Disk source.new sink.new clock.new result.disk)) result.status posts.old posts.new }
+        (IsOfService config.now D.tells (length posts.old) (λ told start entries.
+        Given start D.Reader.tells D.Reader.faults W.L.Source.left W.L.Sink.written W.L.Sink.write_faults entries
+        W.L.Source.read_faults W.is_closed W.door_faults W.ledger told posts.old posts.new)
+        (outside S.Source K.Sink C.Clock D.Disk source.old sink.old clock.old disk) (outside S.Source K.Sink C.Clock
+        D.Disk source.new sink.new clock.new result.disk)) result.status posts.old posts.new }
     ensures unopened { IsTrue D.tells → IsUnopened (D.files result.disk) (D.opened result.disk) }
 {
     match command_of(words) {

@@ -16,7 +16,8 @@ ghost use Rattle.archiver_appliance.specs.Acting.{IsFresh, IsNotMade};
 ghost use Rattle.archiver_appliance.specs.Judging.{IsOfOpened};
 ghost use Rattle.archiver_appliance.specs.Outside.{HasNotFallen, IsCausedBy};
 ghost use Rattle.archiver_appliance.specs.Run.{EndsAs, NoDamage};
-ghost use Rattle.archiver_appliance.specs.Serving.{ArchiveStep, LeavesArchive, LeavesRoom, PostsLeft, ServesFrom, ServesPosts, status_of};
+ghost use Rattle.archiver_appliance.specs.Serving.{ArchiveStep, LeavesArchive, LeavesRoom, PostsLeft, ServesFrom};
+ghost use Rattle.archiver_appliance.specs.Serving.{ServesPosts, status_of};
 ghost use Rattle.archiver_appliance.specs.Sessions.{Given};
 ghost use Rattle.command_words.specs.declared.command.StoreCommand.TheVariants as asked;
 ghost use Rattle.command_words.specs.declared.service_words.ServeWords.{ServeWords as Numbers};
@@ -37,8 +38,8 @@ use std::thread::Threads;
 use tier_store::TierStore;
 use turn_rooms::{Pass, Rooms};
 
-/// Opens an archive on the stores, with as many doors as there are posts; serves all posts on it to the ends of their doors; and gives the
-/// disk back.
+/// Opens an archive on the stores, with as many doors as there are posts; serves all posts on it to the ends of their
+/// doors; and gives the disk back.
 pub fn serve_posts<
     R: Threads + Wait + Sync,
     D: Disk + Send,
@@ -50,15 +51,20 @@ where
     W::L: Send,
     requires few { length posts.old < 2 ^ 32 }
     requires fresh { IsFresh D.Disk store }
-    ensures serves { ServesPosts W.is_closed W.door_faults W.ledger (λ kind l. IsServed kind W.L.Sink.written W.L.Source.read_faults W.L.Sink.write_faults l)
+    ensures serves { ServesPosts W.is_closed W.door_faults W.ledger
+        (λ kind l. IsServed kind W.L.Sink.written W.L.Source.read_faults W.L.Sink.write_faults l)
         (IsNotMade store.disk result.disk result.status × (C.coming clock.new ≡ C.coming clock.old))
-        (λ began told. (held : Stores) → Has D.tells (seen D.Disk store) held → ServesFrom (λ image. ⊥) D.tells store.config held (length posts.old) (λ start entries. Given start D.Reader.tells D.Reader.faults W.L.Source.left W.L.Sink.written W.L.Sink.write_faults entries W.L.Source.read_faults W.is_closed W.door_faults W.ledger told posts.old posts.new) began told (D.past store.disk) (D.past result.disk))
-        result.status posts.old posts.new }
+        (λ began told. (held : Stores) → Has D.tells (seen D.Disk store) held
+        → ServesFrom (λ image. ⊥) D.tells store.config held (length posts.old) (λ start entries.
+        Given start D.Reader.tells D.Reader.faults W.L.Source.left W.L.Sink.written W.L.Sink.write_faults entries
+        W.L.Source.read_faults W.is_closed W.door_faults W.ledger told posts.old posts.new)
+        began told (D.past store.disk) (D.past result.disk)) result.status posts.old posts.new }
     ensures clock { Gives (C.coming clock.old) (C.coming clock.new) [] }
     ensures opened { IsOfOpened result.status }
     ensures undamaged { NoDamage result.status }
     ensures ends { (numbers : Numbers) (input : Option (List ℕ)) → EndsAs (asked.Serve numbers) input result.status }
-    ensures caused { IsCausedBy D.Reader.faults ⊥ ⊥ (DiskRose (D.faults store.disk) (D.faults result.disk)) result.status result.failed }
+    ensures caused { IsCausedBy D.Reader.faults ⊥ ⊥
+        (DiskRose (D.faults store.disk) (D.faults result.disk)) result.status result.failed }
     ensures disk_faults { HasNotFallen (D.faults store.disk) (D.faults result.disk) }
     ensures unopened { IsTrue D.tells → IsUnopened (D.files result.disk) (D.opened result.disk) }
 {
@@ -78,8 +84,8 @@ where
     }
 }
 
-/// Serves all posts on an archive that has as many doors, to the ends of their doors, and hands in to `log` what is to be told. `Err` comes
-/// for want of memory alone, and gives the archive back.
+/// Serves all posts on an archive that has as many doors, to the ends of their doors, and hands in to `log` what is to
+/// be told. `Err` comes for want of memory alone, and gives the archive back.
 pub fn serve_archive<
     R: Threads + Wait + Sync,
     D: Disk + Send,
@@ -99,8 +105,11 @@ where
     requires stands { (m : Machine) × Stands D.tells (parts D.Disk archive) m }
     requires few { length posts.old < 2 ^ 32 }
     ensures leaves { IfOk result (λ end. (began : Bool)
-        × LeavesArchive D.Disk archive (length posts.old)
-        (λ start entries. Given start D.Reader.tells D.Reader.faults W.L.Source.left W.L.Sink.written W.L.Sink.write_faults entries W.L.Source.read_faults W.is_closed W.door_faults W.ledger end.0 posts.old posts.new) began end.0 end.1 × PostsLeft W.is_closed W.door_faults W.ledger (λ kind l. IsServed kind W.L.Sink.written W.L.Source.read_faults W.L.Sink.write_faults l) began end.0 posts.old posts.new) }
+        × LeavesArchive D.Disk archive (length posts.old) (λ start entries.
+        Given start D.Reader.tells D.Reader.faults W.L.Source.left W.L.Sink.written W.L.Sink.write_faults entries
+        W.L.Source.read_faults W.is_closed W.door_faults W.ledger end.0 posts.old posts.new) began end.0 end.1
+        × PostsLeft W.is_closed W.door_faults W.ledger (λ kind l. IsServed kind
+        W.L.Sink.written W.L.Source.read_faults W.L.Sink.write_faults l) began end.0 posts.old posts.new) }
     ensures clock { Gives (C.coming clock.old) (C.coming clock.new) [] }
     ensures back { IfErr result (λ given. (given ≡ archive) × (posts.new ≡ posts.old) × (clock.new ≡ clock.old)) }
 {
@@ -132,14 +141,17 @@ fn serve_in_rooms<R: Threads + Wait + Sync, D: Disk + Send, C: Clock + Drop + Se
 where
     D::Reader: Send,
     W::L: Send,
-    requires opens { Opens (ArchiveStep D.Disk D.Reader.tells D.Reader.bytes D.Reader.faults) rooms (opened rooms) pass }
+    requires opens { Opens (ArchiveStep D.Disk D.Reader.tells D.Reader.bytes D.Reader.faults)
+        rooms (opened rooms) pass }
     requires stands { (m : Machine) × Stands D.tells (parts D.Disk (opened rooms).archive.archive.value) m }
     requires few { length posts.old < 2 ^ 32 }
-    ensures leaves { (began : Bool) × LeavesRoom D.Disk (ArchiveStep D.Disk D.Reader.tells D.Reader.bytes D.Reader.faults)
-        (reply_of D.Reader.tells D.Reader.bytes D.Reader.faults) (opened rooms) (length posts.old)
-        (λ start entries. Given start D.Reader.tells D.Reader.faults W.L.Source.left W.L.Sink.written W.L.Sink.write_faults entries W.L.Source.read_faults W.is_closed W.door_faults W.ledger result.0 posts.old posts.new) began result.0 result.1
-        × PostsLeft W.is_closed W.door_faults W.ledger
-        (λ kind l. IsServed kind W.L.Sink.written W.L.Source.read_faults W.L.Sink.write_faults l) began result.0 posts.old posts.new }
+    ensures leaves { (began : Bool)
+        × LeavesRoom D.Disk (ArchiveStep D.Disk D.Reader.tells D.Reader.bytes D.Reader.faults)
+        (reply_of D.Reader.tells D.Reader.bytes D.Reader.faults) (opened rooms) (length posts.old) (λ start entries.
+        Given start D.Reader.tells D.Reader.faults W.L.Source.left W.L.Sink.written W.L.Sink.write_faults entries
+        W.L.Source.read_faults W.is_closed W.door_faults W.ledger result.0 posts.old posts.new) began result.0 result.1
+        × PostsLeft W.is_closed W.door_faults W.ledger (λ kind l. IsServed kind
+        W.L.Sink.written W.L.Source.read_faults W.L.Sink.write_faults l) began result.0 posts.old posts.new }
     ensures clock { Gives (C.coming clock.old) (C.coming clock.new) [] }
 {
     let told = serve_all(rt, alloc, &rooms, &mut pass, posts, clock, log);

@@ -19,8 +19,8 @@ const PAUSE: u64 = 100;
 // How many milliseconds a connection that wakes a door may take.
 const WAKING: u64 = 250;
 
-/// How far a service is: whether its archive is open, whether it is to end, and whether it is over. And how many of its doors wait for a
-/// connection.
+/// How far a service is: whether its archive is open, whether it is to end, and whether it is over. And how many of its
+/// doors wait for a connection.
 #[derive(Drop)]
 pub struct Stop {
     serving: AtomicBool,
@@ -97,9 +97,10 @@ pub struct Ports {
     pub doors: u32,
 }
 
-/// Tells what a service hands in to be told and which feeds wait, until it is over, and looks for the file. Where that is there the service
-/// is to end, and those doors that wait for a connection find out. A file that was there before asked for the end of an earlier service: it
-/// is removed once the archive is open, and one that can't be removed ends this one too.
+/// Tells what a service hands in to be told and which feeds wait, until it is over, and looks for the file. Where
+/// that is there the service is to end, and those doors that wait for a connection find out. A file that was there
+/// before asked for the end of an earlier service: it is removed once the archive is open, and one that can't be
+/// removed ends this one too.
 pub fn watch<R: Files + Net + Clock + Wait>(
     rt: &HostRuntime,
     handles: &R,
@@ -141,16 +142,16 @@ fn is_there(files: &impl Files, file: &str) -> bool {
     matches!(fs::exists(files, file), Ok(true))
 }
 
-// Wakes the doors that wait for a connection, those for feeds first. One that began to wait just now, or whose connection is taken by
-// nobody, is woken a second later.
+// Wakes the doors that wait for a connection, those for feeds first. One that began to wait just now, or whose
+// connection is taken by nobody, is woken a second later.
 fn wake_waiting(net: &impl Net, stop: &Stop, ports: &Ports) {
     let address = ports.address.as_str();
     wake_doors(net, address, ports.feed_port, stop.waiting(Kind::Feed));
     wake_doors(net, address, ports.http_port, stop.waiting(Kind::Http));
 }
 
-// Makes as many connections to a port as doors wait there. One that isn't taken in time shows that so many wait at the port already that each
-// door finds one of those.
+// Makes as many connections to a port as doors wait there. One that isn't taken in time shows that so many wait at the
+// port already that each door finds one of those.
 fn wake_doors(net: &impl Net, address: &str, port: u16, doors: u32) {
     let limit = Duration::from_millis(WAKING);
     for _ in 0..doors {

@@ -66,7 +66,8 @@ impl Out for TallyOut {
 // The tally of one sample more. The count stays at its last value.
 fn one_more(tally: Option<Tally>, t: u64) -> Tally
     ensures early { IsEarly tally → t < END → IsEarly (Some result) }
-    ensures tally { (xs : List Sample) (line : List ℕ) → AreTallied xs tally → IsTallyOf (xs ++ record { t = t; line = line } ∷ []) result }
+    ensures tally { (xs : List Sample) (line : List ℕ) → AreTallied xs tally
+        → IsTallyOf (xs ++ record { t = t; line = line } ∷ []) result }
 {
     match tally {
         None => Tally {

@@ -58,8 +58,8 @@ impl Standing {
     }
 }
 
-/// Tells what was handed in: a fault when it is met, again each minute while it is met again, and once it wasn't for a minute; and at most
-/// once a minute how many samples were dropped.
+/// Tells what was handed in: a fault when it is met, again each minute while it is met again, and once it wasn't for a
+/// minute; and at most once a minute how many samples were dropped.
 #[derive(Drop)]
 pub struct Teller {
     begun: Option<Instant>,

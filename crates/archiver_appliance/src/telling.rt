@@ -102,8 +102,8 @@ impl<'a> Telling<'a> {
     }
 }
 
-/// Writes a line with its time to standard error. Nobody is left to hear where it can't be written, and it is left out where memory is
-/// wanting for it.
+/// Writes a line with its time to standard error. Nobody is left to hear where it can't be written, and it is left out
+/// where memory is wanting for it.
 pub fn tell(rt: &HostRuntime, text: Result<String, AllocError>) {
     let Ok(text) = text else {
         return;

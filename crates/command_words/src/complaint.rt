@@ -13,7 +13,8 @@ use itoa::Buffer;
 
 /// Writes the one line that tells why a command ended with a status other than 0, or a front of it. Takes no memory.
 pub fn complain<E: Sink>(status: &Status, complaints: &mut E)
-    ensures told { Complains (E.written complaints.old) (E.written complaints.new) (E.write_faults complaints.old) (E.write_faults complaints.new) (complaint_of status.now) }
+    ensures told { Complains (E.written complaints.old) (E.written complaints.new)
+        (E.write_faults complaints.old) (E.write_faults complaints.new) (complaint_of status.now) }
     ensures faults { E.write_faults complaints.old ≤ E.write_faults complaints.new }
 {
     let mut first = Buffer::new();
@@ -22,7 +23,8 @@ pub fn complain<E: Sink>(status: &Status, complaints: &mut E)
         Status::Done => tell(&[], complaints),
         Status::Usage => tell(
             &[
-                b"archappl: usage: archappl extract FROM TO / ingest / get NAME FROM TO / etl / status / check / drill N / serve FEEDPORT HTTPPORT WORKERS LINKS / adopt\n",
+                b"archappl: usage: archappl extract FROM TO / ingest / get NAME FROM TO / etl / status",
+                b" / check / drill N / serve FEEDPORT HTTPPORT WORKERS LINKS / adopt\n",
             ],
             complaints,
         ),
@@ -58,7 +60,8 @@ pub fn complain<E: Sink>(status: &Status, complaints: &mut E)
 }
 
 fn tell_damage<E: Sink>(name: &FileName, at: u64, complaints: &mut E)
-    ensures told { Complains (E.written complaints.old) (E.written complaints.new) (E.write_faults complaints.old) (E.write_faults complaints.new) (complaint_of (Damaged name.now at)) }
+    ensures told { Complains (E.written complaints.old) (E.written complaints.new)
+        (E.write_faults complaints.old) (E.write_faults complaints.new) (complaint_of (Damaged name.now at)) }
     ensures faults { E.write_faults complaints.old ≤ E.write_faults complaints.new }
 {
     let mut store = Buffer::new();
@@ -79,7 +82,8 @@ fn tell_damage<E: Sink>(name: &FileName, at: u64, complaints: &mut E)
 
 // Writes the pieces of a line. Nobody is left to hear of a fault here.
 fn tell<E: Sink>(pieces: &[&[u8]], complaints: &mut E)
-    ensures told { Complains (E.written complaints.old) (E.written complaints.new) (E.write_faults complaints.old) (E.write_faults complaints.new) (flat_map (λ piece. piece.now) pieces.now) }
+    ensures told { Complains (E.written complaints.old) (E.written complaints.new)
+        (E.write_faults complaints.old) (E.write_faults complaints.new) (flat_map (λ piece. piece.now) pieces.now) }
     ensures faults { E.write_faults complaints.old ≤ E.write_faults complaints.new }
 {
     let _ = write_pieces(pieces, complaints);
@@ -87,8 +91,10 @@ fn tell<E: Sink>(pieces: &[&[u8]], complaints: &mut E)
 
 /// Writes the pieces of a line, one after another, each whole, up to the first write that fails. It takes no memory.
 pub fn write_pieces<E: Sink>(pieces: &[&[u8]], sink: &mut E) -> Result<(), Failed>
-    ensures all { OnOk result (Appends (E.written sink.old) (E.written sink.new) (flat_map (λ piece. piece.now) pieces.now)) }
-    ensures front { OnErr result (AppendsFront (E.written sink.old) (E.written sink.new) (flat_map (λ piece. piece.now) pieces.now)) }
+    ensures all { OnOk result
+        (Appends (E.written sink.old) (E.written sink.new) (flat_map (λ piece. piece.now) pieces.now)) }
+    ensures front { OnErr result
+        (AppendsFront (E.written sink.old) (E.written sink.new) (flat_map (λ piece. piece.now) pieces.now)) }
     ensures failed { OnErr result (Rose (E.write_faults sink.old) (E.write_faults sink.new)) }
     ensures faults { E.write_faults sink.old ≤ E.write_faults sink.new }
 {

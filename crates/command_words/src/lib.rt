@@ -2,8 +2,8 @@
 //!
 //! `command_of` tells what words ask for, and `complain` writes why a command ended with a status other than 0.
 //!
-//! Model: words are lists of bytes, and a command is asked for by the words that say so (`IsCommand`). A complaint is a text of the
-//! status (`complaint_of`).
+//! Model: words are lists of bytes, and a command is asked for by the words that say so (`IsCommand`). A complaint is a
+//! text of the status (`complaint_of`).
 //!
 //! Tests: the built program's run them.
 #![tactic(auto)]

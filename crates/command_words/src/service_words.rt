@@ -19,9 +19,9 @@ pub struct ServeWords {
     pub links: u32,
 }
 
-/// The numbers of the words `serve FEEDPORT HTTPPORT WORKERS LINKS`. It is `None` exactly where the words aren't of this form: a number is
-/// of one to nine decimal digits, without a zero in front of others, a port is from 1 to 65,535, and there are 1 to 64 workers. It takes no
-/// memory.
+/// The numbers of the words `serve FEEDPORT HTTPPORT WORKERS LINKS`. It is `None` exactly where the words aren't of
+/// this form: a number is of one to nine decimal digits, without a zero in front of others, a port is from 1 to 65,535,
+/// and there are 1 to 64 workers. It takes no memory.
 pub fn serve_words(words: &[&str]) -> Option<ServeWords>
     ensures found { IfSome result (AsksToServe (map (λ w. w.now) words.now)) }
     ensures none { IfNone result ((asked : ServeValue) → AsksToServe (map (λ w. w.now) words.now) asked → ⊥) }
@@ -36,8 +36,10 @@ pub fn serve_words(words: &[&str]) -> Option<ServeWords>
 
 // The numbers of the words behind `serve`.
 fn served(feed_port: &str, http_port: &str, workers: &str, links: &str) -> Option<ServeWords>
-    ensures found { IfSome result (AsksToServe (codes "serve" ∷ feed_port.now ∷ http_port.now ∷ workers.now ∷ links.now ∷ [])) }
-    ensures none { IfNone result ((asked : ServeValue) → AsksToServe (codes "serve" ∷ feed_port.now ∷ http_port.now ∷ workers.now ∷ links.now ∷ []) asked → ⊥) }
+    ensures found { IfSome result
+        (AsksToServe (codes "serve" ∷ feed_port.now ∷ http_port.now ∷ workers.now ∷ links.now ∷ [])) }
+    ensures none { IfNone result ((asked : ServeValue)
+        → AsksToServe (codes "serve" ∷ feed_port.now ∷ http_port.now ∷ workers.now ∷ links.now ∷ []) asked → ⊥) }
 {
     Some(ServeWords {
         feed_port: number(feed_port, 1, 65_535)? as u16,
@@ -47,7 +49,8 @@ fn served(feed_port: &str, http_port: &str, workers: &str, links: &str) -> Optio
     })
 }
 
-/// The number of the words `drill N`, from 1 to 200. It is `None` exactly where the words aren't of this form. It takes no memory.
+/// The number of the words `drill N`, from 1 to 200. It is `None` exactly where the words aren't of this
+/// form. It takes no memory.
 pub fn drill_words(words: &[&str]) -> Option<u32>
     ensures found { IfSome result (AsksToDrill (map (λ w. w.now) words.now)) }
     ensures none { IfNone result ((hours : ℕ) → AsksToDrill (map (λ w. w.now) words.now) hours → ⊥) }

@@ -1,9 +1,10 @@
-//! Calls of a disk in memory, one a line of standard input, and what a crash may leave of it. What comes of each is written as a line.
-//! `interop/disk_cases` makes the calls and the lines that are wanted, which are compared with this program's.
+//! Calls of a disk in memory, one a line of standard input, and what a crash may leave of it. What comes of
+//! each is written as a line. `interop/disk_cases` makes the calls and the lines that are wanted, which are
+//! compared with this program's.
 //!
-//! `disk STOP CALL ..` begins with an empty disk whose calls of these numbers fail, and all from STOP on, `-` for none. A file is named as
-//! `STORE/PATH`. `images` tells the images of the choices 0 to 5, and `readers` what each opened file reads. `sync_each FILE ..` is of many
-//! files, and each other call of one.
+//! `disk STOP CALL ..` begins with an empty disk whose calls of these numbers fail, and all from STOP on, `-` for none.
+//! A file is named as `STORE/PATH`. `images` tells the images of the choices 0 to 5, and `readers` what each opened
+//! file reads. `sync_each FILE ..` is of many files, and each other call of one.
 #![tactic(auto)]
 
 use anyhow::{Context, Result};

@@ -1,7 +1,9 @@
 // What a disk promises: each call's effect on the files and on what a crash may leave.
-ghost use Rattle.std.specs.Prelude.{◌≡◌, ◌≢◌, ◌⊎◌, ◌≤◌, ◌<◌, ◌+◌, ◌-◌, ◌^◌, List, ℕ, Bool, length, take, drop, min, max, [], Option, None, Some, IfOk, OnOk, OnErr, IsErr, IsErrOf, IsTrue, All};
+ghost use Rattle.std.specs.Prelude.{◌≡◌, ◌≢◌, ◌⊎◌, ◌≤◌, ◌<◌, ◌+◌, ◌-◌, ◌^◌, List, ℕ, Bool, length, take, drop, min};
+ghost use Rattle.std.specs.Prelude.{max, [], Option, None, Some, IfOk, OnOk, OnErr, IsErr, IsErrOf, IsTrue, All};
 ghost use Rattle.disk_model.specs.declared.disk.DiskErr.TheVariants.{Memory};
-ghost use Rattle.disk_model.specs.Files.{Name, Files, Rose, HasFile, Lists, At, Overwritten, Torn, Cut, Frayed, Becomes, KeptOr, size_of};
+ghost use Rattle.disk_model.specs.Files.{Name, Files, Rose, HasFile, Lists, At, Overwritten, Torn, Cut, Frayed};
+ghost use Rattle.disk_model.specs.Files.{Becomes, KeptOr, size_of};
 ghost use Rattle.disk_model.specs.Past.{Past, MayLeave, Passes, Only};
 
 use crate::FileName;
@@ -34,8 +36,8 @@ pub trait ReadAt: Drop {
     /// What reads leave of it, from before them to behind them. It is of the kind of file.
     ghost leaves: { Self → Self → Type 0 };
 
-    /// Reads from place `at`, which isn't past the end, all bytes that fit into `buf`, and answers how many. It takes no
-    /// memory.
+    /// Reads from place `at`, which isn't past the end, all bytes that fit into `buf`, and answers how
+    /// many. It takes no memory.
     fn read_at(&mut self, at: u64, buf: &mut [u8]) -> Result<usize, ReadFailed>
         requires { IsTrue tells → at ≤ length (bytes self.old) }
         ensures count { IsTrue tells → IfOk result (λ n. n ≡ min (length buf.old) (length (bytes self.old) - at)) }
@@ -76,7 +78,8 @@ pub trait Disk: Drop {
     fn create(&mut self, name: &FileName) -> Result<(), DiskErr>
         requires { IsTrue tells → files self.old name.now ≡ None }
         ensures made { IsTrue tells → OnOk result (At name.now (Becomes (Some [])) (files self.old) (files self.new)) }
-        ensures unmade { IsTrue tells → OnErr result (At name.now (KeptOr (Some [])) (files self.old) (files self.new)) }
+        ensures unmade { IsTrue tells
+            → OnErr result (At name.now (KeptOr (Some [])) (files self.old) (files self.new)) }
         ensures crash { IsTrue tells → Passes (At name.now (KeptOr (Some []))) (past self.old) (past self.new) }
         ensures opened { IsTrue tells → (n : Name) → n ≢ name.now → opened self.new n ≡ opened self.old n }
         ensures closed { IsTrue tells → OnOk result (opened self.new name.now ≡ 0) }
@@ -87,10 +90,14 @@ pub trait Disk: Drop {
     /// Writes bytes at a place of a file that is neither past its end nor below its opened length. After `Fault` the
     /// range, and all past the old end, may hold any bytes, up to the size that the write would have given.
     fn write(&mut self, name: &FileName, at: u64, bytes: &[u8]) -> Result<(), DiskErr>
-        requires { IsTrue tells → HasFile (files self.old) name.now (λ b. (opened self.old name.now ≤ at) × (at ≤ length b)) }
-        ensures written { IsTrue tells → OnOk result (At name.now (Overwritten at bytes.now) (files self.old) (files self.new)) }
-        ensures torn { IsTrue tells → OnErr result (At name.now (Torn at (length bytes.now)) (files self.old) (files self.new)) }
-        ensures crash { IsTrue tells → Passes (At name.now (Torn at (length bytes.now))) (past self.old) (past self.new) }
+        requires { IsTrue tells
+            → HasFile (files self.old) name.now (λ b. (opened self.old name.now ≤ at) × (at ≤ length b)) }
+        ensures written { IsTrue tells
+            → OnOk result (At name.now (Overwritten at bytes.now) (files self.old) (files self.new)) }
+        ensures torn { IsTrue tells
+            → OnErr result (At name.now (Torn at (length bytes.now)) (files self.old) (files self.new)) }
+        ensures crash { IsTrue tells
+            → Passes (At name.now (Torn at (length bytes.now))) (past self.old) (past self.new) }
         ensures opened { IsTrue tells → opened self.new ≡ opened self.old }
         ensures fits { OnOk result (at + length bytes.now < 2 ^ 64) }
         ensures faults { faults self.old ≤ faults self.new }
@@ -100,8 +107,10 @@ pub trait Disk: Drop {
     /// Reads from a place of a file that isn't past its end all bytes that fit into `buf`, and answers how many.
     fn read(&mut self, name: &FileName, at: u64, buf: &mut [u8]) -> Result<usize, DiskErr>
         requires { IsTrue tells → HasFile (files self.old) name.now (λ b. at ≤ length b) }
-        ensures count { IsTrue tells → (b : List ℕ) → files self.old name.now ≡ Some b → IfOk result (λ n. n ≡ min (length buf.old) (length b - at)) }
-        ensures front { IsTrue tells → (b : List ℕ) → files self.old name.now ≡ Some b → IfOk result (λ n. take n buf.new ≡ take n (drop at b)) }
+        ensures count { IsTrue tells → (b : List ℕ) → files self.old name.now ≡ Some b
+            → IfOk result (λ n. n ≡ min (length buf.old) (length b - at)) }
+        ensures front { IsTrue tells → (b : List ℕ) → files self.old name.now ≡ Some b
+            → IfOk result (λ n. take n buf.new ≡ take n (drop at b)) }
         ensures fits { IfOk result (λ n. n ≤ length buf.old) }
         ensures same { IsTrue tells → files self.new ≡ files self.old }
         ensures crash { IsTrue tells → Passes (λ a b. b ≡ a) (past self.old) (past self.new) }
@@ -121,17 +130,19 @@ pub trait Disk: Drop {
     /// Cuts a file to a length that is neither past its size nor below its opened length. After `Fault` the file is as
     /// before or cut.
     fn cut(&mut self, name: &FileName, len: u64) -> Result<(), DiskErr>
-        requires { IsTrue tells → HasFile (files self.old) name.now (λ b. (opened self.old name.now ≤ len) × (len ≤ length b)) }
+        requires { IsTrue tells
+            → HasFile (files self.old) name.now (λ b. (opened self.old name.now ≤ len) × (len ≤ length b)) }
         ensures cut { IsTrue tells → OnOk result (At name.now (Cut len) (files self.old) (files self.new)) }
-        ensures uncut { IsTrue tells → OnErr result ((files self.new ≡ files self.old) ⊎ At name.now (Cut len) (files self.old) (files self.new)) }
+        ensures uncut { IsTrue tells → OnErr result
+            ((files self.new ≡ files self.old) ⊎ At name.now (Cut len) (files self.old) (files self.new)) }
         ensures crash { IsTrue tells → Passes (At name.now (Frayed len)) (past self.old) (past self.new) }
         ensures opened { IsTrue tells → opened self.new ≡ opened self.old }
         ensures faults { faults self.old ≤ faults self.new }
         ensures cause { IsErr result → Rose (faults self.old) (faults self.new) }
         ensures no_memory { IsErrOf result DiskErr.Memory → ⊥ };
 
-    /// Makes what a read gives of this name, its absence too, what every later crash leaves until the name changes again.
-    /// After `Fault` nothing is known to be synced.
+    /// Makes what a read gives of this name, its absence too, what every later crash leaves until the name changes
+    /// again. After `Fault` nothing is known to be synced.
     fn sync(&mut self, name: &FileName) -> Result<(), DiskErr>
         ensures durable { IsTrue tells → OnOk result (Only (past self.new) name.now (files self.old name.now)) }
         ensures same { IsTrue tells → files self.new ≡ files self.old }
@@ -141,10 +152,11 @@ pub trait Disk: Drop {
         ensures cause { IsErr result → Rose (faults self.old) (faults self.new) }
         ensures no_memory { IsErrOf result DiskErr.Memory → ⊥ };
 
-    /// Syncs each of these names, in no order that a crash could tell: as `sync` of each does. After `Fault` none of them
-    /// is known to be synced. A disk may write a body of its own that syncs many of them at once.
+    /// Syncs each of these names, in no order that a crash could tell: as `sync` of each does. After `Fault` none of
+    /// them is known to be synced. A disk may write a body of its own that syncs many of them at once.
     fn sync_each(&mut self, names: &[FileName]) -> Result<(), DiskErr>
-        ensures durable { IsTrue tells → OnOk result (All (λ name. Only (past self.new) name (files self.old name)) names.now) }
+        ensures durable { IsTrue tells
+            → OnOk result (All (λ name. Only (past self.new) name (files self.old name)) names.now) }
         ensures same { IsTrue tells → files self.new ≡ files self.old }
         ensures crash { IsTrue tells → Passes (λ a b. b ≡ a) (past self.old) (past self.new) }
         ensures opened { IsTrue tells → opened self.new ≡ opened self.old }
@@ -158,8 +170,8 @@ pub trait Disk: Drop {
         Ok(())
     }
 
-    /// Removes a file, and sets the name's opened length to 0. Until the next sync a crash may undo it. After `Fault` the
-    /// file is there or absent. A reader of the file keeps its bytes.
+    /// Removes a file, and sets the name's opened length to 0. Until the next sync a crash may undo it. After `Fault`
+    /// the file is there or absent. A reader of the file keeps its bytes.
     fn remove(&mut self, name: &FileName) -> Result<(), DiskErr>
         requires { IsTrue tells → HasFile (files self.old) name.now (λ b. Unit {0}) }
         ensures removed { IsTrue tells → OnOk result (At name.now (Becomes None) (files self.old) (files self.new)) }
@@ -185,7 +197,8 @@ pub trait Disk: Drop {
     /// becomes at least `len`.
     fn open_file(&mut self, name: &FileName, len: u64) -> Result<Self::Reader, DiskErr>
         requires { IsTrue tells → HasFile (files self.old) name.now (λ b. len ≤ length b) }
-        ensures reader { IsTrue tells → IfOk result (λ r. IsTrue Self.Reader.tells × HasFile (files self.old) name.now (λ b. Self.Reader.bytes r ≡ take len b)) }
+        ensures reader { IsTrue tells → IfOk result (λ r. IsTrue Self.Reader.tells
+            × HasFile (files self.old) name.now (λ b. Self.Reader.bytes r ≡ take len b)) }
         ensures fresh { IfOk result (λ r. Self.Reader.faults r ≡ 0) }
         ensures same { IsTrue tells → files self.new ≡ files self.old }
         ensures crash { IsTrue tells → Passes (λ a b. b ≡ a) (past self.old) (past self.new) }

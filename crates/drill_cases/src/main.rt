@@ -1,5 +1,6 @@
-//! Cases of drills, one a line of standard input: its kind, the hours and, of a feed, the variable. What comes of each is written as a line
-//! or more. `interop/drill_cases` makes the cases and the lines that are wanted, which are compared with this program's.
+//! Cases of drills, one a line of standard input: its kind, the hours and, of a feed, the variable. What comes of each
+//! is written as a line or more. `interop/drill_cases` makes the cases and the lines that are wanted, which are
+//! compared with this program's.
 #![tactic(auto)]
 
 use anyhow::{Context, Result};

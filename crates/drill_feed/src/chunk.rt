@@ -19,8 +19,8 @@ use std::alloc::{AllocError, Global};
 const YEAR: i32 = 2024;
 
 impl Drill {
-    /// The bytes of a variable's feed: the stream of one chunk, its header and then its samples, and nothing else. One buffer is kept for the
-    /// message of each sample, so that beside it only the bytes themselves take memory.
+    /// The bytes of a variable's feed: the stream of one chunk, its header and then its samples, and nothing else. One
+    /// buffer is kept for the message of each sample, so that beside it only the bytes themselves take memory.
     pub fn chunk(self, alloc: Global, variable: u32) -> Result<Vec<u8>, AllocError>
         requires { variable < VARIABLES }
         ensures bytes { IfOk result (λ bytes. bytes.items ≡ chunk_text self.hours variable) }

@@ -15,8 +15,8 @@ pub const DOORS: u32 = 2;
 const REPLY_ROOM: usize = 128;
 
 impl Drill {
-    /// A door by which the feeds of two variables come, first the one of the lesser number: the first and the second by door 0, the third
-    /// and the fourth by door 1. No call of it or of its links fails.
+    /// A door by which the feeds of two variables come, first the one of the lesser number: the first and the second by
+    /// door 0, the third and the fourth by door 1. No call of it or of its links fails.
     pub fn door(self, alloc: Global, number: u32) -> Result<ListDoor<MemLink>, AllocError>
         requires { number < DOORS }
         ensures { IfOk result (λ door. door ≡ feed_door self.hours number) }

@@ -13,8 +13,8 @@ pub struct Tiers {
 }
 
 impl Drill {
-    /// The files in the end, under the shipped settings. Each hour of a variable is a file of the short store, until it moves into that of
-    /// its day in the medium store, and this into that of the year in the long one.
+    /// The files in the end, under the shipped settings. Each hour of a variable is a file of the short store, until it
+    /// moves into that of its day in the medium store, and this into that of the year in the long one.
     pub fn tiers(self) -> Tiers
         ensures { AreTiers self.hours result }
     {
@@ -32,8 +32,8 @@ impl Drill {
     }
 }
 
-// How many of so many ripe partitions are left once no move is due. A move is due where as many are ripe as the store holds, and takes as
-// many as it gathers.
+// How many of so many ripe partitions are left once no move is due. A move is due where as many are ripe as the store
+// holds, and takes as many as it gathers.
 fn left_of(ripe: u32, hold: u32, gather: u32) -> u32
     requires hold { 1 ≤ hold }
     requires gather { 1 ≤ gather }

@@ -1,5 +1,6 @@
 // The durable part of a flush: the files are written and synced, and only then one commit lists them.
-ghost use Rattle.std.specs.Prelude.{◌≡◌, ◌≢◌, ◌≤◌, ◌<◌, ◌*◌, ℕ, List, All, length, map, IfOk, OnOk, OnErr, IsErrOf, IsTrue, true, false};
+ghost use Rattle.std.specs.Prelude.{◌≡◌, ◌≢◌, ◌≤◌, ◌<◌, ◌*◌, ℕ, List, All, length, map, IfOk, OnOk, OnErr, IsErrOf};
+ghost use Rattle.std.specs.Prelude.{IsTrue, true, false};
 ghost use Rattle.disk_model.specs.Files.{Name, Rose};
 ghost use Rattle.disk_model.specs.Past.{Passes};
 ghost use Rattle.gate_journal.specs.Generations.{IsOwn};
@@ -35,12 +36,13 @@ fn changes_of(alloc: Global, pieces: &[Piece]) -> Result<Vec<Change>, AllocError
         .collect(alloc)
 }
 
-/// Writes the pieces to their files, syncs each, and then lists all of them in one commit of the manifest. They go on from what is ahead
-/// of what is held, as files in limbo are; where nothing is, that is what is held. A crash at any moment of the call leaves what was held
-/// before it, or that with the files of all the pieces.
+/// Writes the pieces to their files, syncs each, and then lists all of them in one commit of the manifest. They go on
+/// from what is ahead of what is held, as files in limbo are; where nothing is, that is what is held. A crash at any
+/// moment of the call leaves what was held before it, or that with the files of all the pieces.
 ///
-/// After `Fault` what was held is stored still, or, where the manifest isn't sound, the store is in doubt whether the commit was
-/// made. After `Memory` what was held is stored still. `Fault` comes only where the disk's count of faults rose in the call.
+/// After `Fault` what was held is stored still, or, where the manifest isn't sound, the store is in doubt whether
+/// the commit was made. After `Memory` what was held is stored still. `Fault` comes only where the disk's count
+/// of faults rose in the call.
 pub fn flush_pieces<D: Disk>(
     alloc: Global,
     disk: &mut D,
@@ -54,47 +56,62 @@ pub fn flush_pieces<D: Disk>(
     requires rows { All (λ p. p.entry.series < length rows.now) pieces.now }
     requires few { length pieces.now * SET_BYTES ≤ GREATEST_BATCH }
     requires stored { IsTrue D.tells → (catalogue : JournalState) × (held : Held) × (ahead : Held) × (fs : List Filed)
-        × HasCopied catalogue manifest.old (store, rows.now) (D.files disk.old) (D.opened disk.old) (D.past disk.old) held ahead
+        × HasCopied catalogue manifest.old (store, rows.now) (D.files disk.old) (D.opened disk.old)
+        (D.past disk.old) held ahead
         × MakesFiles manifest.old.granularity ahead pieces.now fs }
 
     ensures any_moment { IsTrue D.tells → (catalogue : JournalState) (held ahead : Held) (fs : List Filed)
-        → HasCopied catalogue manifest.old (store, rows.now) (D.files disk.old) (D.opened disk.old) (D.past disk.old) held ahead
+        → HasCopied catalogue manifest.old (store, rows.now) (D.files disk.old) (D.opened disk.old)
+        (D.past disk.old) held ahead
         → MakesFiles manifest.old.granularity ahead pieces.now fs
         → Passes (HoldsEither manifest.old.granularity held (with_files held fs)) (D.past disk.old) (D.past disk.new) }
     ensures made { IsTrue D.tells → (catalogue : JournalState) (held ahead : Held) (fs : List Filed)
-        → HasCopied catalogue manifest.old (store, rows.now) (D.files disk.old) (D.opened disk.old) (D.past disk.old) held ahead
+        → HasCopied catalogue manifest.old (store, rows.now) (D.files disk.old) (D.opened disk.old)
+        (D.past disk.old) held ahead
         → MakesFiles manifest.old.granularity ahead pieces.now fs
-        → OnOk result (IsStoredAs catalogue manifest.new (store, rows.now) (D.files disk.new) (D.opened disk.new) (D.past disk.new) (with_files held fs)) }
+        → OnOk result (IsStoredAs catalogue manifest.new (store, rows.now) (D.files disk.new) (D.opened disk.new)
+        (D.past disk.new) (with_files held fs)) }
     ensures unmade { IsTrue D.tells → (catalogue : JournalState) (held ahead : Held) (fs : List Filed)
-        → HasCopied catalogue manifest.old (store, rows.now) (D.files disk.old) (D.opened disk.old) (D.past disk.old) held ahead
+        → HasCopied catalogue manifest.old (store, rows.now) (D.files disk.old) (D.opened disk.old)
+        (D.past disk.old) held ahead
         → MakesFiles manifest.old.granularity ahead pieces.now fs
         → OnErr result (manifest.new.journal.sound ≡ true
-        → IsStoredAs catalogue manifest.new (store, rows.now) (D.files disk.new) (D.opened disk.new) (D.past disk.new) held) }
+        → IsStoredAs catalogue manifest.new (store, rows.now) (D.files disk.new)
+        (D.opened disk.new) (D.past disk.new) held) }
     ensures in_doubt { IsTrue D.tells → (catalogue : JournalState) (held ahead : Held) (fs : List Filed)
-        → HasCopied catalogue manifest.old (store, rows.now) (D.files disk.old) (D.opened disk.old) (D.past disk.old) held ahead
+        → HasCopied catalogue manifest.old (store, rows.now) (D.files disk.old) (D.opened disk.old)
+        (D.past disk.old) held ahead
         → MakesFiles manifest.old.granularity ahead pieces.now fs
         → OnErr result (manifest.new.journal.sound ≡ false
-        → IsDoubtedAs catalogue manifest.new (store, rows.now) (D.files disk.new) (D.opened disk.new) (D.past disk.new) held (with_files held fs)) }
+        → IsDoubtedAs catalogue manifest.new (store, rows.now) (D.files disk.new) (D.opened disk.new)
+        (D.past disk.new) held (with_files held fs)) }
 
     ensures ahead { IsTrue D.tells → (catalogue : JournalState) (held ahead : Held) (fs : List Filed)
-        → HasCopied catalogue manifest.old (store, rows.now) (D.files disk.old) (D.opened disk.old) (D.past disk.old) held ahead
+        → HasCopied catalogue manifest.old (store, rows.now) (D.files disk.old) (D.opened disk.old)
+        (D.past disk.old) held ahead
         → MakesFiles manifest.old.granularity ahead pieces.now fs
         → LeavesListed (listing_of ahead) (D.files disk.old) (D.files disk.new) (D.past disk.old) (D.past disk.new) }
     ensures long { IsTrue D.tells → (catalogue : JournalState) (held ahead : Held) (fs : List Filed)
-        → HasCopied catalogue manifest.old (store, rows.now) (D.files disk.old) (D.opened disk.old) (D.past disk.old) held ahead
+        → HasCopied catalogue manifest.old (store, rows.now) (D.files disk.old) (D.opened disk.old)
+        (D.past disk.old) held ahead
         → MakesFiles manifest.old.granularity ahead pieces.now fs
         → AreLong ahead (D.files disk.new) }
-    ensures listed { IsTrue D.tells → LeavesListed ((store, rows.now), manifest.old.entries) (D.files disk.old) (D.files disk.new) (D.past disk.old)
-        (D.past disk.new) }
-    ensures elsewhere { IsTrue D.tells → (n : Name) → n.0 ≢ store → (IsOwn manifest.old.journal.name n → ⊥) → D.files disk.new n ≡ D.files disk.old n }
-    ensures others { IsTrue D.tells → (n : Name) → IsOfNone (store, rows.now) pieces.now n → (IsOwn manifest.old.journal.name n → ⊥)
+    ensures listed { IsTrue D.tells → LeavesListed ((store, rows.now), manifest.old.entries)
+        (D.files disk.old) (D.files disk.new) (D.past disk.old) (D.past disk.new) }
+    ensures elsewhere { IsTrue D.tells → (n : Name) → n.0 ≢ store → (IsOwn manifest.old.journal.name n → ⊥)
         → D.files disk.new n ≡ D.files disk.old n }
-    ensures frame { IsTrue D.tells → Passes (Beside store manifest.old.journal.name) (D.past disk.old) (D.past disk.new) }
+    ensures others { IsTrue D.tells → (n : Name) → IsOfNone (store, rows.now) pieces.now n
+        → (IsOwn manifest.old.journal.name n → ⊥)
+        → D.files disk.new n ≡ D.files disk.old n }
+    ensures frame { IsTrue D.tells
+        → Passes (Beside store manifest.old.journal.name) (D.past disk.old) (D.past disk.new) }
     ensures no_more { IsTrue D.tells → (n : Name) → D.opened disk.new n ≤ D.opened disk.old n }
     ensures entries { OnOk result (manifest.new.entries ≡ all_changed manifest.old.entries (map set_of pieces.now)) }
     ensures unchanged { OnErr result (manifest.new.entries ≡ manifest.old.entries) }
-    ensures next { OnErr result (manifest.new.journal.sound ≡ false → manifest.new.next ≡ all_changed manifest.old.entries (map set_of pieces.now)) }
-    ensures state { (manifest.new.granularity ≡ manifest.old.granularity) × (manifest.new.journal.name ≡ manifest.old.journal.name) }
+    ensures next { OnErr result (manifest.new.journal.sound ≡ false
+        → manifest.new.next ≡ all_changed manifest.old.entries (map set_of pieces.now)) }
+    ensures state { (manifest.new.granularity ≡ manifest.old.granularity)
+        × (manifest.new.journal.name ≡ manifest.old.journal.name) }
     ensures sound { OnOk result (manifest.new.journal.sound ≡ true) }
     ensures memory { IsErrOf result DiskErr.Memory → manifest.new.journal.sound ≡ true }
     ensures faults { D.faults disk.old ≤ D.faults disk.new }

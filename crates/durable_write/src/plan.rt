@@ -1,9 +1,10 @@
 // The planning of a flush: which bytes go to which files. It stands apart from any disk.
 //
-// A manifest that somebody damaged may list lengths and counts of any numbers. Where a file's length or its count of samples wouldn't fit,
-// a header's line had 4 GiB, or more files would be listed than one commit takes, the answer is want of memory; what the archiver wrote
-// leads to none of these.
-ghost use Rattle.std.specs.Prelude.{IsTrue, ◌≡◌, ◌≢◌, All, map, ◌≤◌, ◌<◌, ◌+◌, ◌++◌, [], ◌∷◌, Option, length, IfSome, IfOk, OnOk, FitsSigned, if◌then◌else◌};
+// A manifest that somebody damaged may list lengths and counts of any numbers. Where a file's length or its count of
+// samples wouldn't fit, a header's line had 4 GiB, or more files would be listed than one commit takes, the answer is
+// want of memory; what the archiver wrote leads to none of these.
+ghost use Rattle.std.specs.Prelude.{IsTrue, ◌≡◌, ◌≢◌, All, map, ◌≤◌, ◌<◌, ◌+◌, ◌++◌, [], ◌∷◌, Option, length, IfSome};
+ghost use Rattle.std.specs.Prelude.{IfOk, OnOk, FitsSigned, if◌then◌else◌};
 ghost use Rattle.std.specs.Int.{w32};
 ghost use Rattle.std.specs.List.Sorted.{IsPermutation, IsNonDecreasingBy};
 ghost use Rattle.series_model.specs.Series.{IsRising};
@@ -14,7 +15,9 @@ ghost use Rattle.partition_names.specs.Part.{IsPart};
 ghost use Rattle.store_manifest.specs.declared.entry.Entry.{Entry as EntryValue};
 ghost use Rattle.durable_write.specs.Held.{Held};
 ghost use Rattle.durable_write.specs.Flush.{IsSampleOf, IsOfRow, CanFlush, header_of, HoldsBoth, Flushes};
-ghost use Rattle.durable_write.specs.Plan.{IsAppended, GoesTo, OfLast, IsLastPiece, side_of, IsBegun, IsPushed, IsExtended, IsDraft, IsTarget, Adds, IsLastOf, later_of, last_with, PlansOn, KeepsRows};
+ghost use Rattle.durable_write.specs.Plan.{IsAppended, GoesTo, OfLast, IsLastPiece, side_of, IsBegun, IsPushed};
+ghost use Rattle.durable_write.specs.Plan.{IsExtended, IsDraft, IsTarget, Adds, IsLastOf, later_of, last_with, PlansOn};
+ghost use Rattle.durable_write.specs.Plan.{KeepsRows};
 
 use crate::piece::Piece;
 use arch_time::{END, START, split};
@@ -63,8 +66,9 @@ pub(crate) enum Destination {
     New,
 }
 
-/// Plans the flush of a batch: the pieces that its samples make, each file's once, in the order of rows and time. `limbo` has the entries
-/// of files that aren't listed but are on the disk still: where a row's last file is one of them, its samples go on behind that.
+/// Plans the flush of a batch: the pieces that its samples make, each file's once, in the order of rows and time.
+/// `limbo` has the entries of files that aren't listed but are on the disk still: where a row's last file is one of
+/// them, its samples go on behind that.
 pub fn plan_flush(
     alloc: Global,
     rows: &[Row],
@@ -75,7 +79,8 @@ pub fn plan_flush(
     requires can { CanFlush rows.now batch.now }
     requires listed { All (λ e. IsPart manifest.now.granularity e.part) manifest.now.entries }
     requires limbo { All (λ (e : EntryValue). IsPart manifest.now.granularity e.part) limbo.now }
-    ensures flushes { IfOk result (λ plan. (held : Held) → HoldsBoth manifest.now.granularity rows.now manifest.now.entries limbo.now held
+    ensures flushes { IfOk result (λ plan. (held : Held)
+        → HoldsBoth manifest.now.granularity rows.now manifest.now.entries limbo.now held
         → Flushes manifest.now.granularity held batch.now plan.pieces.items plan.count) }
     ensures parts { IfOk result (λ plan. All (λ p. IsPart manifest.now.granularity p.entry.part) plan.pieces.items) }
     ensures rows { IfOk result (λ plan. All (λ p. p.entry.series < length rows.now) plan.pieces.items) }
@@ -123,7 +128,8 @@ fn add_part(
     requires draft { IsDraft manifest.now.granularity part.now.row pieces.old.items }
     ensures draft { OnOk result (IsDraft manifest.now.granularity part.now.row pieces.new.items) }
     ensures few { IfOk result (λ n. n ≤ length part.now.samples) }
-    ensures added { IfOk result (λ n. PlansOn manifest.now.granularity rows.now manifest.now.entries limbo.now part.now n pieces.old.items pieces.new.items) }
+    ensures added { IfOk result (λ n. PlansOn manifest.now.granularity rows.now manifest.now.entries limbo.now
+        part.now n pieces.old.items pieces.new.items) }
 {
     let listed = last_file(manifest, limbo, part.row);
     let target = Target {
@@ -138,7 +144,8 @@ fn add_part(
 
 // The last entry of a series, of those that are listed and those in limbo.
 fn last_file(manifest: &Manifest, limbo: &[Entry], series: u32) -> Option<Entry>
-    ensures { (last : Option EntryValue) × IsLastOf manifest.now.entries series last × (result ≡ last_with series last limbo.now) }
+    ensures { (last : Option EntryValue) × IsLastOf manifest.now.entries series last
+        × (result ≡ last_with series last limbo.now) }
 {
     let mut last = last_listed(manifest, series);
     for entry in limbo {
@@ -205,7 +212,8 @@ fn add_sample(
     requires draft { IsDraft target.now.granularity target.now.series pieces.old.items }
     requires target { IsTarget target.now }
     ensures draft { OnOk result (IsDraft target.now.granularity target.now.series pieces.new.items) }
-    ensures added { IfOk result (λ taken. Adds target.now row.now (sample.now ∷ []) (if taken then 1 else 0) pieces.old.items pieces.new.items) }
+    ensures added { IfOk result (λ taken.
+        Adds target.now row.now (sample.now ∷ []) (if taken then 1 else 0) pieces.old.items pieces.new.items) }
 {
     match find_destination(target, sample.t, pieces) {
         Destination::Late => return Ok(false),

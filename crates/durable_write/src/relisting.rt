@@ -25,34 +25,45 @@ pub fn relist<D: Disk>(
     requires sound { IsTrue manifest.old.journal.sound }
     requires follow { AllCanFollow manifest.old.granularity manifest.old.entries changes.now }
     requires few { length (batch_of changes.now) ≤ GREATEST_BATCH }
-    requires can { IsTrue D.tells → (catalogue : JournalState) × (shelf : Shelf) × (held : Held) × (next : Held)
-        × CanRelist catalogue manifest.old shelf (D.files disk.old) (D.opened disk.old) (D.past disk.old) held next changes.now }
+    requires can { IsTrue D.tells
+        → (catalogue : JournalState) × (shelf : Shelf) × (held : Held) × (next : Held) × CanRelist catalogue
+        manifest.old shelf (D.files disk.old) (D.opened disk.old) (D.past disk.old) held next changes.now }
 
     ensures any_moment { IsTrue D.tells → (catalogue : JournalState) (shelf : Shelf) (held next : Held)
-        → CanRelist catalogue manifest.old shelf (D.files disk.old) (D.opened disk.old) (D.past disk.old) held next changes.now
+        → CanRelist catalogue manifest.old shelf (D.files disk.old) (D.opened disk.old)
+        (D.past disk.old) held next changes.now
         → Passes (HoldsEither manifest.old.granularity held next) (D.past disk.old) (D.past disk.new) }
     ensures made { IsTrue D.tells → (catalogue : JournalState) (shelf : Shelf) (held next : Held)
-        → CanRelist catalogue manifest.old shelf (D.files disk.old) (D.opened disk.old) (D.past disk.old) held next changes.now
-        → OnOk result (IsStoredAs catalogue manifest.new shelf (D.files disk.new) (D.opened disk.new) (D.past disk.new) next) }
+        → CanRelist catalogue manifest.old shelf (D.files disk.old) (D.opened disk.old)
+        (D.past disk.old) held next changes.now
+        → OnOk result
+        (IsStoredAs catalogue manifest.new shelf (D.files disk.new) (D.opened disk.new) (D.past disk.new) next) }
     ensures unmade { IsTrue D.tells → (catalogue : JournalState) (shelf : Shelf) (held next : Held)
-        → CanRelist catalogue manifest.old shelf (D.files disk.old) (D.opened disk.old) (D.past disk.old) held next changes.now
+        → CanRelist catalogue manifest.old shelf (D.files disk.old) (D.opened disk.old)
+        (D.past disk.old) held next changes.now
         → OnErr result (manifest.new.journal.sound ≡ true
         → IsStoredAs catalogue manifest.new shelf (D.files disk.new) (D.opened disk.new) (D.past disk.new) held) }
     ensures in_doubt { IsTrue D.tells → (catalogue : JournalState) (shelf : Shelf) (held next : Held)
-        → CanRelist catalogue manifest.old shelf (D.files disk.old) (D.opened disk.old) (D.past disk.old) held next changes.now
+        → CanRelist catalogue manifest.old shelf (D.files disk.old) (D.opened disk.old)
+        (D.past disk.old) held next changes.now
         → OnErr result (manifest.new.journal.sound ≡ false
         → IsDoubtedAs catalogue manifest.new shelf (D.files disk.new) (D.opened disk.new) (D.past disk.new) held next) }
-    ensures elsewhere { IsTrue D.tells → (n : Name) → (IsOwn manifest.old.journal.name n → ⊥) → D.files disk.new n ≡ D.files disk.old n }
-    ensures frame { IsTrue D.tells → Passes (AtOwn manifest.old.journal.name Anything) (D.past disk.old) (D.past disk.new) }
-    ensures opened { IsTrue D.tells → (n : Name) → (IsOwn manifest.old.journal.name n → ⊥) → D.opened disk.new n ≡ D.opened disk.old n }
+    ensures elsewhere { IsTrue D.tells → (n : Name) → (IsOwn manifest.old.journal.name n → ⊥)
+        → D.files disk.new n ≡ D.files disk.old n }
+    ensures frame { IsTrue D.tells
+        → Passes (AtOwn manifest.old.journal.name Anything) (D.past disk.old) (D.past disk.new) }
+    ensures opened { IsTrue D.tells → (n : Name) → (IsOwn manifest.old.journal.name n → ⊥)
+        → D.opened disk.new n ≡ D.opened disk.old n }
     ensures no_more { IsTrue D.tells → (n : Name) → D.opened disk.new n ≤ D.opened disk.old n }
     ensures entries { OnOk result (manifest.new.entries ≡ all_changed manifest.old.entries changes.now) }
     ensures unchanged { OnErr result (manifest.new.entries ≡ manifest.old.entries) }
-    ensures next { OnErr result (manifest.new.journal.sound ≡ false → manifest.new.next ≡ all_changed manifest.old.entries changes.now) }
+    ensures next { OnErr result
+        (manifest.new.journal.sound ≡ false → manifest.new.next ≡ all_changed manifest.old.entries changes.now) }
     ensures sound { OnOk result (manifest.new.journal.sound ≡ true) }
     ensures doubt { IsErrOf result DiskErr.Fault → manifest.new.journal.sound ≡ false }
     ensures memory { IsErrOf result DiskErr.Memory → manifest.new.journal.sound ≡ true }
-    ensures state { (manifest.new.granularity ≡ manifest.old.granularity) × (manifest.new.journal.name ≡ manifest.old.journal.name) }
+    ensures state { (manifest.new.granularity ≡ manifest.old.granularity)
+        × (manifest.new.journal.name ≡ manifest.old.journal.name) }
     ensures faults { D.faults disk.old ≤ D.faults disk.new }
     ensures cause { IsErrOf result DiskErr.Fault → Rose (D.faults disk.old) (D.faults disk.new) }
 {

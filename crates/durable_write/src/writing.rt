@@ -1,6 +1,7 @@
-// Writes what a flush is to list: each file grows behind its listed bytes, or is made anew where nothing is listed. Once all are
-// written, each is synced.
-ghost use Rattle.std.specs.Prelude.{◌≡◌, ◌≢◌, ◌≤◌, ◌<◌, ◌++◌, ℕ, List, All, length, map, take, IfOk, OnOk, IsErrOf, IsTrue, Some};
+// Writes what a flush is to list: each file grows behind its listed bytes, or is made anew where nothing is listed.
+// Once all are written, each is synced.
+ghost use Rattle.std.specs.Prelude.{◌≡◌, ◌≢◌, ◌≤◌, ◌<◌, ◌++◌, ℕ, List, All, length, map, take, IfOk, OnOk, IsErrOf};
+ghost use Rattle.std.specs.Prelude.{IsTrue, Some};
 ghost use Rattle.disk_model.specs.Files.{Name, Rose, At, HasFile};
 ghost use Rattle.disk_model.specs.Past.{Passes};
 ghost use Rattle.store_files.specs.Fronts.{Keeps};
@@ -36,7 +37,8 @@ pub(crate) fn set_name(
 
 // Writes bytes behind the listed ones, of which there may be none.
 fn go_on<D: Disk>(disk: &mut D, name: &FileName, len: u64, bytes: &[u8]) -> Result<(), DiskErr>
-    requires { IsTrue D.tells → HasFile (D.files disk.old) name.now (λ b. (D.opened disk.old name.now ≤ len) × (len ≤ length b)) }
+    requires { IsTrue D.tells
+        → HasFile (D.files disk.old) name.now (λ b. (D.opened disk.old name.now ≤ len) × (len ≤ length b)) }
     ensures grown { IsTrue D.tells → (b : List ℕ) → D.files disk.old name.now ≡ Some b
         → OnOk result (D.files disk.new name.now ≡ Some (take len b ++ bytes.now)) }
     ensures long { IsTrue D.tells → HasFile (D.files disk.new) name.now (λ b. len ≤ length b) }
@@ -75,16 +77,20 @@ fn write_piece<D: Disk>(
 ) -> Result<(), DiskErr>
     requires row { piece.now.entry.series < length rows.now }
     requires can { IsTrue D.tells → (g : Granularity) × (held : Held) × (f : Filed)
-        × IsSafe g (store, rows.now) (D.files disk.old) (D.opened disk.old) (D.past disk.old) held × Grows g held piece.now f }
+        × IsSafe g (store, rows.now) (D.files disk.old) (D.opened disk.old) (D.past disk.old) held
+        × Grows g held piece.now f }
     ensures written { IsTrue D.tells → (g : Granularity) (held : Held) (f : Filed)
-        → IsSafe g (store, rows.now) (D.files disk.old) (D.opened disk.old) (D.past disk.old) held → Grows g held piece.now f
+        → IsSafe g (store, rows.now) (D.files disk.old) (D.opened disk.old) (D.past disk.old) held
+        → Grows g held piece.now f
         → OnOk result (IsWritten held (D.files disk.new) (D.opened disk.new) f) }
     ensures still { IsTrue D.tells → (g : Granularity) (held : Held) (f : Filed)
-        → IsSafe g (store, rows.now) (D.files disk.old) (D.opened disk.old) (D.past disk.old) held → Grows g held piece.now f
-        → AreLong held (D.files disk.new) }
-    ensures kept { IsTrue D.tells → At (file_of (store, rows.now) piece.now.entry) (Keeps (start_of piece.now.at)) (D.files disk.old) (D.files disk.new) }
-    ensures any_moment { IsTrue D.tells → Passes (At (file_of (store, rows.now) piece.now.entry) (Keeps (start_of piece.now.at))) (D.past disk.old)
-        (D.past disk.new) }
+        → IsSafe g (store, rows.now) (D.files disk.old) (D.opened disk.old) (D.past disk.old) held
+        → Grows g held piece.now f → AreLong held (D.files disk.new) }
+    ensures kept { IsTrue D.tells → At (file_of (store, rows.now) piece.now.entry) (Keeps (start_of piece.now.at))
+        (D.files disk.old) (D.files disk.new) }
+    ensures any_moment { IsTrue D.tells
+        → Passes (At (file_of (store, rows.now) piece.now.entry) (Keeps (start_of piece.now.at)))
+        (D.past disk.old) (D.past disk.new) }
     ensures no_more { IsTrue D.tells → (n : Name) → D.opened disk.new n ≤ D.opened disk.old n }
     ensures faults { D.faults disk.old ≤ D.faults disk.new }
     ensures cause { IsErrOf result DiskErr.Fault → Rose (D.faults disk.old) (D.faults disk.new) }
@@ -107,21 +113,27 @@ fn write_pieces<D: Disk>(
 ) -> Result<(), DiskErr>
     requires rows { All (λ p. p.entry.series < length rows.now) pieces.now }
     requires can { IsTrue D.tells → (g : Granularity) × (held : Held) × (fs : List Filed)
-        × IsSafe g (store, rows.now) (D.files disk.old) (D.opened disk.old) (D.past disk.old) held × MakesFiles g held pieces.now fs }
+        × IsSafe g (store, rows.now) (D.files disk.old) (D.opened disk.old) (D.past disk.old) held
+        × MakesFiles g held pieces.now fs }
     ensures any_moment { IsTrue D.tells → (g : Granularity) (held : Held) (fs : List Filed)
-        → IsSafe g (store, rows.now) (D.files disk.old) (D.opened disk.old) (D.past disk.old) held → MakesFiles g held pieces.now fs
+        → IsSafe g (store, rows.now) (D.files disk.old) (D.opened disk.old) (D.past disk.old) held
+        → MakesFiles g held pieces.now fs
         → Passes (Behind held) (D.past disk.old) (D.past disk.new) }
     ensures behind { IsTrue D.tells → (g : Granularity) (held : Held) (fs : List Filed)
-        → IsSafe g (store, rows.now) (D.files disk.old) (D.opened disk.old) (D.past disk.old) held → MakesFiles g held pieces.now fs
+        → IsSafe g (store, rows.now) (D.files disk.old) (D.opened disk.old) (D.past disk.old) held
+        → MakesFiles g held pieces.now fs
         → Behind held (D.files disk.old) (D.files disk.new) }
     ensures still { IsTrue D.tells → (g : Granularity) (held : Held) (fs : List Filed)
-        → IsSafe g (store, rows.now) (D.files disk.old) (D.opened disk.old) (D.past disk.old) held → MakesFiles g held pieces.now fs
+        → IsSafe g (store, rows.now) (D.files disk.old) (D.opened disk.old) (D.past disk.old) held
+        → MakesFiles g held pieces.now fs
         → AreLong held (D.files disk.new) }
     ensures written { IsTrue D.tells → (g : Granularity) (held : Held) (fs : List Filed)
-        → IsSafe g (store, rows.now) (D.files disk.old) (D.opened disk.old) (D.past disk.old) held → MakesFiles g held pieces.now fs
+        → IsSafe g (store, rows.now) (D.files disk.old) (D.opened disk.old) (D.past disk.old) held
+        → MakesFiles g held pieces.now fs
         → OnOk result (All (IsWritten held (D.files disk.new) (D.opened disk.new)) fs) }
     ensures elsewhere { IsTrue D.tells → (n : Name) → n.0 ≢ store → D.files disk.new n ≡ D.files disk.old n }
-    ensures others { IsTrue D.tells → (n : Name) → IsOfNone (store, rows.now) pieces.now n → D.files disk.new n ≡ D.files disk.old n }
+    ensures others { IsTrue D.tells → (n : Name) → IsOfNone (store, rows.now) pieces.now n
+        → D.files disk.new n ≡ D.files disk.old n }
     ensures no_more { IsTrue D.tells → (n : Name) → D.opened disk.new n ≤ D.opened disk.old n }
     ensures faults { D.faults disk.old ≤ D.faults disk.new }
     ensures cause { IsErrOf result DiskErr.Fault → Rose (D.faults disk.old) (D.faults disk.new) }
@@ -163,7 +175,8 @@ fn sync_files<D: Disk>(
     pieces: &[Piece],
 ) -> Result<(), DiskErr>
     requires { All (λ p. p.entry.series < length rows.now) pieces.now }
-    ensures durable { IsTrue D.tells → OnOk result (All (IsSynced (store, rows.now) (D.files disk.old) (D.past disk.new)) pieces.now) }
+    ensures durable { IsTrue D.tells
+        → OnOk result (All (IsSynced (store, rows.now) (D.files disk.old) (D.past disk.new)) pieces.now) }
     ensures same { IsTrue D.tells → D.files disk.new ≡ D.files disk.old }
     ensures any_moment { IsTrue D.tells → Passes (λ a b. b ≡ a) (D.past disk.old) (D.past disk.new) }
     ensures opened { IsTrue D.tells → D.opened disk.new ≡ D.opened disk.old }
@@ -175,9 +188,9 @@ fn sync_files<D: Disk>(
     Ok(())
 }
 
-/// Writes the pieces to their files, and then syncs each file: so a folder that gets many new files is synced with the first of
-/// them. It lists nothing: what was held is still held, at every moment of the call and after each answer. At `Ok` the files with
-/// the pieces are as safe as those that were held.
+/// Writes the pieces to their files, and then syncs each file: so a folder that gets many new files is synced with the
+/// first of them. It lists nothing: what was held is still held, at every moment of the call and after each answer. At
+/// `Ok` the files with the pieces are as safe as those that were held.
 ///
 /// `Fault` comes only where the disk's count of faults rose in the call.
 pub(crate) fn write_all<D: Disk>(
@@ -189,23 +202,29 @@ pub(crate) fn write_all<D: Disk>(
 ) -> Result<(), DiskErr>
     requires rows { All (λ p. p.entry.series < length rows.now) pieces.now }
     requires can { IsTrue D.tells → (g : Granularity) × (held : Held) × (fs : List Filed)
-        × IsSafe g (store, rows.now) (D.files disk.old) (D.opened disk.old) (D.past disk.old) held × MakesFiles g held pieces.now fs }
+        × IsSafe g (store, rows.now) (D.files disk.old) (D.opened disk.old) (D.past disk.old) held
+        × MakesFiles g held pieces.now fs }
 
     ensures any_moment { IsTrue D.tells → (g : Granularity) (held : Held) (fs : List Filed)
-        → IsSafe g (store, rows.now) (D.files disk.old) (D.opened disk.old) (D.past disk.old) held → MakesFiles g held pieces.now fs
+        → IsSafe g (store, rows.now) (D.files disk.old) (D.opened disk.old) (D.past disk.old) held
+        → MakesFiles g held pieces.now fs
         → Passes (Behind held) (D.past disk.old) (D.past disk.new) }
     ensures behind { IsTrue D.tells → (g : Granularity) (held : Held) (fs : List Filed)
-        → IsSafe g (store, rows.now) (D.files disk.old) (D.opened disk.old) (D.past disk.old) held → MakesFiles g held pieces.now fs
+        → IsSafe g (store, rows.now) (D.files disk.old) (D.opened disk.old) (D.past disk.old) held
+        → MakesFiles g held pieces.now fs
         → Behind held (D.files disk.old) (D.files disk.new) }
     ensures still { IsTrue D.tells → (g : Granularity) (held : Held) (fs : List Filed)
-        → IsSafe g (store, rows.now) (D.files disk.old) (D.opened disk.old) (D.past disk.old) held → MakesFiles g held pieces.now fs
+        → IsSafe g (store, rows.now) (D.files disk.old) (D.opened disk.old) (D.past disk.old) held
+        → MakesFiles g held pieces.now fs
         → AreLong held (D.files disk.new) }
     ensures written { IsTrue D.tells → (g : Granularity) (held : Held) (fs : List Filed)
-        → IsSafe g (store, rows.now) (D.files disk.old) (D.opened disk.old) (D.past disk.old) held → MakesFiles g held pieces.now fs
+        → IsSafe g (store, rows.now) (D.files disk.old) (D.opened disk.old) (D.past disk.old) held
+        → MakesFiles g held pieces.now fs
         → OnOk result (AreSafe (with_files held fs) (D.files disk.new) (D.opened disk.new) (D.past disk.new)) }
 
     ensures elsewhere { IsTrue D.tells → (n : Name) → n.0 ≢ store → D.files disk.new n ≡ D.files disk.old n }
-    ensures others { IsTrue D.tells → (n : Name) → IsOfNone (store, rows.now) pieces.now n → D.files disk.new n ≡ D.files disk.old n }
+    ensures others { IsTrue D.tells → (n : Name) → IsOfNone (store, rows.now) pieces.now n
+        → D.files disk.new n ≡ D.files disk.old n }
     ensures no_more { IsTrue D.tells → (n : Name) → D.opened disk.new n ≤ D.opened disk.old n }
     ensures faults { D.faults disk.old ≤ D.faults disk.new }
     ensures cause { IsErrOf result DiskErr.Fault → Rose (D.faults disk.old) (D.faults disk.new) }

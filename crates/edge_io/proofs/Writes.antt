@@ -17,3 +17,5 @@ front_first a b xs ys (n, bound, p) = (n, omega (arith, length-append xs ys), su
 -- all the first bytes, and then a front of the rest
 pub front_more : (a b c : Option (List ℕ)) (xs ys : List ℕ) → Appends a b xs → AppendsFront b c ys → AppendsFront a c (xs ++ ys)
 front_more a b c xs ys p (n, bound, q) = (length xs + n, omega (arith, length-append xs ys), subst (Appends a c) (sym (take-append-add xs ys n)) (appends_more a b c xs (take n ys) p q))
+
+pub ruleset one_behind_another = (appends_more, front_first, front_more)

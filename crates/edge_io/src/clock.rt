@@ -41,7 +41,8 @@ impl Model for ListClock {
 
     ghost Value = { Listed };
 
-    ghost view = { λ c. record { left = drop c.at c.moments.items; end = c.end; splits = map (λ v. v.items) c.splits.items } };
+    ghost view = { λ c.
+        record { left = drop c.at c.moments.items; end = c.end; splits = map (λ v. v.items) c.splits.items } };
 
     ghost invariant = { λ c. c.at ≤ vec_len c.moments };
 }

@@ -1,10 +1,13 @@
 // A reader of lines.
-ghost use Rattle.std.specs.Prelude.{◌≡◌, ◌≢◌, ◌↔◌, ℕ, ◌+◌, ◌-◌, ◌<◌, ◌≤◌, ◌^◌, List, [], ◌∷◌, ◌++◌, ◌==◌, map, All, Some, None, IfSome, IfNone, IfOk, OnOk, OnErr, IsTrue, MatchOption, length, take, drop, slice_index, vec_len};
+ghost use Rattle.std.specs.Prelude.{◌≡◌, ◌≢◌, ◌↔◌, ℕ, ◌+◌, ◌-◌, ◌<◌, ◌≤◌, ◌^◌, List, [], ◌∷◌, ◌++◌, ◌==◌, map, All};
+ghost use Rattle.std.specs.Prelude.{Some, None, IfSome, IfNone, IfOk, OnOk, OnErr, IsTrue, MatchOption, length, take};
+ghost use Rattle.std.specs.Prelude.{drop, slice_index, vec_len};
 ghost use Rattle.std.specs.List.{slice_range};
 ghost use Rattle.std.specs.Simd.Lanes.{mask_l};
 ghost use Rattle.std.specs.Io.KnownBytes.{IsAtEnd, Keeps};
 ghost use Rattle.edge_io.specs.Stream.{Rose};
-ghost use Rattle.edge_io.specs.Lines.{Reader, NoneBelow, IsFirstNewline, IsNear, IsLineEnd, IsStop, Stays, Reads, ReadsOn, Fills, HoldsAnswer, AnswersHeld, Wants, ahead};
+ghost use Rattle.edge_io.specs.Lines.{Reader, NoneBelow, IsFirstNewline, IsNear, IsLineEnd, IsStop, Stays, Reads};
+ghost use Rattle.edge_io.specs.Lines.{ReadsOn, Fills, HoldsAnswer, AnswersHeld, Wants, ahead};
 
 use crate::Source;
 use memchr::memchr;
@@ -75,9 +78,18 @@ impl Model for Lines {
 
     ghost Value = { Reader };
 
-    ghost view = { λ r. record { held = drop r.start r.buf.items; passed = r.passed; line = slice_range r.buf.items r.line_at r.line_end; number = r.number; stop = r.stop } };
+    ghost view = { λ r. record {
+      held = drop r.start r.buf.items;
+      passed = r.passed;
+      line = slice_range r.buf.items r.line_at r.line_end;
+      number = r.number;
+      stop = r.stop;
+    } };
 
-    ghost invariant = { λ r. (r.line_at ≤ r.line_end) × (r.line_end ≤ r.start) × (r.start ≤ vec_len r.buf) × (r.number ≤ r.passed) × (r.passed + (vec_len r.buf - r.start) ≤ 2 ^ 40) × IsFirstNewline (drop r.start r.buf.items) r.newline × IsNear (vec_len r.buf - r.start) r.newline × IfSome r.stop IsStop };
+    ghost invariant = { λ r. (r.line_at ≤ r.line_end) × (r.line_end ≤ r.start)
+        × (r.start ≤ vec_len r.buf) × (r.number ≤ r.passed) × (r.passed + (vec_len r.buf - r.start) ≤ 2 ^ 40)
+        × IsFirstNewline (drop r.start r.buf.items) r.newline
+        × IsNear (vec_len r.buf - r.start) r.newline × IfSome r.stop IsStop };
 }
 
 impl Lines {
@@ -129,8 +141,10 @@ impl Lines {
     /// At a line, fewer than 65,536 bytes were taken of the source behind the line's newline.
     #[inline(always)]
     pub fn next<S: Source>(&mut self, source: &mut S) -> LineRead
-        ensures read { IfNone self.old.stop (Reads self.old self.new (ahead self.old (S.left source.old)) (ahead self.new (S.left source.new)) result) }
-        ensures stopped { IfSome self.old.stop (λ stop. (result ≡ stop) × (self.new ≡ self.old) × (source.new ≡ source.old)) }
+        ensures read { IfNone self.old.stop
+            (Reads self.old self.new (ahead self.old (S.left source.old)) (ahead self.new (S.left source.new)) result) }
+        ensures stopped { IfSome self.old.stop (λ stop.
+            (result ≡ stop) × (self.new ≡ self.old) × (source.new ≡ source.old)) }
         ensures ahead { result ≡ LineRead.Line → length self.new.held < 65536 }
         ensures unread { HoldsAnswer self.old → source.new ≡ source.old }
         ensures faults { S.read_faults source.old ≤ S.read_faults source.new }
@@ -212,7 +226,8 @@ impl Lines {
     // The answer where the source has ended.
     fn end(&mut self) -> LineRead
         ensures end { length self.old.held ≡ 0 → (result ≡ LineRead.End) × (self.new ≡ self.old) }
-        ensures torn { 0 < length self.old.held → (result ≡ LineRead.Torn) × (self.new ≡ record self.old { stop = Some LineRead.Torn }) }
+        ensures torn { 0 < length self.old.held
+            → (result ≡ LineRead.Torn) × (self.new ≡ record self.old { stop = Some LineRead.Torn }) }
     {
         if self.held_len() == 0 {
             return LineRead::End;
@@ -283,7 +298,8 @@ impl Lines {
     fn fill<S: Source>(&mut self, source: &mut S) -> Filled
         requires none { NoneBelow self.old.held (length self.old.held) }
         requires within { self.old.passed + length self.old.held < 2 ^ 40 }
-        ensures filled { Fills self.old.held self.new.held (ahead self.old (S.left source.old)) (ahead self.new (S.left source.new)) result }
+        ensures filled { Fills self.old.held self.new.held
+            (ahead self.old (S.left source.old)) (ahead self.new (S.left source.new)) result }
         ensures stays { Stays self.old self.new }
         ensures stop { self.new.stop ≡ self.old.stop }
         ensures end { result ≡ Filled.End → IsAtEnd (S.left source.new) }

@@ -9,9 +9,11 @@ use crate::{Sink, Source};
 /// the other.
 pub trait Link: Source + Sink + Drop {
     // Beside what is read stands what was written, and beside what is written what is left to read.
-    ghost written_stays: { (l : Self) → Self.Source.beside l ≡ record { bytes = Self.Sink.written l; faults = Self.Sink.write_faults l } };
+    ghost written_stays: { (l : Self)
+        → Self.Source.beside l ≡ record { bytes = Self.Sink.written l; faults = Self.Sink.write_faults l } };
 
-    ghost left_stays: { (l : Self) → Self.Sink.beside l ≡ record { bytes = Self.Source.left l; faults = Self.Source.read_faults l } };
+    ghost left_stays: { (l : Self)
+        → Self.Sink.beside l ≡ record { bytes = Self.Source.left l; faults = Self.Source.read_faults l } };
 }
 
 /// What a door answers.
@@ -45,7 +47,8 @@ pub trait Door: Drop {
     ///
     /// `Failed` comes only where the count of faults rose. After `Closed` the same comes again.
     fn next(&mut self) -> Next<Self::L>
-        ensures gives { Gives is_closed door_faults ledger Self.L.Sink.written Self.L.Source.read_faults Self.L.Sink.write_faults self.old result self.new }
+        ensures gives { Gives is_closed door_faults ledger Self.L.Sink.written Self.L.Source.read_faults
+            Self.L.Sink.write_faults self.old result self.new }
         ensures faults { door_faults self.old ≤ door_faults self.new };
 
     /// Takes back a link that this door gave. It takes no memory.

@@ -1,5 +1,6 @@
 // Sources and sinks in memory, whose listed calls fail.
-ghost use Rattle.std.specs.Prelude.{◌≡◌, ◌↔◌, ◌⊎◌, ℕ, ◌+◌, ◌-◌, ◌<◌, ◌≤◌, ◌++◌, List, [], Some, length, take, drop, vec_len, vec_capacity, IfOk, OnErr, IsErr, IsTrue, is_err, Contains, min};
+ghost use Rattle.std.specs.Prelude.{◌≡◌, ◌↔◌, ◌⊎◌, ℕ, ◌+◌, ◌-◌, ◌<◌, ◌≤◌, ◌++◌, List, [], Some, length, take, drop};
+ghost use Rattle.std.specs.Prelude.{vec_len, vec_capacity, IfOk, OnErr, IsErr, IsTrue, is_err, Contains, min};
 ghost use Rattle.std.specs.Io.KnownBytes.{ReadConsumes, WriteAppends};
 ghost use Rattle.edge_io.specs.Stream.{Rose};
 ghost use Rattle.edge_io.specs.Memory.{Calls, after_call, counted, IsNextListed};
@@ -72,7 +73,8 @@ impl Model for MemSource {
 impl MemSource {
     /// A source of these bytes. The reads whose numbers are listed fail; the first has the number 1.
     pub fn new(alloc: Global, bytes: &[u8], failing: &[u64]) -> Result<MemSource, AllocError>
-        ensures { IfOk result (λ s. s ≡ record { left = bytes.now; calls = record { failing = failing.now; made = 0; faults = 0 } }) }
+        ensures { IfOk result (λ s.
+            s ≡ record { left = bytes.now; calls = record { failing = failing.now; made = 0; faults = 0 } }) }
     {
         Ok(MemSource {
             bytes: Vec::from_slice(alloc, bytes)?,
@@ -141,7 +143,8 @@ impl MemSink {
     /// A sink with room for this many bytes. The writes whose numbers are listed fail; the first
     /// has the number 1.
     pub fn new(alloc: Global, room: usize, failing: &[u64]) -> Result<MemSink, AllocError>
-        ensures { IfOk result (λ s. s ≡ record { written = []; room = room; calls = record { failing = failing.now; made = 0; faults = 0 } }) }
+        ensures { IfOk result (λ s.
+            s ≡ record { written = []; room = room; calls = record { failing = failing.now; made = 0; faults = 0 } }) }
     {
         Ok(MemSink {
             bytes: Vec::with_capacity(alloc, room)?,
@@ -173,7 +176,8 @@ impl Sink for MemSink {
         ensures faults { self.old.calls.faults ≤ self.new.calls.faults }
         ensures failed { OnErr result (Rose self.old.calls.faults self.new.calls.faults) }
 
-        ensures which { IsErr result ↔ ((self.old.room < length self.old.written + length bytes.now) ⊎ IsNextListed self.old.calls) }
+        ensures which { IsErr result
+            ↔ ((self.old.room < length self.old.written + length bytes.now) ⊎ IsNextListed self.old.calls) }
         ensures whole { IfOk result (λ n. n ≡ length bytes.now) }
         ensures calls { self.new.calls ≡ after_call self.old.calls (is_err result) }
         ensures room { self.new.room ≡ self.old.room }

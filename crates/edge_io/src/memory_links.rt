@@ -1,5 +1,6 @@
 // Links in memory, and a door that gives the links of a list.
-ghost use Rattle.std.specs.Prelude.{◌≡◌, ◌↔◌, ◌⊎◌, ℕ, ◌+◌, ◌<◌, ◌≤◌, ◌∷◌, [], ◌++◌, All, Some, IfSome, IfOk, OnErr, IsErr, is_err, length, min, false, vec_len};
+ghost use Rattle.std.specs.Prelude.{◌≡◌, ◌↔◌, ◌⊎◌, ℕ, ◌+◌, ◌<◌, ◌≤◌, ◌∷◌, [], ◌++◌, All, Some, IfSome, IfOk, OnErr};
+ghost use Rattle.std.specs.Prelude.{IsErr, is_err, length, min, false, vec_len};
 ghost use Rattle.std.proofs.Common.{refl};
 ghost use Rattle.std.proofs.Math.Nat.{le-add_right};
 ghost use Rattle.std.specs.Io.KnownBytes.{ReadConsumes, WriteAppends};
@@ -38,8 +39,13 @@ impl MemLink {
         failing_reads: &[u64],
         failing_writes: &[u64],
     ) -> Result<MemLink, AllocError>
-        ensures input { IfOk result (λ l. l.input ≡ record { left = bytes.now; calls = record { failing = failing_reads.now; made = 0; faults = 0 } }) }
-        ensures output { IfOk result (λ l. l.output ≡ record { written = []; room = room; calls = record { failing = failing_writes.now; made = 0; faults = 0 } }) }
+        ensures input { IfOk result (λ l. l.input
+            ≡ record { left = bytes.now; calls = record { failing = failing_reads.now; made = 0; faults = 0 } }) }
+        ensures output { IfOk result (λ l. l.output ≡ record {
+          written = [];
+          room = room;
+          calls = record { failing = failing_writes.now; made = 0; faults = 0 };
+        }) }
     {
         Ok(MemLink {
             source: MemSource::new(alloc, bytes, failing_reads)?,
@@ -96,7 +102,8 @@ impl Sink for MemLink {
         ensures faults { self.old.output.calls.faults ≤ self.new.output.calls.faults }
         ensures failed { OnErr result (Rose self.old.output.calls.faults self.new.output.calls.faults) }
 
-        ensures which { IsErr result ↔ ((self.old.output.room < length self.old.output.written + length bytes.now) ⊎ IsNextListed self.old.output.calls) }
+        ensures which { IsErr result ↔ ((self.old.output.room < length self.old.output.written + length bytes.now)
+            ⊎ IsNextListed self.old.output.calls) }
         ensures whole { IfOk result (λ n. n ≡ length bytes.now) }
         ensures calls { self.new.output.calls ≡ after_call self.old.output.calls (is_err result) }
         ensures room { self.new.output.room ≡ self.old.output.room }
@@ -131,9 +138,11 @@ impl<T: Link> Model for ListDoor<T> {
 
     ghost Value = { Listing T };
 
-    ghost view = { λ d. record { left = d.left.items; out = d.out; back = d.returned.items; closed = d.closed; calls = d.script } };
+    ghost view = { λ d.
+        record { left = d.left.items; out = d.out; back = d.returned.items; closed = d.closed; calls = d.script } };
 
-    ghost invariant = { λ d. All (IsFresh T.Sink.written T.Source.read_faults T.Sink.write_faults) d.left.items × (deque_len d.left + d.out + vec_len d.returned ≤ vec_capacity d.returned) };
+    ghost invariant = { λ d. All (IsFresh T.Sink.written T.Source.read_faults T.Sink.write_faults) d.left.items
+        × (deque_len d.left + d.out + vec_len d.returned ≤ vec_capacity d.returned) };
 }
 
 impl<T: Link> ListDoor<T> {
@@ -141,7 +150,13 @@ impl<T: Link> ListDoor<T> {
     /// whose numbers are listed fail; the first has the number 1.
     pub fn new(alloc: Global, links: Vec<T>, failing: &[u64]) -> Result<ListDoor<T>, AllocError>
         requires { All (IsFresh T.Sink.written T.Source.read_faults T.Sink.write_faults) links.items }
-        ensures { IfOk result (λ d. d ≡ record { left = links.items; out = 0; back = []; closed = false; calls = record { failing = failing.now; made = 0; faults = 0 } }) }
+        ensures { IfOk result (λ d. d ≡ record {
+          left = links.items;
+          out = 0;
+          back = [];
+          closed = false;
+          calls = record { failing = failing.now; made = 0; faults = 0 };
+        }) }
     {
         Ok(ListDoor {
             returned: Vec::with_capacity(alloc, links.len())?,
@@ -173,7 +188,8 @@ impl<T: Link> Door for ListDoor<T> {
 
     /// The next link of the list. It fails exactly where the call's number is listed.
     fn next(&mut self) -> Next<T>
-        ensures gives { Gives (λ (d : Listing T). d.closed) (λ d. d.calls.faults) (λ d. Some (ledger_of d)) T.Sink.written T.Source.read_faults T.Sink.write_faults self.old result self.new }
+        ensures gives { Gives (λ (d : Listing T). d.closed) (λ d. d.calls.faults)
+            (λ d. Some (ledger_of d)) T.Sink.written T.Source.read_faults T.Sink.write_faults self.old result self.new }
         ensures faults { self.old.calls.faults ≤ self.new.calls.faults }
 
         ensures listed { ListGives self.old result self.new }
@@ -194,9 +210,13 @@ impl<T: Link> Door for ListDoor<T> {
 
     fn back(&mut self, link: T)
         requires { length self.old.back < length self.old.back + self.old.out }
-        ensures back { TakesBack (λ (d : Listing T). d.closed) (λ d. d.calls.faults) (λ d. Some (ledger_of d)) self.old link self.new }
+        ensures back { TakesBack (λ (d : Listing T). d.closed) (λ d. d.calls.faults)
+            (λ d. Some (ledger_of d)) self.old link self.new }
 
-        ensures after { (self.new.left ≡ self.old.left) × (self.new.calls ≡ self.old.calls) × (self.new.back ≡ self.old.back ++ link ∷ []) × (self.new.out + 1 ≡ self.old.out) }
+        ensures after { (self.new.left ≡ self.old.left)
+            × (self.new.calls ≡ self.old.calls)
+            × (self.new.back ≡ self.old.back ++ link ∷ [])
+            × (self.new.out + 1 ≡ self.old.out) }
     {
         self.returned.push_reserved(link);
         self.out -= 1;

@@ -77,7 +77,7 @@ pub fn write_whole<K: Sink>(sink: &mut K, bytes: &[u8]) -> Result<(), Failed>
 ///
 /// After `Failed` a front of the two went out; `Failed` comes only where the sink's count of failed
 /// writes rose.
-#[tactic(auto, using(crate::proofs::Writes::appends_more, crate::proofs::Writes::front_first, crate::proofs::Writes::front_more))]
+#[tactic(auto, using(crate::proofs::Writes::one_behind_another))]
 pub fn write_two<K: Sink>(sink: &mut K, first: &[u8], second: &[u8]) -> Result<(), Failed>
     ensures front { AppendsFront (K.written sink.old) (K.written sink.new) (first.now ++ second.now) }
     ensures all { OnOk result (Appends (K.written sink.old) (K.written sink.new) (first.now ++ second.now)) }

@@ -394,7 +394,8 @@ impl<C: time::Clock + Copy + Drop> Door for TcpDoor<C> {
 
     /// The next connection, for which it waits. `Closed` comes exactly where all links were given.
     fn next(&mut self) -> Next<TcpLink<C>>
-        ensures gives { Gives (λ (d : Listening). d.closed) (λ d. d.faults) (λ _. None) (λ _. None) ⟦<TcpLink<C> as Source>⟧.read_faults ⟦<TcpLink<C> as Sink>⟧.write_faults self.old result self.new }
+        ensures gives { Gives (λ (d : Listening). d.closed) (λ d. d.faults) (λ _. None) (λ _. None)
+            ⟦<TcpLink<C> as Source>⟧.read_faults ⟦<TcpLink<C> as Sink>⟧.write_faults self.old result self.new }
         ensures faults { self.old.faults ≤ self.new.faults }
 
         ensures links { Counts self.old result self.new }

@@ -1,5 +1,6 @@
 // The copying of a part's lines to the destination's file of its partition, ahead of what is listed there.
-ghost use Rattle.std.specs.Prelude.{◌≡◌, ◌≢◌, ◌⊎◌, ◌≤◌, ◌<◌, ◌+◌, ◌++◌, ◌∷◌, [], ℕ, ℤ, List, Ok, None, Some, length, take, vec_len, vec_capacity, IfOk, IfSome, OnOk, OnErr, IsErrOf, IsTrue};
+ghost use Rattle.std.specs.Prelude.{◌≡◌, ◌≢◌, ◌⊎◌, ◌≤◌, ◌<◌, ◌+◌, ◌++◌, ◌∷◌, [], ℕ, ℤ, List, Ok, None, Some, length};
+ghost use Rattle.std.specs.Prelude.{take, vec_len, vec_capacity, IfOk, IfSome, OnOk, OnErr, IsErrOf, IsTrue};
 ghost use Rattle.arch_time.specs.YearTime.{IsSampleYear};
 ghost use Rattle.line_escape.specs.Unescaping.{HasNoNewline};
 ghost use Rattle.pb_wire.specs.declared.payload.PayloadType.{PayloadType as PayloadTypeValue};
@@ -18,8 +19,8 @@ use pb_lines::{HeadErr, header_of_line};
 use std::alloc::{AllocError, Global};
 use store_manifest::Entry;
 
-// Where the lines of a part go: what the file's entry is before them, and the length behind which they go; `None` where the file is
-// made anew.
+// Where the lines of a part go: what the file's entry is before them, and the length behind which they go; `None`
+// where the file is made anew.
 #[derive(Clone, Copy)]
 pub(crate) struct Start {
     pub(crate) entry: Entry,
@@ -109,8 +110,8 @@ fn header_of(
     head: &[u8],
     work: &mut Vec<u8>,
 ) -> Result<Option<PayloadInfo>, AllocError>
-    ensures header { IfOk result (λ o. (line : List ℕ) (info : PayloadInfoValue) → head.now ≡ line ++ 10 ∷ [] → HasNoNewline line → IsHeaderLine line info
-        → o ≡ Some info) }
+    ensures header { IfOk result (λ o. (line : List ℕ) (info : PayloadInfoValue) → head.now ≡ line ++ 10 ∷ []
+        → HasNoNewline line → IsHeaderLine line info → o ≡ Some info) }
     ensures year { IfOk result (λ o. IfSome o (λ info. IsSampleYear info.year)) }
 {
     let end = line_len(head);
@@ -124,7 +125,8 @@ fn header_of(
     }
 }
 
-// Cuts bytes to the lines of samples at their front that are of the type and year that the header says, and gives the entry with them.
+// Cuts bytes to the lines of samples at their front that are of the type and year that the header says, and
+// gives the entry with them.
 pub(crate) fn take_part(
     alloc: Global,
     head: &[u8],
@@ -132,10 +134,12 @@ pub(crate) fn take_part(
     entry: &Entry,
 ) -> Result<Entry, AllocError>
     ensures keeps { IfOk result (λ new. (new.part ≡ entry.now.part) × (new.series ≡ entry.now.series)) }
-    ensures takes { IfOk result (λ new. (line : List ℕ) (info : PayloadInfoValue) → head.now ≡ line ++ 10 ∷ [] → HasNoNewline line → IsHeaderLine line info
+    ensures takes { IfOk result (λ new. (line : List ℕ) (info : PayloadInfoValue) → head.now ≡ line ++ 10 ∷ []
+        → HasNoNewline line → IsHeaderLine line info
         → TakesLines info.ty info.year lines.old.items entry.now (length lines.new.items) new) }
     ensures some { IfOk result (λ new. (lines.new.items ≡ [])
-        ⊎ ((ty : PayloadTypeValue) × (year : ℤ) × TakesLines ty year lines.old.items entry.now (length lines.new.items) new)) }
+        ⊎ ((ty : PayloadTypeValue) × (year : ℤ)
+        × TakesLines ty year lines.old.items entry.now (length lines.new.items) new)) }
     ensures front { OnOk result (lines.new.items ≡ take (length lines.new.items) lines.old.items) }
     ensures longer { IfOk result (λ new. new.len ≡ entry.now.len + length lines.new.items) }
 {

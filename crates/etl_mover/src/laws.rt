@@ -13,7 +13,8 @@ ghost use Rattle.durable_write.specs.Stored.{Holds};
 ghost use Rattle.durable_write.specs.Writing.{IsStoredAs};
 ghost use Rattle.etl_mover.specs.Copying.{SetsLast};
 ghost use Rattle.etl_mover.specs.Growing.{IsPlaced, BecomesFile};
-ghost use Rattle.etl_mover.specs.Laws.{CopiesOn, RestIsRemaining, FlushedBeside, StillRises, PublishedFromShort, PublishedFromMedium, AllPublished, RetiredFromShort, RetiredFromMedium};
+ghost use Rattle.etl_mover.specs.Laws.{CopiesOn, RestIsRemaining, FlushedBeside, StillRises, PublishedFromShort};
+ghost use Rattle.etl_mover.specs.Laws.{PublishedFromMedium, AllPublished, RetiredFromShort, RetiredFromMedium};
 ghost use Rattle.etl_mover.specs.Move.{MoveState, IsMove, IsAhead, StillLists, part_file};
 ghost use Rattle.etl_mover.specs.Step.{Advances, HasTargets, IsLongUnopened, IsToRow};
 ghost use Rattle.etl_mover.specs.Writing.{LeavesFile, WritesFile};
@@ -28,8 +29,8 @@ pub fn a_running_move()
     ensures rises { StillRises }
 {}
 
-/// A publication changes nothing that is held of a series, at whatever moment it comes. A retirement changes nothing once the
-/// destination covers the parts, which it does when all of them is published.
+/// A publication changes nothing that is held of a series, at whatever moment it comes. A retirement changes nothing
+/// once the destination covers the parts, which it does when all of them is published.
 pub fn a_move_is_invisible()
     ensures published { PublishedFromShort }
     ensures published_deep { PublishedFromMedium }
@@ -38,37 +39,47 @@ pub fn a_move_is_invisible()
     ensures retired_deep { RetiredFromMedium }
 {}
 
-/// Nothing is ahead of what a destination holds when a move begins. From then on each file that a copy goes on with stands on the disk:
-/// those that are listed or to be listed, and the one in limbo that is revived where that does.
+/// Nothing is ahead of what a destination holds when a move begins. From then on each file that a copy goes on with
+/// stands on the disk: those that are listed or to be listed, and the one in limbo that is revived where that does.
 pub fn a_move_finds_its_files<D: Disk>()
-    ensures begun { (disk : D) (catalogue : JournalState) (m : ManifestState) (shelf : Shelf) (held : Held) (move : MoveState)
+    ensures begun { (disk : D) (catalogue : JournalState) (m : ManifestState) (shelf : Shelf)
+        (held : Held) (move : MoveState)
         → IsStoredAs catalogue m shelf (D.files disk) (D.opened disk) (D.past disk) held → move.pending ≡ []
         → HasCopied catalogue m shelf (D.files disk) (D.opened disk) (D.past disk) held held × IsAhead move held held }
-    ensures targets { (disk : D) (fine : Granularity) (catalogue : JournalState) (m : ManifestState) (shelf : Shelf) (held ahead : Held) (move : MoveState)
-        (revived : Option Entry)
-        → IsMove fine move → HasCopied catalogue m shelf (D.files disk) (D.opened disk) (D.past disk) held ahead → IsAhead move held ahead
+    ensures targets { (disk : D) (fine : Granularity) (catalogue : JournalState) (m : ManifestState) (shelf : Shelf)
+        (held ahead : Held) (move : MoveState) (revived : Option Entry)
+        → IsMove fine move → HasCopied catalogue m shelf (D.files disk) (D.opened disk) (D.past disk) held ahead
+        → IsAhead move held ahead
         → IsLastOf m.entries move.series move.listed → IsToRow move shelf
-        → ((e : Entry) → revived ≡ Some e → IsLongUnopened e.len (part_file move.destination move.name e) (D.files disk) (D.opened disk))
+        → ((e : Entry) → revived ≡ Some e
+        → IsLongUnopened e.len (part_file move.destination move.name e) (D.files disk) (D.opened disk))
         → HasTargets move revived (D.files disk) (D.opened disk) }
 {}
 
-/// A call that leaves the file where a copy goes on leaves all that is listed and all that is ahead, at each moment and whatever it
-/// answers. What it wrote whole is ahead then too, and the entries that are to be listed are those of the files ahead.
+/// A call that leaves the file where a copy goes on leaves all that is listed and all that is ahead, at each
+/// moment and whatever it answers. What it wrote whole is ahead then too, and the entries that are to be listed
+/// are those of the files ahead.
 pub fn a_copy_goes_ahead<D: Disk>()
-    ensures stays { (old new : D) (catalogue : JournalState) (m : ManifestState) (shelf : Shelf) (held ahead : Held) (at : Option ℕ) (f : Filed)
-        → HasCopied catalogue m shelf (D.files old) (D.opened old) (D.past old) held ahead → IsPlaced m.granularity ahead at f
-        → LeavesFile (file_of shelf f.entry) at (D.files old) (D.files new) (D.opened old) (D.opened new) (D.past old) (D.past new)
+    ensures stays { (old new : D) (catalogue : JournalState) (m : ManifestState) (shelf : Shelf) (held ahead : Held)
+        (at : Option ℕ) (f : Filed)
+        → HasCopied catalogue m shelf (D.files old) (D.opened old) (D.past old) held ahead
+        → IsPlaced m.granularity ahead at f
+        → LeavesFile (file_of shelf f.entry) at (D.files old) (D.files new) (D.opened old) (D.opened new)
+        (D.past old) (D.past new)
         → HasCopied catalogue m shelf (D.files new) (D.opened new) (D.past new) held ahead
         × Passes (λ a b. Holds m.granularity b held) (D.past old) (D.past new) }
-    ensures copied { (old new : D) (catalogue : JournalState) (m : ManifestState) (shelf : Shelf) (held ahead : Held) (at : Option ℕ) (bytes : List ℕ)
-        (f : Filed)
-        → IsTrue D.tells → HasCopied catalogue m shelf (D.files old) (D.opened old) (D.past old) held ahead → BecomesFile m.granularity ahead at bytes f
-        → LeavesFile (file_of shelf f.entry) at (D.files old) (D.files new) (D.opened old) (D.opened new) (D.past old) (D.past new)
+    ensures copied { (old new : D) (catalogue : JournalState) (m : ManifestState) (shelf : Shelf) (held ahead : Held)
+        (at : Option ℕ) (bytes : List ℕ) (f : Filed)
+        → IsTrue D.tells → HasCopied catalogue m shelf (D.files old) (D.opened old) (D.past old) held ahead
+        → BecomesFile m.granularity ahead at bytes f
+        → LeavesFile (file_of shelf f.entry) at (D.files old) (D.files new) (D.opened old) (D.opened new)
+        (D.past old) (D.past new)
         → WritesFile (file_of shelf f.entry) at bytes (D.files old) (D.files new) (D.opened new) (D.past new)
         → HasCopied catalogue m shelf (D.files new) (D.opened new) (D.past new) held (with_files ahead (f ∷ [])) }
-    ensures pending { (fine : Granularity) (move new : MoveState) (held ahead : Held) (f : Filed) → IsMove fine move → IsAhead move held ahead
-        → f.entry.series ≡ move.series
-        → SetsLast f.entry move.pending new.pending → IsAhead new held (with_files ahead (f ∷ [])) }
-    ensures listed { (move new : MoveState) (revived : Option Entry) (len : ℕ) (m : ManifestState) → Advances move new revived len → StillLists move m
-        → StillLists new m }
+    ensures pending { (fine : Granularity) (move new : MoveState) (held ahead : Held) (f : Filed) → IsMove fine move
+        → IsAhead move held ahead → f.entry.series ≡ move.series
+        → SetsLast f.entry move.pending new.pending
+        → IsAhead new held (with_files ahead (f ∷ [])) }
+    ensures listed { (move new : MoveState) (revived : Option Entry) (len : ℕ) (m : ManifestState)
+        → Advances move new revived len → StillLists move m → StillLists new m }
 {}

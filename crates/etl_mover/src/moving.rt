@@ -58,13 +58,25 @@ impl Model for Move {
 
     ghost Value = { MoveState };
 
-    ghost view = { λ m. record { source = m.source; destination = m.destination; granularity = m.granularity; series = m.series; name = m.name; listed = m.listed; parts = m.parts.items; at = m.at; pending = m.pending.items; stage = m.stage; files = m.files.items } };
+    ghost view = { λ m. record {
+      source = m.source;
+      destination = m.destination;
+      granularity = m.granularity;
+      series = m.series;
+      name = m.name;
+      listed = m.listed;
+      parts = m.parts.items;
+      at = m.at;
+      pending = m.pending.items;
+      stage = m.stage;
+      files = m.files.items;
+    } };
 }
 
 impl Move {
-    /// A move of the `parts` oldest partitions that `source` lists of a series of this name. It makes no call of a disk. Room for the
-    /// parts and for the names of their files is made here. It is one that goes on where the source's partitions lie in the
-    /// destination's.
+    /// A move of the `parts` oldest partitions that `source` lists of a series of this name. It makes no call of a
+    /// disk. Room for the parts and for the names of their files is made here. It is one that goes on where the
+    /// source's partitions lie in the destination's.
     pub fn begin(
         alloc: Global,
         source: &Manifest,
@@ -77,8 +89,10 @@ impl Move {
         requires most { parts ≤ MOST_PARTS }
         requires listed { parts ≤ length (of_series series source.now.entries) }
         ensures begun { IfOk result (HasBegun source.now dest.now series name.now parts) }
-        ensures running { Holds dest.now.granularity source.now.granularity → AreEntries source.now.granularity source.now.entries
-            → AreEntries dest.now.granularity dest.now.entries → IfOk result (IsMove source.now.granularity) }
+        ensures running { Holds dest.now.granularity source.now.granularity
+            → AreEntries source.now.granularity source.now.entries
+            → AreEntries dest.now.granularity dest.now.entries
+            → IfOk result (IsMove source.now.granularity) }
         ensures lists { IfOk result (λ move. StillLists move source.now) }
     {
         let parts = Vec::from_slice(alloc, &source.entries(series)[..parts])?;
@@ -122,8 +136,8 @@ impl Move {
         self.stage
     }
 
-    /// The entries of its parts, oldest first: of those that are copied with the length up to which they are, of the others as the source
-    /// listed them when the move began.
+    /// The entries of its parts, oldest first: of those that are copied with the length up to which they are, of the
+    /// others as the source listed them when the move began.
     pub fn parts(&self) -> &[Entry]
         ensures { result.now ≡ self.now.parts }
     {

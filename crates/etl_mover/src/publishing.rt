@@ -30,30 +30,36 @@ impl Move {
             .collect(self.alloc)
     }
 
-    /// Lists what was copied in one commit of the destination's manifest. A crash at any moment leaves what the destination held, or
-    /// that with all that was copied.
+    /// Lists what was copied in one commit of the destination's manifest. A crash at any moment leaves what the
+    /// destination held, or that with all that was copied.
     ///
-    /// After `Memory` the destination holds what it held, and its journal may have begun anew. After `Fault`, which comes only where the disk's count of faults rose in the call, it isn't known
-    /// whether the commit was made.
+    /// After `Memory` the destination holds what it held, and its journal may have begun anew. After `Fault`, which
+    /// comes only where the disk's count of faults rose in the call, it isn't known whether the commit was made.
     pub fn publish<D: Disk>(&mut self, disk: &mut D, dest: &mut Manifest) -> Result<(), DiskErr>
         requires running { (fine : Granularity) × IsMove fine self.old }
         requires stage { IsCopied self.old }
         requires sound { dest.old.journal.sound ≡ true }
         requires same { dest.old.granularity ≡ self.old.granularity }
         requires can { IsTrue D.tells → (catalogue : JournalState) × (shelf : Shelf) × (held : Held) × (ahead : Held)
-            × HasCopied catalogue dest.old shelf (D.files disk.old) (D.opened disk.old) (D.past disk.old) held ahead × IsAhead self.old held ahead }
+            × HasCopied catalogue dest.old shelf (D.files disk.old) (D.opened disk.old) (D.past disk.old) held ahead
+            × IsAhead self.old held ahead }
 
         ensures relists { IsTrue D.tells → (catalogue : JournalState) (shelf : Shelf) (held ahead : Held)
-            → HasCopied catalogue dest.old shelf (D.files disk.old) (D.opened disk.old) (D.past disk.old) held ahead → IsAhead self.old held ahead
-            → Relists catalogue dest.old dest.new shelf (D.files disk.new) (D.opened disk.new) (D.past disk.old) (D.past disk.new) held ahead
-            (published result dest.new.journal.sound) }
-        ensures commits { Commits dest.old dest.new (all_changed dest.old.entries (map set_entry self.old.pending)) (published result dest.new.journal.sound) }
+            → HasCopied catalogue dest.old shelf (D.files disk.old) (D.opened disk.old) (D.past disk.old) held ahead
+            → IsAhead self.old held ahead
+            → Relists catalogue dest.old dest.new shelf (D.files disk.new) (D.opened disk.new)
+            (D.past disk.old) (D.past disk.new) held ahead (published result dest.new.journal.sound) }
+        ensures commits { Commits dest.old dest.new
+            (all_changed dest.old.entries (map set_entry self.old.pending)) (published result dest.new.journal.sound) }
         ensures stage { OnOk result (self.new ≡ record self.old { stage = Published }) }
         ensures unchanged { OnErr result (self.new ≡ self.old) }
         ensures memory { IsErrOf result DiskErr.Memory → dest.new.journal.sound ≡ true }
-        ensures elsewhere { IsTrue D.tells → (n : Name) → (IsOwn dest.old.journal.name n → ⊥) → D.files disk.new n ≡ D.files disk.old n }
-        ensures frame { IsTrue D.tells → Passes (AtOwn dest.old.journal.name Anything) (D.past disk.old) (D.past disk.new) }
-        ensures opened { IsTrue D.tells → (n : Name) → (IsOwn dest.old.journal.name n → ⊥) → D.opened disk.new n ≡ D.opened disk.old n }
+        ensures elsewhere { IsTrue D.tells → (n : Name) → (IsOwn dest.old.journal.name n → ⊥)
+            → D.files disk.new n ≡ D.files disk.old n }
+        ensures frame { IsTrue D.tells
+            → Passes (AtOwn dest.old.journal.name Anything) (D.past disk.old) (D.past disk.new) }
+        ensures opened { IsTrue D.tells → (n : Name) → (IsOwn dest.old.journal.name n → ⊥)
+            → D.opened disk.new n ≡ D.opened disk.old n }
         ensures no_more { IsTrue D.tells → (n : Name) → D.opened disk.new n ≤ D.opened disk.old n }
         ensures faults { D.faults disk.old ≤ D.faults disk.new }
         ensures cause { IsErrOf result DiskErr.Fault → Rose (D.faults disk.old) (D.faults disk.new) }

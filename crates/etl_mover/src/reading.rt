@@ -19,9 +19,10 @@ pub(crate) fn read<D: Disk>(
     len: usize,
 ) -> Result<Vec<u8>, DiskErr>
     requires { IsTrue D.tells → HasFile (D.files disk.old) name.now (λ b. at + len ≤ length b) }
-    ensures bytes { IsTrue D.tells → (b : List ℕ) → D.files disk.old name.now ≡ Some b → IfOk result (λ v. v.items ≡ take len (drop at b)) }
-    ensures reads { IsTrue D.tells → OnlyReads (D.files disk.old) (D.files disk.new) (D.opened disk.old) (D.opened disk.new) (D.past disk.old)
-        (D.past disk.new) }
+    ensures bytes { IsTrue D.tells → (b : List ℕ) → D.files disk.old name.now ≡ Some b
+        → IfOk result (λ v. v.items ≡ take len (drop at b)) }
+    ensures reads { IsTrue D.tells → OnlyReads (D.files disk.old) (D.files disk.new)
+        (D.opened disk.old) (D.opened disk.new) (D.past disk.old) (D.past disk.new) }
     ensures faults { D.faults disk.old ≤ D.faults disk.new }
     ensures cause { IsErrOf result DiskErr.Fault → Rose (D.faults disk.old) (D.faults disk.new) }
 {
@@ -31,8 +32,8 @@ pub(crate) fn read<D: Disk>(
     Ok(bytes)
 }
 
-// Reads lines of a file from a place on, behind which `rest` bytes of it count: at most as many bytes as one step appends, or, where no
-// line ends in these, one line.
+// Reads lines of a file from a place on, behind which `rest` bytes of it count: at most as many bytes as one step
+// appends, or, where no line ends in these, one line.
 pub(crate) fn read_lines<D: Disk>(
     alloc: Global,
     disk: &mut D,
@@ -42,9 +43,10 @@ pub(crate) fn read_lines<D: Disk>(
 ) -> Result<Vec<u8>, DiskErr>
     requires some { 1 ≤ rest }
     requires there { IsTrue D.tells → HasFile (D.files disk.old) name.now (λ b. from + rest ≤ length b) }
-    ensures chunk { IsTrue D.tells → (b : List ℕ) → D.files disk.old name.now ≡ Some b → IfOk result (λ v. IsChunk (drop from b) rest MOST_BYTES v.items) }
-    ensures reads { IsTrue D.tells → OnlyReads (D.files disk.old) (D.files disk.new) (D.opened disk.old) (D.opened disk.new) (D.past disk.old)
-        (D.past disk.new) }
+    ensures chunk { IsTrue D.tells → (b : List ℕ) → D.files disk.old name.now ≡ Some b
+        → IfOk result (λ v. IsChunk (drop from b) rest MOST_BYTES v.items) }
+    ensures reads { IsTrue D.tells → OnlyReads (D.files disk.old) (D.files disk.new)
+        (D.opened disk.old) (D.opened disk.new) (D.past disk.old) (D.past disk.new) }
     ensures faults { D.faults disk.old ≤ D.faults disk.new }
     ensures cause { IsErrOf result DiskErr.Fault → Rose (D.faults disk.old) (D.faults disk.new) }
 {

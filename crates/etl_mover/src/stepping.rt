@@ -1,5 +1,6 @@
 // One step of copying: some lines of a part go to the destination's file of its partition, ahead of what is listed.
-ghost use Rattle.std.specs.Prelude.{◌≡◌, ◌≢◌, ◌⊎◌, ◌↔◌, ◌≤◌, ◌<◌, ◌+◌, ◌++◌, ℕ, List, Ok, None, Some, Option, length, take, slice_get, IfOk, IfSome, OnOk, OnErr, IsErrOf, IsTrue};
+ghost use Rattle.std.specs.Prelude.{◌≡◌, ◌≢◌, ◌⊎◌, ◌↔◌, ◌≤◌, ◌<◌, ◌+◌, ◌++◌, ℕ, List, Ok, None, Some, Option, length};
+ghost use Rattle.std.specs.Prelude.{take, slice_get, IfOk, IfSome, OnOk, OnErr, IsErrOf, IsTrue};
 ghost use Rattle.std.specs.Option.{option_copied};
 ghost use Rattle.disk_model.specs.Files.{HasFile, Rose};
 ghost use Rattle.partition_names.specs.declared.granularity.Granularity.{Granularity};
@@ -10,7 +11,9 @@ ghost use Rattle.etl_mover.specs.declared.moving.Stage.TheVariants.{Copying};
 ghost use Rattle.etl_mover.specs.Copying.{SetsLast};
 ghost use Rattle.etl_mover.specs.Move.{IsMove};
 ghost use Rattle.etl_mover.specs.Reading.{OnlyReads};
-ghost use Rattle.etl_mover.specs.Step.{GoesTo, GoesNowhere, IsPlacedOrNot, CanRevive, CanCopy, IsLongUnopened, Takes, Advances, Copies, CopiesPart, SetsPart, between, finished, source_file, target_file, with_pending};
+ghost use Rattle.etl_mover.specs.Step.{GoesTo, GoesNowhere, IsPlacedOrNot, CanRevive, CanCopy, IsLongUnopened, Takes};
+ghost use Rattle.etl_mover.specs.Step.{Advances, Copies, CopiesPart, SetsPart, between, finished, source_file};
+ghost use Rattle.etl_mover.specs.Step.{target_file, with_pending};
 ghost use Rattle.etl_mover.specs.Writing.{LeavesFile};
 
 use crate::copying::{Start, set_last, take_part};
@@ -22,7 +25,8 @@ use partition_names::part_of;
 use std::alloc::Global;
 use store_manifest::Entry;
 
-// What a step takes of a part's file: the header's line, lines of samples, and the entry of the destination's file with these.
+// What a step takes of a part's file: the header's line, lines of samples, and the entry of the
+// destination's file with these.
 #[derive(Drop)]
 struct Load {
     head: Vec<u8>,
@@ -48,8 +52,8 @@ fn read_part<D: Disk>(
         × Takes (take part.now.head_len b) (between from len b) MOST_BYTES l.lines.items entry.now l.entry) }
     ensures keeps { IfOk result (λ l. (l.entry.part ≡ entry.now.part) × (l.entry.series ≡ entry.now.series)
         × (l.entry.len ≡ entry.now.len + length l.lines.items)) }
-    ensures reads { IsTrue D.tells → OnlyReads (D.files disk.old) (D.files disk.new) (D.opened disk.old) (D.opened disk.new) (D.past disk.old)
-        (D.past disk.new) }
+    ensures reads { IsTrue D.tells → OnlyReads (D.files disk.old) (D.files disk.new)
+        (D.opened disk.old) (D.opened disk.new) (D.past disk.old) (D.past disk.new) }
     ensures faults { D.faults disk.old ≤ D.faults disk.new }
     ensures cause { IsErrOf result DiskErr.Fault → Rose (D.faults disk.old) (D.faults disk.new) }
 {
@@ -88,7 +92,8 @@ impl Move {
         requires within { from ≤ len }
         ensures goes { IfSome result (GoesTo self.now revived part.now) }
         ensures some { IfSome result (λ start. from < len) }
-        ensures none { result ≡ None → (from ≡ len) ⊎ ((p : EntryValue) (start : StartValue) → GoesTo self.now revived p start → ⊥) }
+        ensures none { result ≡ None
+            → (from ≡ len) ⊎ ((p : EntryValue) (start : StartValue) → GoesTo self.now revived p start → ⊥) }
         ensures ends { result ≡ None → (from ≡ len) ⊎ GoesNowhere self.now revived part.now }
     {
         if from == len {
@@ -123,15 +128,17 @@ impl Move {
     ) -> Result<u64, DiskErr>
         requires some { from < len }
         requires head { part.now.head_len ≤ len }
-        requires there { IsTrue D.tells → HasFile (D.files disk.old) (source_file self.old part.now) (λ b. len ≤ length b) }
+        requires there { IsTrue D.tells
+            → HasFile (D.files disk.old) (source_file self.old part.now) (λ b. len ≤ length b) }
         requires room { IsTrue D.tells → (n : ℕ) → start.now.at ≡ Some n
             → IsLongUnopened n (target_file self.old start.now) (D.files disk.old) (D.opened disk.old) }
         ensures copies { IsTrue D.tells → (b : List ℕ) → D.files disk.old (source_file self.old part.now) ≡ Some b
             → IfOk result (λ n. (lines : List ℕ) × (length lines ≡ n)
-            × Copies (target_file self.old start.now) start.now part.now from len MOST_BYTES b self.old.pending self.new.pending (D.files disk.old)
-            (D.files disk.new) (D.opened disk.new) (D.past disk.new) lines) }
-        ensures leaves { IsTrue D.tells → LeavesFile (target_file self.old start.now) start.now.at (D.files disk.old) (D.files disk.new) (D.opened disk.old)
-            (D.opened disk.new) (D.past disk.old) (D.past disk.new) }
+            × Copies (target_file self.old start.now) start.now part.now from len MOST_BYTES b self.old.pending
+            self.new.pending (D.files disk.old) (D.files disk.new) (D.opened disk.new) (D.past disk.new) lines) }
+        ensures leaves { IsTrue D.tells
+            → LeavesFile (target_file self.old start.now) start.now.at (D.files disk.old) (D.files disk.new)
+            (D.opened disk.old) (D.opened disk.new) (D.past disk.old) (D.past disk.new) }
         ensures sets { OnOk result (SetsPart self.old start.now self.new.pending) }
         ensures moves { self.new ≡ with_pending self.old self.new.pending }
         ensures unchanged { OnErr result (self.new ≡ self.old) }
@@ -162,15 +169,18 @@ impl Move {
         requires some { from < len }
         requires head { part.now.head_len ≤ len }
         requires next { slice_get self.old.parts self.old.at ≡ Some part.now }
-        requires there { IsTrue D.tells → HasFile (D.files disk.old) (source_file self.old part.now) (λ b. len ≤ length b) }
+        requires there { IsTrue D.tells
+            → HasFile (D.files disk.old) (source_file self.old part.now) (λ b. len ≤ length b) }
         requires room { IsTrue D.tells → (n : ℕ) → start.now.at ≡ Some n
             → IsLongUnopened n (target_file self.old start.now) (D.files disk.old) (D.opened disk.old) }
         ensures copies { IsTrue D.tells → (b : List ℕ) → D.files disk.old (source_file self.old part.now) ≡ Some b
-            → OnOk result (CopiesPart self.old self.new start.now part.now from len MOST_BYTES b (D.files disk.old) (D.files disk.new) (D.opened disk.new)
-            (D.past disk.new)) }
-        ensures leaves { IsTrue D.tells → LeavesFile (target_file self.old start.now) start.now.at (D.files disk.old) (D.files disk.new) (D.opened disk.old)
-            (D.opened disk.new) (D.past disk.old) (D.past disk.new) }
-        ensures advances { (revived : Option EntryValue) → GoesTo self.old revived part.now start.now → OnOk result (Advances self.old self.new revived len) }
+            → OnOk result (CopiesPart self.old self.new start.now part.now from len MOST_BYTES b
+            (D.files disk.old) (D.files disk.new) (D.opened disk.new) (D.past disk.new)) }
+        ensures leaves { IsTrue D.tells
+            → LeavesFile (target_file self.old start.now) start.now.at (D.files disk.old) (D.files disk.new)
+            (D.opened disk.old) (D.opened disk.new) (D.past disk.old) (D.past disk.new) }
+        ensures advances { (revived : Option EntryValue) → GoesTo self.old revived part.now start.now
+            → OnOk result (Advances self.old self.new revived len) }
         ensures done { IfOk result (λ copied. (copied ≡ Done) ↔ (self.new.at ≡ length self.new.parts)) }
         ensures unchanged { OnErr result (self.new ≡ self.old) }
         ensures faults { D.faults disk.old ≤ D.faults disk.new }
@@ -198,15 +208,17 @@ impl Move {
         requires head { part.now.head_len ≤ len }
         requires revived { IfSome revived (CanRevive self.old) }
         requires can { IsTrue D.tells → CanCopy self.old revived len (D.files disk.old) (D.opened disk.old) }
-        ensures copies { IsTrue D.tells → (p : EntryValue) (start : StartValue) (b : List ℕ) → GoesTo self.old revived p start
+        ensures copies { IsTrue D.tells → (p : EntryValue) (start : StartValue) (b : List ℕ)
+            → GoesTo self.old revived p start
             → D.files disk.old (source_file self.old p) ≡ Some b
-            → OnOk result (CopiesPart self.old self.new start p from len MOST_BYTES b (D.files disk.old) (D.files disk.new) (D.opened disk.new)
-            (D.past disk.new)) }
+            → OnOk result (CopiesPart self.old self.new start p from len MOST_BYTES b
+            (D.files disk.old) (D.files disk.new) (D.opened disk.new) (D.past disk.new)) }
         ensures leaves { IsTrue D.tells → (p : EntryValue) (start : StartValue) → GoesTo self.old revived p start
-            → LeavesFile (target_file self.old start) start.at (D.files disk.old) (D.files disk.new) (D.opened disk.old) (D.opened disk.new) (D.past disk.old)
-            (D.past disk.new) }
+            → LeavesFile (target_file self.old start) start.at (D.files disk.old) (D.files disk.new)
+            (D.opened disk.old) (D.opened disk.new) (D.past disk.old) (D.past disk.new) }
         ensures nowhere { IsTrue D.tells → ((p : EntryValue) (start : StartValue) → GoesTo self.old revived p start → ⊥)
-            → OnlyReads (D.files disk.old) (D.files disk.new) (D.opened disk.old) (D.opened disk.new) (D.past disk.old) (D.past disk.new) }
+            → OnlyReads (D.files disk.old) (D.files disk.new) (D.opened disk.old) (D.opened disk.new)
+            (D.past disk.old) (D.past disk.new) }
         ensures either { from < len → IsPlacedOrNot self.old revived part.now }
         ensures running { (fine : Granularity) → IsMove fine self.old → IsMove fine self.new }
         ensures advances { OnOk result (Advances self.old self.new revived len) }
@@ -225,7 +237,8 @@ impl Move {
     pub fn pass(&mut self, len: u64)
         requires running { (fine : Granularity) × IsMove fine self.old }
         requires left { self.old.at ≢ length self.old.parts }
-        ensures passed { (part : EntryValue) → slice_get self.old.parts self.old.at ≡ Some part → self.new ≡ finished self.old part len }
+        ensures passed { (part : EntryValue) → slice_get self.old.parts self.old.at ≡ Some part
+            → self.new ≡ finished self.old part len }
         ensures running { (fine : Granularity) → IsMove fine self.old → IsMove fine self.new }
     {
         if let Some(part) = self.next_part() {
@@ -241,14 +254,15 @@ impl Move {
         self.at = at;
     }
 
-    /// Copies lines of the next part to the destination's file of its partition, behind all that is listed there and is to be: from a
-    /// place of the part's file on, of which the source lists `len` bytes. They are at most 1,048,576 bytes, or one line. A file that
-    /// the destination doesn't list begins with the source's header's line, or goes on from the old entry of it that is `revived`.
-    /// Lines are copied as long as they are samples of the header's type and year; what they tell is the caller's to judge.
+    /// Copies lines of the next part to the destination's file of its partition, behind all that is listed there and is
+    /// to be: from a place of the part's file on, of which the source lists `len` bytes. They are at most 1,048,576
+    /// bytes, or one line. A file that the destination doesn't list begins with the source's header's line, or goes on
+    /// from the old entry of it that is `revived`. Lines are copied as long as they are samples of the header's type
+    /// and year; what they tell is the caller's to judge.
     ///
-    /// A crash at any moment and reads leave each name as it was, but for what stands in that one file behind what is listed, and
-    /// behind what was copied before. After an error the move is as it was. `Fault` comes only where the disk's count of faults rose
-    /// in the call.
+    /// A crash at any moment and reads leave each name as it was, but for what stands in that one file behind what is
+    /// listed, and behind what was copied before. After an error the move is as it was. `Fault` comes only where the
+    /// disk's count of faults rose in the call.
     pub fn copy<D: Disk>(
         &mut self,
         disk: &mut D,
@@ -261,17 +275,22 @@ impl Move {
         requires within { from ≤ len }
         requires head { (part : EntryValue) → slice_get self.old.parts self.old.at ≡ Some part → part.head_len ≤ len }
         requires revived { IfSome (option_copied revived) (CanRevive self.old) }
-        requires can { IsTrue D.tells → CanCopy self.old (option_copied revived) len (D.files disk.old) (D.opened disk.old) }
+        requires can { IsTrue D.tells
+            → CanCopy self.old (option_copied revived) len (D.files disk.old) (D.opened disk.old) }
 
-        ensures copies { IsTrue D.tells → (part : EntryValue) (start : StartValue) (b : List ℕ) → GoesTo self.old (option_copied revived.entry) part start
+        ensures copies { IsTrue D.tells → (part : EntryValue) (start : StartValue) (b : List ℕ)
+            → GoesTo self.old (option_copied revived.entry) part start
             → D.files disk.old (source_file self.old part) ≡ Some b
-            → OnOk result (CopiesPart self.old self.new start part from len MOST_BYTES b (D.files disk.old) (D.files disk.new) (D.opened disk.new)
-            (D.past disk.new)) }
-        ensures leaves { IsTrue D.tells → (part : EntryValue) (start : StartValue) → GoesTo self.old (option_copied revived.entry) part start
-            → LeavesFile (target_file self.old start) start.at (D.files disk.old) (D.files disk.new) (D.opened disk.old) (D.opened disk.new) (D.past disk.old)
-            (D.past disk.new) }
-        ensures nowhere { IsTrue D.tells → ((part : EntryValue) (start : StartValue) → GoesTo self.old (option_copied revived.entry) part start → ⊥)
-            → OnlyReads (D.files disk.old) (D.files disk.new) (D.opened disk.old) (D.opened disk.new) (D.past disk.old) (D.past disk.new) }
+            → OnOk result (CopiesPart self.old self.new start part from len MOST_BYTES b
+            (D.files disk.old) (D.files disk.new) (D.opened disk.new) (D.past disk.new)) }
+        ensures leaves { IsTrue D.tells → (part : EntryValue) (start : StartValue)
+            → GoesTo self.old (option_copied revived.entry) part start
+            → LeavesFile (target_file self.old start) start.at (D.files disk.old) (D.files disk.new)
+            (D.opened disk.old) (D.opened disk.new) (D.past disk.old) (D.past disk.new) }
+        ensures nowhere { IsTrue D.tells
+            → ((part : EntryValue) (start : StartValue) → GoesTo self.old (option_copied revived.entry) part start → ⊥)
+            → OnlyReads (D.files disk.old) (D.files disk.new) (D.opened disk.old) (D.opened disk.new)
+            (D.past disk.old) (D.past disk.new) }
         ensures either { (part : EntryValue) → slice_get self.old.parts self.old.at ≡ Some part → from < len
             → IsPlacedOrNot self.old (option_copied revived.entry) part }
         ensures running { (fine : Granularity) → IsMove fine self.old → IsMove fine self.new }

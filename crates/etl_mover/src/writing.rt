@@ -6,8 +6,8 @@ ghost use Rattle.etl_mover.specs.Writing.{LeavesFile, WritesFile};
 use disk_model::{Disk, DiskErr, FileName};
 use store_files::{append, extend, settle};
 
-// Writes lines behind the first `at` bytes of a file and syncs it, or makes the file of the header and the lines where nothing is
-// listed of it.
+// Writes lines behind the first `at` bytes of a file and syncs it, or makes the file of the header and the lines
+// where nothing is listed of it.
 pub(crate) fn write_file<D: Disk>(
     disk: &mut D,
     name: &FileName,
@@ -17,12 +17,12 @@ pub(crate) fn write_file<D: Disk>(
 ) -> Result<(), DiskErr>
     requires there { IsTrue D.tells → (len : ℕ) → at ≡ Some len
         → HasFile (D.files disk.old) name.now (λ b. (D.opened disk.old name.now ≤ len) × (len ≤ length b)) }
-    ensures leaves { IsTrue D.tells → LeavesFile name.now at (D.files disk.old) (D.files disk.new) (D.opened disk.old) (D.opened disk.new) (D.past disk.old)
-        (D.past disk.new) }
-    ensures grows { IsTrue D.tells → (len : ℕ) → at ≡ Some len
-        → OnOk result (WritesFile name.now at lines.now (D.files disk.old) (D.files disk.new) (D.opened disk.new) (D.past disk.new)) }
-    ensures makes { IsTrue D.tells → at ≡ None → OnOk result
-        (WritesFile name.now at (head.now ++ lines.now) (D.files disk.old) (D.files disk.new) (D.opened disk.new) (D.past disk.new)) }
+    ensures leaves { IsTrue D.tells → LeavesFile name.now at (D.files disk.old) (D.files disk.new)
+        (D.opened disk.old) (D.opened disk.new) (D.past disk.old) (D.past disk.new) }
+    ensures grows { IsTrue D.tells → (len : ℕ) → at ≡ Some len → OnOk result
+        (WritesFile name.now at lines.now (D.files disk.old) (D.files disk.new) (D.opened disk.new) (D.past disk.new)) }
+    ensures makes { IsTrue D.tells → at ≡ None → OnOk result (WritesFile name.now at (head.now ++ lines.now)
+        (D.files disk.old) (D.files disk.new) (D.opened disk.new) (D.past disk.new)) }
     ensures faults { D.faults disk.old ≤ D.faults disk.new }
     ensures cause { IsErrOf result DiskErr.Fault → Rose (D.faults disk.old) (D.faults disk.new) }
 {
@@ -34,11 +34,12 @@ pub(crate) fn write_file<D: Disk>(
 
 // Cuts what stands behind the first `len` bytes, and writes the lines there.
 fn go_on<D: Disk>(disk: &mut D, name: &FileName, len: u64, lines: &[u8]) -> Result<(), DiskErr>
-    requires { IsTrue D.tells → HasFile (D.files disk.old) name.now (λ b. (D.opened disk.old name.now ≤ len) × (len ≤ length b)) }
-    ensures leaves { IsTrue D.tells → LeavesFile name.now (Some len) (D.files disk.old) (D.files disk.new) (D.opened disk.old) (D.opened disk.new)
-        (D.past disk.old) (D.past disk.new) }
-    ensures grows { IsTrue D.tells → OnOk result (WritesFile name.now (Some len) lines.now (D.files disk.old) (D.files disk.new) (D.opened disk.new)
-        (D.past disk.new)) }
+    requires { IsTrue D.tells
+        → HasFile (D.files disk.old) name.now (λ b. (D.opened disk.old name.now ≤ len) × (len ≤ length b)) }
+    ensures leaves { IsTrue D.tells → LeavesFile name.now (Some len) (D.files disk.old) (D.files disk.new)
+        (D.opened disk.old) (D.opened disk.new) (D.past disk.old) (D.past disk.new) }
+    ensures grows { IsTrue D.tells → OnOk result (WritesFile name.now (Some len) lines.now
+        (D.files disk.old) (D.files disk.new) (D.opened disk.new) (D.past disk.new)) }
     ensures faults { D.faults disk.old ≤ D.faults disk.new }
     ensures cause { IsErrOf result DiskErr.Fault → Rose (D.faults disk.old) (D.faults disk.new) }
 {
@@ -54,10 +55,10 @@ fn make_anew<D: Disk>(
     head: &[u8],
     lines: &[u8],
 ) -> Result<(), DiskErr>
-    ensures leaves { IsTrue D.tells → LeavesFile name.now None (D.files disk.old) (D.files disk.new) (D.opened disk.old) (D.opened disk.new) (D.past disk.old)
-        (D.past disk.new) }
-    ensures makes { IsTrue D.tells → OnOk result (WritesFile name.now None (head.now ++ lines.now) (D.files disk.old) (D.files disk.new) (D.opened disk.new)
-        (D.past disk.new)) }
+    ensures leaves { IsTrue D.tells → LeavesFile name.now None (D.files disk.old) (D.files disk.new)
+        (D.opened disk.old) (D.opened disk.new) (D.past disk.old) (D.past disk.new) }
+    ensures makes { IsTrue D.tells → OnOk result (WritesFile name.now None (head.now ++ lines.now)
+        (D.files disk.old) (D.files disk.new) (D.opened disk.new) (D.past disk.new)) }
     ensures faults { D.faults disk.old ≤ D.faults disk.new }
     ensures cause { IsErrOf result DiskErr.Fault → Rose (D.faults disk.old) (D.faults disk.new) }
 {

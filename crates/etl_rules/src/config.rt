@@ -6,7 +6,8 @@ ghost use Rattle.etl_rules.specs.Config.{IsGood};
 use partition_names::{Granularity, holds};
 use std::marker::Model;
 
-/// The granularities of stores 1 to 3, and for stores 1 and 2 how many ripe partitions make a move due, and how many a move takes.
+/// The granularities of stores 1 to 3, and for stores 1 and 2 how many ripe partitions make a move due,
+/// and how many a move takes.
 #[derive(Clone, Copy, Debug, PartialEq, Eq)]
 pub struct Config {
     granularity: [Granularity; 3],
@@ -27,8 +28,8 @@ impl Model for Config {
 }
 
 impl Config {
-    /// The configuration with these settings, of the lower stores first. It is `None` exactly where a store's granularity isn't
-    /// held by the next store's, or a move would take no partition.
+    /// The configuration with these settings, of the lower stores first. It is `None` exactly where a store's
+    /// granularity isn't held by the next store's, or a move would take no partition.
     pub fn new(granularity: [Granularity; 3], hold: [u32; 2], gather: [u32; 2]) -> Option<Config>
         ensures good { IsSome result ↔ IsGood (record { granularity = granularity; hold = hold; gather = gather }) }
         ensures value { IfSome result (λ c. c ≡ record { granularity = granularity; hold = hold; gather = gather }) }

@@ -45,3 +45,5 @@ pub elements_apart : (v : Value) (xs ys : List Element) → with_elements (with_
 elements_apart v [] ys = ap (λ (u : Value). with_elements u ys) (no_elements v)
 elements_apart v (x ∷ xs) ys =
     ap (λ (u : Value). with_elements u ys) (sym (more_elements v x xs)) ∙ elements_apart (with_elements v (x ∷ [])) xs ys ∙ more_elements v x (xs ++ ys)
+
+pub ruleset element_steps = (more_elements, no_elements)

@@ -72,3 +72,7 @@ event_found ty bytes m sound e = rw (sound, e, joined_some (pairs_of (fields_of 
 pub event_fault : (ty : PayloadType) (bytes : List ℕ) (fault : FieldFault) → first_fault (fault_in (layout_of ty)) (fields_of bytes (length bytes)) ≡ Some fault → event_of ty bytes ≡ Err fault
 unfolding event_of
 event_fault ty bytes fault e = rw e refl
+
+pub ruleset event_ends = (event_found, event_fault)
+
+pub ruleset stamp_ends = (stamp_found, stamp_fault)

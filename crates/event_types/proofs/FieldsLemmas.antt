@@ -57,3 +57,5 @@ more_fields layout m x items =
 
 pub no_fields : (layout : Layout) (m : Members) → with_fields layout m [] ≡ m
 no_fields layout m = same_members (with_fields layout m []) m refl (or_false m.val) (no_elements m.value) (joined_nothing m.fields)
+
+pub ruleset field_steps = (more_fields, no_fields)

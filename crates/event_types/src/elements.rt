@@ -2,7 +2,8 @@
 ghost use Rattle.std.specs.Prelude.{◌≡◌, ◌≤◌, ◌<◌, OnOk, length};
 ghost use Rattle.pb_wire.specs.Message.{view_value, blob_len};
 ghost use Rattle.pb_wire.specs.Fields.{Tells};
-ghost use Rattle.event_types.specs.Layout.{is_single, packed_varints, unless_multiple, packed_of, packed_fixed32, packed_fixed64, elements_in};
+ghost use Rattle.event_types.specs.Layout.{is_single, packed_varints, unless_multiple, packed_of, packed_fixed32};
+ghost use Rattle.event_types.specs.Layout.{packed_fixed64, elements_in};
 ghost use Rattle.event_types.specs.Adding.{Adds, with_elements};
 
 use crate::layout::{Element, Layout};
@@ -122,7 +123,7 @@ fn add_packed(
     }
 }
 
-#[tactic(auto, using(crate::proofs::ElementLemmas::more_elements, crate::proofs::ElementLemmas::no_elements), unfolding(crate::specs::Layout::packed_varints))]
+#[tactic(auto, using(crate::proofs::ElementLemmas::element_steps), unfolding(crate::specs::Layout::packed_varints))]
 fn add_varints(val: &mut Value, alloc: Global, text: &[u8], behind: usize) -> Result<(), EventErr>
     requires { length text.now ≤ behind }
     ensures { Adds val.old val.new (packed_varints text.now behind) result }

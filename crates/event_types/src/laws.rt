@@ -7,5 +7,6 @@ ghost use Rattle.event_types.specs.Spelling.{event_text, FitsEvent};
 
 /// What `encode` writes of an event is read as that event.
 pub fn written_events()
-    ensures { (ty : PayloadType) (event : Event) → IsOfType ty event.val → FitsEvent event → event_of ty (event_text event) ≡ Ok event }
+    ensures { (ty : PayloadType) (event : Event) → IsOfType ty event.val → FitsEvent event
+        → event_of ty (event_text event) ≡ Ok event }
 {}

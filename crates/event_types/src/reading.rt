@@ -87,7 +87,7 @@ impl Members {
 }
 
 /// The event that the bytes hold, or its first fault.
-#[tactic(auto, using(crate::proofs::EventLemmas::event_found, crate::proofs::EventLemmas::event_fault, crate::proofs::FieldsLemmas::more_fields, crate::proofs::FieldsLemmas::no_fields))]
+#[tactic(auto, using(crate::proofs::EventLemmas::event_ends, crate::proofs::FieldsLemmas::field_steps))]
 pub fn decode(alloc: Global, ty: PayloadType, bytes: &[u8]) -> Result<Event, EventErr>
     ensures event { Gives result (event_of ty bytes.now) }
     ensures kind { IfOk result (λ event. IsOfType ty event.val) }
@@ -115,7 +115,7 @@ pub fn stamp(ty: PayloadType, bytes: &[u8]) -> Result<(u32, u32), EventFault>
 
 // The same, of any spelling.
 #[inline(never)]
-#[tactic(auto, using(crate::proofs::EventLemmas::stamp_found, crate::proofs::EventLemmas::stamp_fault), unfolding(crate::specs::Event::stamp_of, crate::specs::Event::event_of))]
+#[tactic(auto, using(crate::proofs::EventLemmas::stamp_ends), unfolding(crate::specs::Event::stamp_of, crate::specs::Event::event_of))]
 fn any_stamp(ty: PayloadType, bytes: &[u8]) -> Result<(u32, u32), EventFault>
     ensures { result ≡ stamp_of ty bytes.now }
 {

@@ -5,7 +5,8 @@ ghost use Rattle.std.specs.Int.{w32};
 ghost use Rattle.std.specs.Io.{StartsWith};
 ghost use Rattle.pb_wire.specs.Message.{IsFieldNumber};
 ghost use Rattle.pb_wire.specs.FieldSpelling.{message_text, text_field, pair_field, optional_field, ShortPairs};
-ghost use Rattle.event_types.specs.Spelling.{unless_zero, val_fields, stamp_fields, state_fields, last_fields, event_text, FitsVal, FitsState, FitsEvent};
+ghost use Rattle.event_types.specs.Spelling.{unless_zero, val_fields, stamp_fields, state_fields, last_fields};
+ghost use Rattle.event_types.specs.Spelling.{event_text, FitsVal, FitsState, FitsEvent};
 ghost use Rattle.event_types.specs.Event.{IsOfType, event_of};
 
 use crate::packed::{Double, Float, Sfixed32, Sint32, put_packed};
@@ -43,7 +44,8 @@ fn put_event(event: &Event, out: &mut Vec<u8>) -> Result<(), AllocError>
 
 #[tactic(auto, using(pb_wire::proofs::PairTexts::texts_apart))]
 fn put_front(event: &Event, out: &mut Vec<u8>) -> Result<(), AllocError>
-    ensures ok { OnOk result (out.new.items ≡ out.old.items ++ message_text (stamp_fields event.now ++ val_fields event.now.val)) }
+    ensures ok { OnOk result
+        (out.new.items ≡ out.old.items ++ message_text (stamp_fields event.now ++ val_fields event.now.val)) }
     ensures grows { StartsWith out.new.items out.old.items }
     ensures fits { OnOk result ((event.now.secs < 2 ^ 32) × (event.now.nano < 2 ^ 32) × FitsVal event.now.val) }
 {
@@ -53,7 +55,8 @@ fn put_front(event: &Event, out: &mut Vec<u8>) -> Result<(), AllocError>
 
 #[tactic(auto, using(pb_wire::proofs::PairTexts::texts_apart))]
 fn put_back(event: &Event, out: &mut Vec<u8>) -> Result<(), AllocError>
-    ensures ok { OnOk result (out.new.items ≡ out.old.items ++ message_text (state_fields event.now ++ last_fields event.now)) }
+    ensures ok { OnOk result
+        (out.new.items ≡ out.old.items ++ message_text (state_fields event.now ++ last_fields event.now)) }
     ensures grows { StartsWith out.new.items out.old.items }
     ensures fits { OnOk result (FitsState event.now × ShortPairs event.now.fields) }
 {
@@ -81,7 +84,8 @@ fn put_state(event: &Event, out: &mut Vec<u8>) -> Result<(), AllocError>
 }
 
 fn put_severity(event: &Event, out: &mut Vec<u8>) -> Result<(), AllocError>
-    ensures ok { OnOk result (out.new.items ≡ out.old.items ++ message_text (optional_field 4 (unless_zero event.now.severity))) }
+    ensures ok { OnOk result
+        (out.new.items ≡ out.old.items ++ message_text (optional_field 4 (unless_zero event.now.severity))) }
     ensures grows { StartsWith out.new.items out.old.items }
     ensures fits { OnOk result (FitsSigned w32 event.now.severity) }
 {
@@ -90,7 +94,8 @@ fn put_severity(event: &Event, out: &mut Vec<u8>) -> Result<(), AllocError>
 
 #[tactic(auto, using(pb_wire::proofs::PairTexts::texts_apart))]
 fn put_status(event: &Event, out: &mut Vec<u8>) -> Result<(), AllocError>
-    ensures ok { OnOk result (out.new.items ≡ out.old.items ++ message_text (optional_field 5 (unless_zero event.now.status) ++ optional_field 6 event.now.repeat)) }
+    ensures ok { OnOk result (out.new.items ≡ out.old.items
+        ++ message_text (optional_field 5 (unless_zero event.now.status) ++ optional_field 6 event.now.repeat)) }
     ensures grows { StartsWith out.new.items out.old.items }
     ensures fits { OnOk result (FitsSigned w32 event.now.status × IfSome event.now.repeat (λ n. n < 2 ^ 32)) }
 {

@@ -7,7 +7,8 @@ ghost use Rattle.payload_info.specs.declared.info.PayloadInfo.{PayloadInfo as In
 ghost use Rattle.pb_lines.specs.Reader.{IsLineOf};
 ghost use Rattle.pv_name.specs.Name.{IsName};
 ghost use Rattle.feed_session.specs.Asks.{about_of, flush_all, offer_of};
-ghost use Rattle.feed_session.specs.Asking.{Asking, Closes, OffersOnce, Registers, both, end_by, none, one_more, tally_of, total};
+ghost use Rattle.feed_session.specs.Asking.{Asking, Closes, OffersOnce, Registers, both, end_by, none, one_more};
+ghost use Rattle.feed_session.specs.Asking.{tally_of, total};
 ghost use Rattle.feed_session.specs.Session.{IsFlushed};
 
 use crate::end::Fed;
@@ -45,8 +46,8 @@ impl From<Stopped> for Fed {
     }
 }
 
-/// Asks for a row for the variable of the header that was read last, if its name is one. Whether there is a row already, or none can be,
-/// changes nothing.
+/// Asks for a row for the variable of the header that was read last, if its name is one. Whether there is a row
+/// already, or none can be, changes nothing.
 pub(crate) fn register<A: Actor>(
     alloc: Global,
     actor: &mut A,
@@ -54,7 +55,8 @@ pub(crate) fn register<A: Actor>(
 ) -> Result<(), Stopped>
     requires stands { (m : Machine) × A.stands actor.old m }
     requires header { IsLineOf reader.now ChunkItem.Header }
-    ensures asked { (info : InfoValue) → reader.now.section.chunk ≡ Some info → Registers A.number A.between actor.old info result actor.new }
+    ensures asked { (info : InfoValue) → reader.now.section.chunk ≡ Some info
+        → Registers A.number A.between actor.old info result actor.new }
     ensures stands { (n : Machine) × A.stands actor.new n }
     ensures spent { IsErrOf result Stopped.Spent → A.is_spent actor.new }
 {
@@ -70,7 +72,8 @@ pub(crate) fn register<A: Actor>(
 
 // The name of a header's variable, if it is one.
 fn name_of(alloc: Global, info: &PayloadInfo) -> Result<Option<PvName>, AllocError>
-    ensures { IfOk result (λ name. MatchOption name (IsName info.now.name → ⊥) (λ name. (name ≡ info.now.name) × IsName info.now.name)) }
+    ensures { IfOk result (λ name.
+        MatchOption name (IsName info.now.name → ⊥) (λ name. (name ≡ info.now.name) × IsName info.now.name)) }
 {
     match PvName::new(alloc, info.name.bytes()) {
         Ok(name) => Ok(Some(name)),
@@ -94,7 +97,8 @@ fn about_of(info: &PayloadInfo) -> Result<About, AllocError>
 // Asks for a row of this name.
 fn ask_row<A: Actor>(actor: &mut A, name: PvName, info: &PayloadInfo) -> Result<(), Stopped>
     requires stands { (m : Machine) × A.stands actor.old m }
-    ensures asked { Asking A.number A.between actor.old (Act.Register name (about_of info.now) ∷ []) (λ _ done. tally_of done ≡ none) result actor.new }
+    ensures asked { Asking A.number A.between actor.old (Act.Register name (about_of info.now) ∷ [])
+        (λ _ done. tally_of done ≡ none) result actor.new }
     ensures stands { (n : Machine) × A.stands actor.new n }
     ensures spent { IsErrOf result Stopped.Spent → A.is_spent actor.new }
 {
@@ -117,7 +121,9 @@ pub(crate) fn take_sample<A: Actor>(
     requires stands { (m : Machine) × A.stands actor.old m }
     requires sample { IsLineOf reader.now (ChunkItem.Sample t) }
     requires few { total tally.old < 2 ^ 63 }
-    ensures asked { (info : InfoValue) → reader.now.section.chunk ≡ Some info → Asking A.number A.between actor.old (offer_of info (record { t = t; line = reader.now.lines.line }) now ∷ []) (λ _ done. tally.new ≡ both tally.old (tally_of done)) result actor.new }
+    ensures asked { (info : InfoValue) → reader.now.section.chunk ≡ Some info
+        → Asking A.number A.between actor.old (offer_of info (record { t = t; line = reader.now.lines.line }) now ∷ [])
+        (λ _ done. tally.new ≡ both tally.old (tally_of done)) result actor.new }
     ensures one { OnOk result (total tally.new ≡ total tally.old + 1) }
     ensures stands { (n : Machine) × A.stands actor.new n }
     ensures spent { IsErrOf result Stopped.Spent → A.is_spent actor.new }
@@ -134,8 +140,8 @@ pub(crate) fn take_sample<A: Actor>(
     }
 }
 
-// Offers a sample of a header's chunk. Where the intake is full it is offered again behind a flush, with the same moment `now`. It may
-// wait, for as long as others fill the intake in between.
+// Offers a sample of a header's chunk. Where the intake is full it is offered again behind a flush, with the same
+// moment `now`. It may wait, for as long as others fill the intake in between.
 fn offer<A: Actor>(
     rt: &impl Wait,
     alloc: Global,
@@ -147,7 +153,8 @@ fn offer<A: Actor>(
 ) -> Result<Outcome, Stopped>
     requires stands { (m : Machine) × A.stands actor.old m }
     requires event { IsEvent info.now.ty (record { t = t; line = line.now }) }
-    ensures asked { Asking A.number A.between actor.old (offer_of info.now (record { t = t; line = line.now }) now ∷ []) (λ outcome done. tally_of done ≡ one_more outcome none) result actor.new }
+    ensures asked { Asking A.number A.between actor.old (offer_of info.now (record { t = t; line = line.now }) now ∷ [])
+        (λ outcome done. tally_of done ≡ one_more outcome none) result actor.new }
     ensures stands { (n : Machine) × A.stands actor.new n }
     ensures spent { IsErrOf result Stopped.Spent → A.is_spent actor.new }
 {
@@ -176,7 +183,8 @@ fn offer_once<A: Actor>(
 ) -> Result<Option<Outcome>, Stopped>
     requires stands { (m : Machine) × A.stands actor.old m }
     requires event { IsEvent info.now.ty (record { t = t; line = line.now }) }
-    ensures asked { OffersOnce A.number A.between actor.old (offer_of info.now (record { t = t; line = line.now }) now) result actor.new }
+    ensures asked { OffersOnce A.number A.between actor.old
+        (offer_of info.now (record { t = t; line = line.now }) now) result actor.new }
     ensures stands { (n : Machine) × A.stands actor.new n }
     ensures spent { IsErrOf result Stopped.Spent → A.is_spent actor.new }
 {
@@ -217,7 +225,8 @@ fn ask_once<A: Actor>(
 // Asks for a row of this name, of which this is known.
 fn ask_row_about<A: Actor>(actor: &mut A, name: PvName, about: About) -> Result<(), Stopped>
     requires stands { (m : Machine) × A.stands actor.old m }
-    ensures asked { Asking A.number A.between actor.old (Act.Register name about ∷ []) (λ _ done. tally_of done ≡ none) result actor.new }
+    ensures asked { Asking A.number A.between actor.old (Act.Register name about ∷ [])
+        (λ _ done. tally_of done ≡ none) result actor.new }
     ensures stands { (n : Machine) × A.stands actor.new n }
     ensures spent { IsErrOf result Stopped.Spent → A.is_spent actor.new }
 {

@@ -13,12 +13,13 @@ use pb_lines::{ChunkItem, ChunkReader};
 use std::alloc::Global;
 use std::sync::Wait;
 
-/// Brings a stream of chunks into an archive. Each header's name is registered as a row where it is a name, and each sample is offered at
-/// a moment that the clock gives for it; where the intake is full all is flushed, and the same sample is offered again with the same
-/// moment. At the end of the stream, and at its first bad line, all is flushed.
+/// Brings a stream of chunks into an archive. Each header's name is registered as a row where it is a name, and each
+/// sample is offered at a moment that the clock gives for it; where the intake is full all is flushed, and the same
+/// sample is offered again with the same moment. At the end of the stream, and at its first bad line, all is flushed.
 ///
-/// So after `Fed` and `Refused` all that was kept is durable. It stops at its first fault. `PeerFault` comes only where the source's
-/// count of faults rose in this call, `DiskFault` only where the last act was answered so, and `Spent` only where no act is left.
+/// So after `Fed` and `Refused` all that was kept is durable. It stops at its first fault. `PeerFault` comes only where
+/// the source's count of faults rose in this call, `DiskFault` only where the last act was answered so, and `Spent`
+/// only where no act is left.
 pub fn ingest<A: Actor, S: Source, C: Clock>(
     rt: &impl Wait,
     alloc: Global,
@@ -28,7 +29,8 @@ pub fn ingest<A: Actor, S: Source, C: Clock>(
 ) -> Fed
     requires stands { (m : Machine) × A.stands actor.old m }
 
-    ensures ingests { Ingests A.number A.between result actor.old actor.new (S.left source.old) (C.coming clock.old) (C.coming clock.new) }
+    ensures ingests { Ingests A.number A.between result actor.old actor.new (S.left source.old)
+        (C.coming clock.old) (C.coming clock.new) }
     ensures stands { (n : Machine) × A.stands actor.new n }
     ensures spent { result ≡ Fed.Spent → A.is_spent actor.new }
     ensures read_faults { S.read_faults source.old ≤ S.read_faults source.new }

@@ -51,7 +51,8 @@ pub(crate) fn tell_chunk<L: Link>(alloc: Global, link: &mut L, chunk: Tally) -> 
 pub(crate) fn tell_end<L: Link>(alloc: Global, link: &mut L, end: Fed) -> Fed
     ensures tells { Tells end (last_line end) result (L.Sink.written link.old) (L.Sink.written link.new) }
     ensures faults { L.Sink.write_faults link.old ≤ L.Sink.write_faults link.new }
-    ensures peer { result ≡ Fed.PeerFault → (end ≡ Fed.PeerFault) ⊎ Rose (L.Sink.write_faults link.old) (L.Sink.write_faults link.new) }
+    ensures peer { result ≡ Fed.PeerFault
+        → (end ≡ Fed.PeerFault) ⊎ Rose (L.Sink.write_faults link.old) (L.Sink.write_faults link.new) }
     ensures left { L.Source.left link.new ≡ L.Source.left link.old }
     ensures read_faults { L.Source.read_faults link.new ≡ L.Source.read_faults link.old }
 {

@@ -78,19 +78,21 @@ impl ReadAt for FolderFile {
     ghost leaves_then = { λ a b c first second. tt };
 }
 
-/// Files of the operating system in four folders: the site's for store 0, which has the catalogue and the manifests, and the
-/// short, medium and long term's for the stores 1, 2 and 3. A folder that is absent is made before the first file in it. It keeps
-/// the last used file of each store open, and after a sync that failed it syncs nothing more. Many names at once it syncs in threads.
+/// Files of the operating system in four folders: the site's for store 0, which has the catalogue and the manifests,
+/// and the short, medium and long term's for the stores 1, 2 and 3. A folder that is absent is made before the first
+/// file in it. It keeps the last used file of each store open, and after a sync that failed it syncs nothing more. Many
+/// names at once it syncs in threads.
 ///
-/// Its first call takes the locks of the folders, which it keeps: one program writes and no other reads or writes, or some
-/// read. Where another has a lock, each call is a fault. So it is where two stores have one folder, where a store's folder isn't the
-/// archive's by its mark, and where a link, a pipe or a folder stands in a file's place.
+/// Its first call takes the locks of the folders, which it keeps: one program writes and no other reads or writes, or
+/// some read. Where another has a lock, each call is a fault. So it is where two stores have one folder, where a
+/// store's folder isn't the archive's by its mark, and where a link, a pipe or a folder stands in a file's place.
 ///
-/// The folders of an archive that has no marks yet get them before the first change of a file of a store. Whoever makes it has found
-/// in the stores what the site lists.
+/// The folders of an archive that has no marks yet get them before the first change of a file of a store. Whoever makes
+/// it has found in the stores what the site lists.
 ///
-/// A disk that only reads makes no folder, and where the site's is absent there are no files. What loading writes into the journals
-/// of the site's folder, to begin them, and what it removes of them, it keeps in memory. Any other change is a fault.
+/// A disk that only reads makes no folder, and where the site's is absent there are no files. What loading
+/// writes into the journals of the site's folder, to begin them, and what it removes of them, it keeps in
+/// memory. Any other change is a fault.
 #[derive(Drop)]
 pub struct FolderDisk<R: Files<File = File> + Drop, H: Drop> {
     folders: Folders<R>,

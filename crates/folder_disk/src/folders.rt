@@ -21,8 +21,8 @@ use std::str;
 pub enum Access {
     /// Read alone, beside others that read. No file and no folder is made but the site's lock, and none is changed.
     Read,
-    /// Read and write, and nobody else meanwhile. It is refused while an adoption isn't finished, which the file `adopt` of the site's folder
-    /// tells.
+    /// Read and write, and nobody else meanwhile. It is refused while an adoption isn't finished, which the file
+    /// `adopt` of the site's folder tells.
     Write,
     /// As `Write`, where the site may be new to stores that have files and no mark: they become its own.
     Adopt,
@@ -277,9 +277,9 @@ impl<R: Files<File = File> + Drop> Folders<R> {
         Ok(())
     }
 
-    // Makes a folder, and what of those that lead to it is absent, and tells whether any was. Those down to a store's own, whose path
-    // has `root` bytes, are synced at once: where the program is stopped between two of them, the next one begins above the last that
-    // is there.
+    // Makes a folder, and what of those that lead to it is absent, and tells whether any was. Those down to a store's
+    // own, whose path has `root` bytes, are synced at once: where the program is stopped between two of them, the next
+    // one begins above the last that is there.
     fn make_folder(&mut self, folder: &str, root: usize) -> io::Result<bool> {
         let mut absent = Vec::new(self.alloc);
         let mut level = folder;
@@ -328,8 +328,8 @@ impl<R: Files<File = File> + Drop> Folders<R> {
         self.file(name)?.write_all_at(bytes, at)
     }
 
-    // Where one only reads, loading may begin the journals of the site's folder and remove files of them that no longer count, which is
-    // kept in memory. Nothing else is written.
+    // Where one only reads, loading may begin the journals of the site's folder and remove files of them that no longer
+    // count, which is kept in memory. Nothing else is written.
     fn may_draft(&self, name: &FileName) -> io::Result<()> {
         if name.store == 0 {
             Ok(())
@@ -396,7 +396,8 @@ impl<R: Files<File = File> + Drop> Folders<R> {
         file.set_len(len)
     }
 
-    // Syncs the file, and the folders that lead to it. An absent name is synced by its folders. None is synced after a sync failed.
+    // Syncs the file, and the folders that lead to it. An absent name is synced by its folders. None is
+    // synced after a sync failed.
     pub fn sync(&mut self, name: &FileName) -> io::Result<()> {
         self.begin()?;
         if matches!(self.turn, Turn::Empty) || self.drafts.get(name).is_some() {
@@ -521,8 +522,9 @@ impl<R: Files<File = File> + Drop> Folders<R> {
         Ok(names)
     }
 
-    // The files of one folder, and the folders in it that wait for their turn. It passes by what is no regular file, such as a link, by names
-    // that are no text, and by folders within a store that the program may not read: none of them is a file of the disk.
+    // The files of one folder, and the folders in it that wait for their turn. It passes by what is no regular file,
+    // such as a link, by names that are no text, and by folders within a store that the program may not read: none of
+    // them is a file of the disk.
     fn list(
         &self,
         store: u8,

@@ -2,7 +2,8 @@
 use std::alloc::{AllocError, Global};
 use std::str;
 
-// The file of a folder that has its mark. No key of a variable has a `-`, so no file and no folder of a store has its name.
+// The file of a folder that has its mark. No key of a variable has a `-`, so no file and no
+// folder of a store has its name.
 pub const MARK: &str = "archive-mark";
 
 // A mark has fewer bytes.

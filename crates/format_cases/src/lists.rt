@@ -47,7 +47,8 @@ pub fn answer(case: &mut Case<'_>) -> Result<(), AllocError> {
     tell_samples(case, list.items())
 }
 
-// The state of a row, its type and the moment from which samples are taken; and type and moment of a sample, and the time.
+// The state of a row, its type and the moment from which samples are taken; and type and moment
+// of a sample, and the time.
 pub fn admit(case: &mut Case<'_>) -> Result<(), AllocError> {
     let state = case.word();
     let standing = Standing {

@@ -1,5 +1,5 @@
-//! Cases of the formats, one a line of standard input: its kind and its arguments. What comes of each is written as a line.
-//! `interop/format_cases` makes the cases and the lines that are wanted, which are compared with this program's.
+//! Cases of the formats, one a line of standard input: its kind and its arguments. What comes of each is written as a
+//! line. `interop/format_cases` makes the cases and the lines that are wanted, which are compared with this program's.
 #![tactic(auto)]
 
 mod case;

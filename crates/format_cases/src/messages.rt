@@ -30,7 +30,8 @@ pub fn varint(case: &mut Case<'_>) -> Result<(), AllocError> {
     case.tell_hex(&out)
 }
 
-// Each field of a message, whose end has a place, and what ends it: a full stop, or a fault, and whether it is told again.
+// Each field of a message, whose end has a place, and what ends it: a full stop, or a fault, and
+// whether it is told again.
 pub fn fields(case: &mut Case<'_>) -> Result<(), AllocError> {
     let (end, message) = (case.number() as usize, case.bytes());
     if end < message.len() {

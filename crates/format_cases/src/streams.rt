@@ -14,8 +14,8 @@ pub fn sample(case: &mut Case<'_>) -> Result<(), AllocError> {
     case.tell(format_args!("{t:?}"))
 }
 
-// The items of a stream: each with the number of its line, whether the source was read for it or a line was held, and what is known
-// behind it. The last comes again.
+// The items of a stream: each with the number of its line, whether the source was read for it or a line was held, and
+// what is known behind it. The last comes again.
 pub fn stream(case: &mut Case<'_>) -> Result<(), AllocError> {
     let (failing, bytes) = (case.numbers()?, case.bytes());
     let mut source = MemSource::new(case.alloc, &bytes, &failing)?;
@@ -47,7 +47,8 @@ fn next_item(
     Ok(Some(reader.next(source)))
 }
 
-// The year is that of the chunk in which the next line stands. A header and a sample have their line, a fault its number.
+// The year is that of the chunk in which the next line stands. A header and a sample have their
+// line, a fault its number.
 fn tell_item(
     case: &mut Case<'_>,
     item: Option<ChunkItem>,

@@ -27,9 +27,9 @@ pub struct Candidate {
     pub cut: bool,
 }
 
-/// Tells the candidate that a file is in a store of this granularity, or `None` where it is none: where its path isn't that of a name and
-/// of one of the granularity's partitions, where it has no front for that partition, or where the name in its header is no name or has
-/// another path. The disk is only read, and no file is opened.
+/// Tells the candidate that a file is in a store of this granularity, or `None` where it is none: where its path isn't
+/// that of a name and of one of the granularity's partitions, where it has no front for that partition, or where the
+/// name in its header is no name or has another path. The disk is only read, and no file is opened.
 ///
 /// `Fault` comes only where the disk's count of faults rose in the call.
 pub fn find_candidate<D: Disk>(
@@ -39,7 +39,8 @@ pub fn find_candidate<D: Disk>(
     file: &FileName,
 ) -> Result<Option<Candidate>, DiskErr>
     ensures found { IsTrue D.tells → IfOk result (λ r. IfSome r (IsCandidate granularity (D.files disk.old) file.now)) }
-    ensures none { IsTrue D.tells → IfOk result (λ r. r ≡ None → (c : Value) → IsCandidate granularity (D.files disk.old) file.now c → ⊥) }
+    ensures none { IsTrue D.tells
+        → IfOk result (λ r. r ≡ None → (c : Value) → IsCandidate granularity (D.files disk.old) file.now c → ⊥) }
     ensures shape { IfOk result (λ r. IfSome r (IsShapedOf granularity file.now)) }
     ensures read { OnlyReads D.Disk disk.old disk.new }
     ensures cause { result ≡ Err Fault → Rose (D.faults disk.old) (D.faults disk.new) }
@@ -65,7 +66,8 @@ fn named(
     len: u64,
 ) -> Result<Option<Candidate>, DiskErr>
     ensures found { IfOk result (λ r. IfSome r (IsNamed file.now part front len)) }
-    ensures none { IfOk result (λ r. r ≡ None → IsName front.info.name → path_of front.info.name part.name ≡ file.now.1 → ⊥) }
+    ensures none { IfOk result (λ r.
+        r ≡ None → IsName front.info.name → path_of front.info.name part.name ≡ file.now.1 → ⊥) }
     ensures memory { IfErr result (λ e. e ≡ Memory) }
 {
     let name = match PvName::new(alloc, front.info.name.bytes()) {

@@ -10,8 +10,8 @@ use partition_names::{Granularity, Part, PartName, file_path, parse};
 use pv_name::PvName;
 use std::alloc::{AllocError, Global};
 
-/// Where the key ends in a path, before its first colon, and the partition that it names behind that. It is `None` of a path that isn't
-/// that of a variable's file of one of the granularity's partitions. It takes no memory.
+/// Where the key ends in a path, before its first colon, and the partition that it names behind that. It is `None` of a
+/// path that isn't that of a variable's file of one of the granularity's partitions. It takes no memory.
 pub fn part_in(granularity: Granularity, path: &[u8]) -> Option<(usize, Part)>
     ensures within { IfSome result (λ r. (r.0 ≤ length path.now) × IsPart granularity r.1) }
     ensures only { (name : List ℕ) (part : PartValue) → IsPart granularity part → path_of name part.name ≡ path.now

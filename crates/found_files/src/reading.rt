@@ -10,7 +10,8 @@ use partition_names::Part;
 use pb_file::{Front, FrontErr, good_front};
 use std::alloc::Global;
 
-// A file that is there on a disk, as one that was opened. It keeps what the disk answered last where that was a refusal, and counts the refusals.
+// A file that is there on a disk, as one that was opened. It keeps what the disk answered last where that was a
+// refusal, and counts the refusals.
 #[derive(Drop)]
 struct DiskFile<'a, D: Disk> {
     disk: &'a mut D,
@@ -34,8 +35,9 @@ impl<'a, D: Disk> ReadAt for DiskFile<'a, D> {
     ghost faults = { λ f. f.count };
 
     ghost leaves = { λ old new. (new.disk.ghost_name ≡ old.disk.ghost_name) × (new.name ≡ old.name)
-        × ReadsOn D.tells (D.files old.disk.now) (D.opened old.disk.now) (D.past old.disk.now) (D.faults old.disk.now) old.refused old.count
-        (D.files new.disk.now) (D.opened new.disk.now) (D.past new.disk.now) (D.faults new.disk.now) new.refused new.count };
+        × ReadsOn D.tells (D.files old.disk.now) (D.opened old.disk.now) (D.past old.disk.now)
+        (D.faults old.disk.now) old.refused old.count (D.files new.disk.now) (D.opened new.disk.now)
+        (D.past new.disk.now) (D.faults new.disk.now) new.refused new.count };
 
     fn read_at(&mut self, at: u64, buf: &mut [u8]) -> Result<usize, ReadFailed> {
         match self.disk.read(self.name, at, buf) {
@@ -51,7 +53,8 @@ impl<'a, D: Disk> ReadAt for DiskFile<'a, D> {
     ghost leaves_none = { λ f. (
       refl,
       refl,
-      reads_none D.tells (D.files f.disk.now) (D.opened f.disk.now) (D.past f.disk.now) (D.faults f.disk.now) f.refused f.count,
+      reads_none D.tells (D.files f.disk.now) (D.opened f.disk.now) (D.past f.disk.now)
+          (D.faults f.disk.now) f.refused f.count,
     ) };
 
     ghost leaves_then = { λ a b c first second. (
@@ -65,7 +68,8 @@ impl<'a, D: Disk> ReadAt for DiskFile<'a, D> {
     ) };
 }
 
-// Gives the front of the first `len` bytes of a file for this partition, or `None` where it has none. The disk is only read.
+// Gives the front of the first `len` bytes of a file for this partition, or `None` where it has
+// none. The disk is only read.
 pub(crate) fn front_of<'a, D: Disk>(
     alloc: Global,
     disk: &'a mut D,

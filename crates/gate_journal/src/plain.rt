@@ -1,5 +1,6 @@
 // A batch counts where the gate before it is open, and a gate is opened only when all behind it is on the disk.
-ghost use Rattle.std.specs.Prelude.{◌≡◌, ◌≢◌, ◌≤◌, ◌<◌, ◌+◌, ◌^◌, ◌++◌, [], ◌∷◌, List, ℕ, length, IfOk, OnOk, OnErr, IsErr, IsErrOf, IsTrue, true, false, Some, ◌↔◌, slice_index};
+ghost use Rattle.std.specs.Prelude.{◌≡◌, ◌≢◌, ◌≤◌, ◌<◌, ◌+◌, ◌^◌, ◌++◌, [], ◌∷◌, List, ℕ, length, IfOk, OnOk, OnErr};
+ghost use Rattle.std.specs.Prelude.{IsErr, IsErrOf, IsTrue, true, false, Some, ◌↔◌, slice_index};
 ghost use Rattle.disk_model.specs.Files.{Name, Rose, HasFile, At, Overwritten, Torn};
 ghost use Rattle.disk_model.specs.Past.{Passes, Only};
 ghost use Rattle.gate_journal.specs.Batches.{framed_bytes, committed};
@@ -16,8 +17,8 @@ pub(crate) const OPEN: u8 = 1;
 
 pub(crate) const CLOSED: u8 = 0;
 
-/// A journal of batches in one file of a disk. Contracts see the name of its file, the place of its closed gate, how far behind
-/// that the next gate of the last commit stands, and whether it may commit.
+/// A journal of batches in one file of a disk. Contracts see the name of its file, the place of its closed gate, how
+/// far behind that the next gate of the last commit stands, and whether it may commit.
 #[derive(Drop)]
 pub struct PlainJournal {
     name: FileName,
@@ -71,26 +72,34 @@ impl PlainJournal {
         self.place + 1
     }
 
-    /// Adds one batch, whole or not at all, also across a crash, by four calls of the disk: a write of the length, the batch and
-    /// a closed gate, a sync, a write of the open gate, and a sync. After `Fault` the journal isn't sound: it is reviewed, or
-    /// loaded again. `Memory` comes before anything is written. The journal keeps the memory that its longest batch took.
+    /// Adds one batch, whole or not at all, also across a crash, by four calls of the disk: a write of the length,
+    /// the batch and a closed gate, a sync, a write of the open gate, and a sync. After `Fault` the journal isn't
+    /// sound: it is reviewed, or loaded again. `Memory` comes before anything is written. The journal keeps the
+    /// memory that its longest batch took.
     pub(crate) fn commit<D: Disk>(&mut self, disk: &mut D, batch: &[u8]) -> Result<(), DiskErr>
         requires sound { IsTrue self.old.sound }
         requires not_empty { 1 ≤ length batch.now }
         requires not_long { length batch.now ≤ GREATEST_BATCH }
-        requires settled { IsTrue D.tells → (bs : List (List ℕ)) × IsSettled self.old (D.files disk.old) (D.opened disk.old) (D.past disk.old) bs }
+        requires settled { IsTrue D.tells
+            → (bs : List (List ℕ)) × IsSettled self.old (D.files disk.old) (D.opened disk.old) (D.past disk.old) bs }
 
-        ensures added { IsTrue D.tells → (bs : List (List ℕ)) → IsSettled self.old (D.files disk.old) (D.opened disk.old) (D.past disk.old) bs
-            → OnOk result (IsSettled self.new (D.files disk.new) (D.opened disk.new) (D.past disk.new) (bs ++ batch.now ∷ [])) }
+        ensures added { IsTrue D.tells → (bs : List (List ℕ))
+            → IsSettled self.old (D.files disk.old) (D.opened disk.old) (D.past disk.old) bs
+            → OnOk result
+            (IsSettled self.new (D.files disk.new) (D.opened disk.new) (D.past disk.new) (bs ++ batch.now ∷ [])) }
 
-        // A crash at any moment of the call leaves the batches from before it, without the new one or with it, and of every other name what it might have left before.
-        ensures any_moment { IsTrue D.tells → (bs : List (List ℕ)) → IsSettled self.old (D.files disk.old) (D.opened disk.old) (D.past disk.old) bs
+        // A crash at any moment of the call leaves the batches from before it, without the new one or with it, and of
+        // every other name what it might have left before.
+        ensures any_moment { IsTrue D.tells → (bs : List (List ℕ))
+            → IsSettled self.old (D.files disk.old) (D.opened disk.old) (D.past disk.old) bs
             → Passes (At self.old.name (BeforeOrAfter bs batch.now)) (D.past disk.old) (D.past disk.new) }
 
         ensures no_shorter { IsTrue D.tells → Passes (At self.old.name NoShorter) (D.past disk.old) (D.past disk.new) }
 
-        ensures in_doubt { IsTrue D.tells → (bs : List (List ℕ)) → IsSettled self.old (D.files disk.old) (D.opened disk.old) (D.past disk.old) bs
-            → IsErrOf result DiskErr.Fault → IsInDoubt self.new (D.files disk.new) (D.opened disk.new) (D.past disk.new) bs batch.now }
+        ensures in_doubt { IsTrue D.tells → (bs : List (List ℕ))
+            → IsSettled self.old (D.files disk.old) (D.opened disk.old) (D.past disk.old) bs
+            → IsErrOf result DiskErr.Fault
+            → IsInDoubt self.new (D.files disk.new) (D.opened disk.new) (D.past disk.new) bs batch.now }
         ensures bytes { IsTrue D.tells → (b : List ℕ) → D.files disk.old self.old.name ≡ Some b
             → OnOk result (D.files disk.new self.old.name ≡ Some (committed self.old.place batch.now b)) }
         ensures elsewhere { IsTrue D.tells → (n : Name) → n ≢ self.old.name → D.files disk.new n ≡ D.files disk.old n }
@@ -99,7 +108,8 @@ impl PlainJournal {
         ensures name { self.new.name ≡ self.old.name }
         ensures placed { OnOk result (self.new.place ≡ self.old.place + (5 + length batch.now)) }
         ensures sound { OnOk result (self.new.sound ≡ true) }
-        ensures fault { IsErrOf result DiskErr.Fault → (self.new.sound ≡ false) × Rose (D.faults disk.old) (D.faults disk.new) }
+        ensures fault { IsErrOf result DiskErr.Fault
+            → (self.new.sound ≡ false) × Rose (D.faults disk.old) (D.faults disk.new) }
         ensures memory { IsErrOf result DiskErr.Memory → (self.new ≡ self.old) × (disk.new ≡ disk.old) }
         ensures faults { D.faults disk.old ≤ D.faults disk.new }
     {
@@ -113,22 +123,25 @@ impl PlainJournal {
         Ok(())
     }
 
-    /// After a commit that failed: whether its batch is one of the journal's. It is exactly where the gate before it reads 1
-    /// and the batch and its next gate lie in the file. The journal is sound afterwards; after an error it is as before, and
-    /// can be reviewed again.
+    /// After a commit that failed: whether its batch is one of the journal's. It is exactly where the gate before it
+    /// reads 1 and the batch and its next gate lie in the file. The journal is sound afterwards; after an error it is
+    /// as before, and can be reviewed again.
     pub(crate) fn review<D: Disk>(&mut self, disk: &mut D) -> Result<bool, DiskErr>
         requires unsound { self.old.sound ≡ false }
-        requires in_doubt { IsTrue D.tells
-            → (bs : List (List ℕ)) × (batch : List ℕ) × IsInDoubt self.old (D.files disk.old) (D.opened disk.old) (D.past disk.old) bs batch }
+        requires in_doubt { IsTrue D.tells → (bs : List (List ℕ)) × (batch : List ℕ)
+            × IsInDoubt self.old (D.files disk.old) (D.opened disk.old) (D.past disk.old) bs batch }
 
         ensures made { IsTrue D.tells → (bs : List (List ℕ)) → (batch : List ℕ)
             → IsInDoubt self.old (D.files disk.old) (D.opened disk.old) (D.past disk.old) bs batch
-            → IfOk result (λ made. IsTrue made → IsSettled self.new (D.files disk.new) (D.opened disk.new) (D.past disk.new) (bs ++ batch ∷ [])) }
+            → IfOk result (λ made. IsTrue made
+            → IsSettled self.new (D.files disk.new) (D.opened disk.new) (D.past disk.new) (bs ++ batch ∷ [])) }
         ensures unmade { IsTrue D.tells → (bs : List (List ℕ)) → (batch : List ℕ)
             → IsInDoubt self.old (D.files disk.old) (D.opened disk.old) (D.past disk.old) bs batch
-            → IfOk result (λ made. made ≡ false → IsSettled self.new (D.files disk.new) (D.opened disk.new) (D.past disk.new) bs) }
+            → IfOk result (λ made. made ≡ false
+            → IsSettled self.new (D.files disk.new) (D.opened disk.new) (D.past disk.new) bs) }
         ensures exactly { IsTrue D.tells → (b : List ℕ) → D.files disk.old self.old.name ≡ Some b
-            → IfOk result (λ made. IsTrue made ↔ ((slice_index b self.old.place ≡ 1) × (self.old.place + self.old.pending < length b))) }
+            → IfOk result (λ made. IsTrue made
+            ↔ ((slice_index b self.old.place ≡ 1) × (self.old.place + self.old.pending < length b))) }
         ensures doubtful { IsTrue D.tells → (bs : List (List ℕ)) → (batch : List ℕ)
             → IsInDoubt self.old (D.files disk.old) (D.opened disk.old) (D.past disk.old) bs batch
             → OnErr result (IsInDoubt self.new (D.files disk.new) (D.opened disk.new) (D.past disk.new) bs batch) }

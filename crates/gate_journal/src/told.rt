@@ -6,7 +6,8 @@ ghost use Rattle.gate_journal.specs.Generations.{Tells};
 use crate::BatchFold;
 use std::alloc::AllocError;
 
-// How many generations stand one behind another from 1 on, and whether a batch stands behind them that isn't the next one.
+// How many generations stand one behind another from 1 on, and whether a batch stands behind
+// them that isn't the next one.
 #[derive(Drop)]
 pub(crate) struct Told {
     pub(crate) generation: u64,

@@ -10,14 +10,16 @@ use std::fmt::Write as _;
 // More calls than a body takes.
 const CALLS: u32 = 100_000;
 
-/// Writes a body and its end, each call once. It tells what was written, how many calls failed, and how many writes there were.
+/// Writes a body and its end, each call once. It tells what was written, how many calls failed, and
+/// how many writes there were.
 pub fn write_once(alloc: Global, input: &[u8], words: &Words<'_>) -> Result<String, AllocError> {
     let mut peer = peer_of(alloc, words)?;
     let failed = failed_once(&mut peer, version_of(words), input, words.size(1));
     told(alloc, failed, &peer)
 }
 
-/// Writes a body and its end, each call again and again until it ends well, then the end once more, and bytes behind it.
+/// Writes a body and its end, each call again and again until it ends well, then the end once
+/// more, and bytes behind it.
 pub fn write_again(alloc: Global, input: &[u8], words: &Words<'_>) -> Result<String, AllocError> {
     let mut peer = peer_of(alloc, words)?;
     let failed = failed_again(&mut peer, version_of(words), input, words.size(1));

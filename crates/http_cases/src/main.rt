@@ -1,7 +1,7 @@
 //! Cases of HTTP, one a line: heads of requests that are read in pieces, and heads and bodies of replies.
 //!
-//! The program reads its cases and writes what came out of each. It compares nothing itself: `interop/http_cases` writes the cases and
-//! what is wanted of them, from worked rows and from a model of its own.
+//! The program reads its cases and writes what came out of each. It compares nothing itself: `interop/http_cases`
+//! writes the cases and what is wanted of them, from worked rows and from a model of its own.
 //!
 //! | Case | What it does |
 //! |---|---|
@@ -9,11 +9,11 @@
 //! | `more COUNT TEXT` | and behind it so often this |
 //! | `request PIECE READS` | reads a request, in pieces of so many bytes, where these reads fail |
 //! | `head STATUS JSON VERSION LENGTH` | writes the head of a reply |
-//! | `body VERSION PIECE MOST WRITES` | writes a body in pieces to a link that takes at most so many bytes, where these writes fail |
-//! | `again VERSION PIECE MOST WRITES` | the same, and each call again until it ends well; then the end once more, and `HTTP` behind it |
+//! | `body VERSION PIECE MOST WRITES` | writes a body in pieces to a link that takes so many bytes; these writes fail |
+//! | `again VERSION PIECE MOST WRITES` | each call again until it ends well; then the end again, and `HTTP` behind it |
 //!
-//! In a TEXT `\r`, `\n` and `\xHH` stand for a byte. A number may be `-` for none. Of the lists READS and WRITES `-` is empty, `odd` has every
-//! other number, and else numbers stand between commas.
+//! In a TEXT `\r`, `\n` and `\xHH` stand for a byte. A number may be `-` for none. Of the lists READS and WRITES `-` is
+//! empty, `odd` has every other number, and else numbers stand between commas.
 #![tactic(auto)]
 
 mod bodies;

@@ -94,7 +94,8 @@ fn read_call(alloc: Global, path: Path, query: &[u8]) -> Result<WebCall, HttpErr
 
 // The operator of a retrieval, if there is one, the variable and the interval.
 fn read_data(alloc: Global, query: &[u8]) -> Result<(Option<Op>, PvName, Query), HttpErr>
-    ensures { Reading query.now (Param.PvOrBins ∷ Param.From ∷ Param.To ∷ []) (λ asked. IsAsked query.now asked.0 asked.1 × IsInterval query.now asked.2) result }
+    ensures { Reading query.now (Param.PvOrBins ∷ Param.From ∷ Param.To ∷ [])
+        (λ asked. IsAsked query.now asked.0 asked.1 × IsInterval query.now asked.2) result }
 {
     let asked = read_asked(alloc, query)?;
     let interval = read_interval(alloc, query)?;
@@ -104,7 +105,8 @@ fn read_data(alloc: Global, query: &[u8]) -> Result<(Option<Op>, PvName, Query),
 
 // The variable that is to be archived, and how.
 fn read_archiving(alloc: Global, query: &[u8]) -> Result<(PvName, About), HttpErr>
-    ensures { Reading query.now (Param.Pv ∷ Param.TypeName ∷ Param.SamplingMethod ∷ Param.SamplingPeriod ∷ []) (λ both. IsPv query.now both.0 × IsAbout query.now both.1) result }
+    ensures { Reading query.now (Param.Pv ∷ Param.TypeName ∷ Param.SamplingMethod ∷ Param.SamplingPeriod ∷ [])
+        (λ both. IsPv query.now both.0 × IsAbout query.now both.1) result }
 {
     let pv = read_pv(alloc, query)?;
     let ty = read_type(alloc, query)?;
@@ -120,7 +122,8 @@ fn read_archiving(alloc: Global, query: &[u8]) -> Result<(PvName, About), HttpEr
 
 // The variable that gets another name, and that name.
 fn read_renaming(alloc: Global, query: &[u8]) -> Result<(PvName, PvName), HttpErr>
-    ensures { Reading query.now (Param.Pv ∷ Param.NewName ∷ []) (λ both. IsPv query.now both.0 × IsNamed Param.NewName query.now both.1) result }
+    ensures { Reading query.now (Param.Pv ∷ Param.NewName ∷ [])
+        (λ both. IsPv query.now both.0 × IsNamed Param.NewName query.now both.1) result }
 {
     let pv = read_pv(alloc, query)?;
     let newname = read_name(alloc, query, Param::NewName)?;

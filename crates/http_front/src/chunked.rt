@@ -1,5 +1,6 @@
 //! The body of a reply, on its way to a link.
-ghost use Rattle.std.specs.Prelude.{◌≡◌, ◌≤◌, ◌++◌, [], ◌==◌, not, true, false, Some, drop, OnOk, OnErr, length, IfOk, IfSome, ◌<◌, option_map};
+ghost use Rattle.std.specs.Prelude.{◌≡◌, ◌≤◌, ◌++◌, [], ◌==◌, not, true, false, Some, drop, OnOk, OnErr, length, IfOk};
+ghost use Rattle.std.specs.Prelude.{IfSome, ◌<◌, option_map};
 ghost use Rattle.std.specs.Io.KnownBytes.{Keeps, WriteAppends};
 ghost use Rattle.arrayvec.specs.ArrayVec.{array_vec_len};
 ghost use Rattle.edge_io.specs.Stream.{Rose};
@@ -10,10 +11,11 @@ use arrayvec::ArrayVec;
 use edge_io::{Failed, Sink};
 use std::snapshot::Snapshot;
 
-/// A sink of a reply's body over a link: the body goes out in chunks of 8,192 bytes (RFC 9112, section 7.1), or as it is.
+/// A sink of a reply's body over a link: the body goes out in chunks of 8,192 bytes (RFC 9112,
+/// section 7.1), or as it is.
 ///
-/// After `Failed` the link has a front of the text, nothing of the call's bytes was taken, and the same call goes on where the
-/// writing stopped. It takes no memory beyond itself, whatever the body's length.
+/// After `Failed` the link has a front of the text, nothing of the call's bytes was taken, and the same call goes on
+/// where the writing stopped. It takes no memory beyond itself, whatever the body's length.
 #[derive(Drop)]
 pub struct ChunkedSink<'a, K> {
     link: &'a mut K,
@@ -33,11 +35,13 @@ pub struct ChunkedSink<'a, K> {
 impl<'a, K: Sink> ChunkedSink<'a, K> {
     ghost use Rattle.http_front.specs.Behind.{behind, ended, EndsBody, HasFront};
 
-    /// A sink that has taken nothing. To a client of HTTP/1.1 the body goes out in chunks; the minor version 0 knows none.
+    /// A sink that has taken nothing. To a client of HTTP/1.1 the body goes out in chunks; the
+    /// minor version 0 knows none.
     pub fn new(link: &'a mut K, version: u8) -> ChunkedSink<'a, K>
         ensures same_reference { result.link.ghost_name ≡ link.entry.ghost_name }
         ensures link { result.link.now ≡ link.old }
-        ensures written { ⟦<ChunkedSink<'a, K> as Sink>⟧.written result ≡ Some (behind (not (version == 0)) link.entry.ghost_name (K.written link.old) []) }
+        ensures written { ⟦<ChunkedSink<'a, K> as Sink>⟧.written result
+            ≡ Some (behind (not (version == 0)) link.entry.ghost_name (K.written link.old) []) }
     {
         ChunkedSink {
             in_chunks: version != 0,
@@ -52,11 +56,12 @@ impl<'a, K: Sink> ChunkedSink<'a, K> {
 
     /// Writes what is left of the body, and its end. What is written later goes out as it is.
     ///
-    /// `Failed` comes only where the link's count of failed writes rose. Then the link has a front of the text, and another call
-    /// goes on.
+    /// `Failed` comes only where the link's count of failed writes rose. Then the link has a front of the text,
+    /// and another call goes on.
     pub fn finish(&mut self) -> Result<(), Failed>
         ensures same_reference { self.new.link.ghost_name ≡ self.old.link.ghost_name }
-        ensures ends { EndsBody (⟦<ChunkedSink<'a, K> as Sink>⟧.written self.old) (⟦<ChunkedSink<'a, K> as Sink>⟧.written self.new) (K.written self.new.link.now) result }
+        ensures ends { EndsBody (⟦<ChunkedSink<'a, K> as Sink>⟧.written self.old)
+            (⟦<ChunkedSink<'a, K> as Sink>⟧.written self.new) (K.written self.new.link.now) result }
         ensures faults { K.write_faults self.old.link.now ≤ K.write_faults self.new.link.now }
         ensures failed { OnErr result (Rose (K.write_faults self.old.link.now) (K.write_faults self.new.link.now)) }
     {
@@ -68,7 +73,8 @@ impl<'a, K: Sink> ChunkedSink<'a, K> {
     // Writes what is on its way.
     fn flush(&mut self) -> Result<(), Failed>
         ensures same_reference { self.new.link.ghost_name ≡ self.old.link.ghost_name }
-        ensures kept { Keeps (⟦<ChunkedSink<'a, K> as Sink>⟧.written self.old) (⟦<ChunkedSink<'a, K> as Sink>⟧.written self.new) }
+        ensures kept { Keeps
+            (⟦<ChunkedSink<'a, K> as Sink>⟧.written self.old) (⟦<ChunkedSink<'a, K> as Sink>⟧.written self.new) }
         ensures all { OnOk result (drop self.new.from self.new.room.items ≡ []) }
         ensures rest { (self.new.in_chunks ≡ self.old.in_chunks) × (self.new.held ≡ self.old.held) }
         ensures faults { K.write_faults self.old.link.now ≤ K.write_faults self.new.link.now }
@@ -82,7 +88,8 @@ impl<'a, K: Sink> ChunkedSink<'a, K> {
         requires chunks { self.old.in_chunks ≡ true }
         requires out { drop self.old.from self.old.room.items ≡ [] }
         ensures same_reference { self.new.link.ghost_name ≡ self.old.link.ghost_name }
-        ensures kept { Keeps (⟦<ChunkedSink<'a, K> as Sink>⟧.written self.old) (⟦<ChunkedSink<'a, K> as Sink>⟧.written self.new) }
+        ensures kept { Keeps
+            (⟦<ChunkedSink<'a, K> as Sink>⟧.written self.old) (⟦<ChunkedSink<'a, K> as Sink>⟧.written self.new) }
         ensures room { (self.new.in_chunks ≡ true) × (array_vec_len self.new.held < 8192) }
         ensures out { OnOk result (drop self.new.from self.new.room.items ≡ []) }
         ensures faults { K.write_faults self.old.link.now ≤ K.write_faults self.new.link.now }
@@ -101,7 +108,8 @@ impl<'a, K: Sink> ChunkedSink<'a, K> {
         requires full { array_vec_len self.old.held ≡ 8192 }
         requires out { drop self.old.from self.old.room.items ≡ [] }
         ensures link { self.new.link ≡ self.old.link }
-        ensures kept { Keeps (⟦<ChunkedSink<'a, K> as Sink>⟧.written self.old) (⟦<ChunkedSink<'a, K> as Sink>⟧.written self.new) }
+        ensures kept { Keeps
+            (⟦<ChunkedSink<'a, K> as Sink>⟧.written self.old) (⟦<ChunkedSink<'a, K> as Sink>⟧.written self.new) }
         ensures rest { (self.new.in_chunks ≡ true) × (self.new.held.items ≡ []) }
     {
         self.room.clear();
@@ -116,7 +124,8 @@ impl<'a, K: Sink> ChunkedSink<'a, K> {
         requires out { drop self.old.from self.old.room.items ≡ [] }
         ensures link { self.new.link ≡ self.old.link }
         ensures plain { self.new.in_chunks ≡ false }
-        ensures kept { Keeps (option_map ended (⟦<ChunkedSink<'a, K> as Sink>⟧.written self.old)) (⟦<ChunkedSink<'a, K> as Sink>⟧.written self.new) }
+        ensures kept { Keeps (option_map ended (⟦<ChunkedSink<'a, K> as Sink>⟧.written self.old))
+            (⟦<ChunkedSink<'a, K> as Sink>⟧.written self.new) }
     {
         if self.in_chunks {
             self.close_body();
@@ -129,7 +138,8 @@ impl<'a, K: Sink> ChunkedSink<'a, K> {
         requires out { drop self.old.from self.old.room.items ≡ [] }
         ensures link { self.new.link ≡ self.old.link }
         ensures plain { self.new.in_chunks ≡ false }
-        ensures kept { Keeps (option_map ended (⟦<ChunkedSink<'a, K> as Sink>⟧.written self.old)) (⟦<ChunkedSink<'a, K> as Sink>⟧.written self.new) }
+        ensures kept { Keeps (option_map ended (⟦<ChunkedSink<'a, K> as Sink>⟧.written self.old))
+            (⟦<ChunkedSink<'a, K> as Sink>⟧.written self.new) }
     {
         self.room.clear();
         self.from = 0;
@@ -148,7 +158,8 @@ impl<'a, K: Sink> ChunkedSink<'a, K> {
         ensures rest { (self.new.in_chunks ≡ false) × (drop self.new.from self.new.room.items ≡ []) }
         ensures least { IfOk result (λ n. 0 < n) }
         ensures bound { IfOk result (λ n. n ≤ length bytes.now) }
-        ensures bytes { WriteAppends (⟦<ChunkedSink<'a, K> as Sink>⟧.written self.old) (⟦<ChunkedSink<'a, K> as Sink>⟧.written self.new) result bytes.now }
+        ensures bytes { WriteAppends (⟦<ChunkedSink<'a, K> as Sink>⟧.written self.old)
+            (⟦<ChunkedSink<'a, K> as Sink>⟧.written self.new) result bytes.now }
         ensures faults { K.write_faults self.old.link.now ≤ K.write_faults self.new.link.now }
         ensures failed { OnErr result (Rose (K.write_faults self.old.link.now) (K.write_faults self.new.link.now)) }
     {
@@ -166,30 +177,35 @@ impl<'a, K: Sink> ChunkedSink<'a, K> {
         link
     }
 
-    /// Whatever follows of the body, the link has a front of what it will have in the end, and no less than it had before the body.
+    /// Whatever follows of the body, the link has a front of what it will have in the end, and no less
+    /// than it had before the body.
     pub fn has_front(&self)
-        ensures { IfSome (⟦<ChunkedSink<'a, K> as Sink>⟧.written self.now) (λ told. HasFront told (K.written self.now.link.now)) }
+        ensures { IfSome (⟦<ChunkedSink<'a, K> as Sink>⟧.written self.now) (λ told.
+            HasFront told (K.written self.now.link.now)) }
     {}
 }
 
 impl<'a, K: Sink> Sink for ChunkedSink<'a, K> {
     ghost use Rattle.http_front.specs.Behind.{written_behind, Takes};
 
-    ghost written = { λ s. written_behind (K.written s.start.value) (K.written s.link.now) s.link.ghost_name s.in_chunks s.taken.bytes s.held.items (drop s.from s.room.items) };
+    ghost written = { λ s. written_behind (K.written s.start.value)
+        (K.written s.link.now) s.link.ghost_name s.in_chunks s.taken.bytes s.held.items (drop s.from s.room.items) };
 
     ghost write_faults = { λ s. K.write_faults s.link.now };
 
-    /// Takes the first bytes: in chunks as many as there is room for in the chunk that they stand in, which goes out once more comes;
-    /// and as it is as many as the link takes in one write.
+    /// Takes the first bytes: in chunks as many as there is room for in the chunk that they stand in, which goes out
+    /// once more comes; and as it is as many as the link takes in one write.
     fn write(&mut self, bytes: &[u8]) -> Result<usize, Failed>
         requires { 0 < length bytes.now }
         ensures least { IfOk result (λ n. 0 < n) }
         ensures bound { IfOk result (λ n. n ≤ length bytes.now) }
-        ensures bytes { WriteAppends (⟦<ChunkedSink<'a, K> as Sink>⟧.written self.old) (⟦<ChunkedSink<'a, K> as Sink>⟧.written self.new) result bytes.now }
+        ensures bytes { WriteAppends (⟦<ChunkedSink<'a, K> as Sink>⟧.written self.old)
+            (⟦<ChunkedSink<'a, K> as Sink>⟧.written self.new) result bytes.now }
         ensures faults { K.write_faults self.old.link.now ≤ K.write_faults self.new.link.now }
         ensures failed { OnErr result (Rose (K.write_faults self.old.link.now) (K.write_faults self.new.link.now)) }
         ensures same_reference { self.new.link.ghost_name ≡ self.old.link.ghost_name }
-        ensures takes { Takes (⟦<ChunkedSink<'a, K> as Sink>⟧.written self.old) (⟦<ChunkedSink<'a, K> as Sink>⟧.written self.new) (K.written self.new.link.now) (length bytes.now) result }
+        ensures takes { Takes (⟦<ChunkedSink<'a, K> as Sink>⟧.written self.old)
+            (⟦<ChunkedSink<'a, K> as Sink>⟧.written self.new) (K.written self.new.link.now) (length bytes.now) result }
     {
         self.flush()?;
         if !self.in_chunks {

@@ -2,7 +2,8 @@
 ghost use Rattle.std.specs.Prelude.{◌≡◌, ◌⊎◌, ◌∷◌, [], IfOk, option_map, codes};
 ghost use Rattle.std.specs.Cow.{cow_str_bytes};
 ghost use Rattle.http_front.specs.Param.{name_of};
-ghost use Rattle.http_front.specs.Query.{value_of, value_or, Reading, IsNamed, IsPv, IsAsked, IsMoment, IsInterval, IsType, IsSampling};
+ghost use Rattle.http_front.specs.Query.{value_of, value_or, Reading, IsNamed, IsPv, IsAsked, IsMoment, IsInterval};
+ghost use Rattle.http_front.specs.Query.{IsType, IsSampling};
 
 use crate::period::period_of;
 use crate::request::{HttpErr, Param};

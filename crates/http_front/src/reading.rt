@@ -1,7 +1,9 @@
 //! Reading a request from a source.
-ghost use Rattle.std.specs.Prelude.{◌≡◌, ◌≢◌, ◌⊎◌, ◌+◌, ◌<◌, ◌≤◌, length, take, true, false, IfOk, IfSome, IfNone, OnErr, IsErrOf};
+ghost use Rattle.std.specs.Prelude.{◌≡◌, ◌≢◌, ◌⊎◌, ◌+◌, ◌<◌, ◌≤◌, length, take, true, false, IfOk, IfSome, IfNone};
+ghost use Rattle.std.specs.Prelude.{OnErr, IsErrOf};
 ghost use Rattle.edge_io.specs.Stream.{Rose};
-ghost use Rattle.http_front.specs.Reading.{Judges, HasRead, TookHead, AnswersHead, Waits, ReadsBehind, GoesOn, NoHeadYet};
+ghost use Rattle.http_front.specs.Reading.{Judges, HasRead, TookHead, AnswersHead, Waits, ReadsBehind, GoesOn};
+ghost use Rattle.http_front.specs.Reading.{NoHeadYet};
 ghost use Rattle.http_front.specs.declared.reading.Due.TheVariants.{Nothing, Newline, End, Limit};
 
 use crate::call::answer_of;
@@ -35,7 +37,8 @@ enum Due {
 /// a whole head was.
 pub fn read_request<S: Source>(alloc: Global, source: &mut S) -> Result<Request, HttpErr>
     ensures read { HasRead (S.left source.old) (S.left source.new) result }
-    ensures memory { IsErrOf result HttpErr.Memory → (source.new ≡ source.old) ⊎ TookHead (S.left source.old) (S.left source.new) }
+    ensures memory { IsErrOf result HttpErr.Memory
+        → (source.new ≡ source.old) ⊎ TookHead (S.left source.old) (S.left source.new) }
     ensures faults { S.read_faults source.old ≤ S.read_faults source.new }
     ensures failed { IsErrOf result HttpErr.SourceFault → Rose (S.read_faults source.old) (S.read_faults source.new) }
     ensures beside { S.beside source.new ≡ S.beside source.old }

@@ -1,14 +1,16 @@
-//! Commits to a journal and checkpoints of it over a disk in memory, made anew with each call of the disk gone wrong in turn. Each line
-//! of the input is a script, and what comes of it is written as a line. `interop/journal_cases` works out what must come.
+//! Commits to a journal and checkpoints of it over a disk in memory, made anew with each call of the disk gone wrong
+//! in turn. Each line of the input is a script, and what comes of it is written as a line. `interop/journal_cases`
+//! works out what must come.
 //!
 //! | Line | What goes wrong |
 //! |---|---|
 //! | `stops STEP ..` | all calls from one on: then the power ends |
 //! | `fails STEP ..` | one call alone: then it is found out whether its step was made, and the other steps follow |
 //!
-//! A step is `+TEXT`, which commits this text as a batch, or `=TEXT`, which puts it in place of all before. At the failure, and at the end,
-//! each of six images of the disk has to hold the batches from before the step that failed, or from after it. How many calls were tried
-//! is told, and at which of them an image held something else, or how many held each.
+//! A step is `+TEXT`, which commits this text as a batch, or `=TEXT`, which puts it in place of all before. At
+//! the failure, and at the end, each of six images of the disk has to hold the batches from before the step that
+//! failed, or from after it. How many calls were tried is told, and at which of them an image held something
+//! else, or how many held each.
 #![tactic(auto)]
 
 ghost use Rattle.std.specs.Prelude.{◌≡◌, ◌≤◌, true, ℕ, length, IfOk, IfSome, OnOk, IsErrOf};
@@ -137,7 +139,8 @@ fn ended(alloc: Global, disk: &MemDisk, held: Held, found: &mut Found) -> Result
     Ok(held.has_failed)
 }
 
-// Makes a step. Where it fails the images are looked at, and it is found out whether it was made; false where that can't be.
+// Makes a step. Where it fails the images are looked at, and it is found out whether it was made;
+// false where that can't be.
 fn settled(
     alloc: Global,
     journal: &mut Journal,

@@ -28,7 +28,8 @@ pub(crate) fn put_head(
     out.extend_from_slice(b",\"data\":[")
 }
 
-/// The event of a line, which is one of the type at the moment. Where the line has escapes, its message is put into `work`.
+/// The event of a line, which is one of the type at the moment. Where the line has escapes, its
+/// message is put into `work`.
 pub(crate) fn read_event(
     alloc: Global,
     ty: PayloadType,
@@ -60,7 +61,8 @@ pub(crate) fn put_next(
     event: &Event,
     out: &mut Vec<u8>,
 ) -> Result<(), AllocError>
-    ensures { OnOk result (out.new.items ≡ out.old.items ++ ((if later then codes "," else []) ++ event_text t event.now)) }
+    ensures { OnOk result
+        (out.new.items ≡ out.old.items ++ ((if later then codes "," else []) ++ event_text t event.now)) }
 {
     if later {
         out.extend_from_slice(b",")?;
@@ -81,8 +83,8 @@ fn put_event(alloc: Global, t: u64, event: &Event, out: &mut Vec<u8>) -> Result<
 }
 
 fn put_moment(t: u64, out: &mut Vec<u8>) -> Result<(), AllocError>
-    ensures { OnOk result (out.new.items ≡ out.old.items ++ (codes "{\"secs\":" ++ decimal (t / 1000000000) ++ codes ",\"nanos\":" ++ decimal
-        (t % 1000000000))) }
+    ensures { OnOk result (out.new.items ≡ out.old.items
+        ++ (codes "{\"secs\":" ++ decimal (t / 1000000000) ++ codes ",\"nanos\":" ++ decimal (t % 1000000000))) }
 {
     out.extend_from_slice(b"{\"secs\":")?;
     put_number(t / NANOS_PER_SECOND, out)?;

@@ -65,7 +65,8 @@ impl<'a, K: Sink> Out for JsonOut<'a, K> {
     ghost use Rattle.act_model.specs.Out.{Subject, MayGive};
 
     ghost gave = { λ before subject xs now. (now.sink.ghost_name ≡ before.sink.ghost_name)
-        × Gives (K.written before.sink.now) (K.written now.sink.now) before.buffer now.buffer now.ty now.later subject xs };
+        × Gives (K.written before.sink.now)
+        (K.written now.sink.now) before.buffer now.buffer now.ty now.later subject xs };
 
     ghost finished = { λ before subject xs now. (now.sink.ghost_name ≡ before.sink.ghost_name)
         × Finishes (K.written before.sink.now) (K.written now.sink.now) before.buffer now.buffer subject xs };
@@ -77,12 +78,16 @@ impl<'a, K: Sink> Out for JsonOut<'a, K> {
 
     /// At `Memory` nothing of the text was taken; what was gathered before may have gone out in part.
     fn begin(&mut self, name: &[u8], about: &About, _query: Query) -> Result<(), OutErr>
-        ensures begun { OnOk result (⟦<JsonOut<'a, K> as Out>⟧.gave self.old (record { name = name.now; about = about.now; query = _query }) [] self.new) }
+        ensures begun { OnOk result (⟦<JsonOut<'a, K> as Out>⟧.gave self.old
+            (record { name = name.now; about = about.now; query = _query }) [] self.new) }
         ensures broken { OnErr result ((all : List Sample) → AreEvents about.now.ty all
-            → ⟦<JsonOut<'a, K> as Out>⟧.broke self.old (record { name = name.now; about = about.now; query = _query }) all self.new) }
+            → ⟦<JsonOut<'a, K> as Out>⟧.broke self.old
+            (record { name = name.now; about = about.now; query = _query }) all self.new) }
         ensures faults { K.write_faults self.old.sink.now ≤ K.write_faults self.new.sink.now }
-        ensures cause { IsErrOf result OutErr.SinkFault → Rose (K.write_faults self.old.sink.now) (K.write_faults self.new.sink.now) }
-        ensures memory { IsErrOf result OutErr.Memory → Sends (K.written self.old.sink.now) (K.written self.new.sink.now) self.old.buffer self.new.buffer }
+        ensures cause { IsErrOf result OutErr.SinkFault
+            → Rose (K.write_faults self.old.sink.now) (K.write_faults self.new.sink.now) }
+        ensures memory { IsErrOf result OutErr.Memory
+            → Sends (K.written self.old.sink.now) (K.written self.new.sink.now) self.old.buffer self.new.buffer }
     {
         self.piece.clear();
         let Ok(()) = put_head(self.alloc, name, about.headers.items(), &mut self.piece) else {
@@ -97,14 +102,20 @@ impl<'a, K: Sink> Out for JsonOut<'a, K> {
     /// At `Memory` nothing of the sample was taken; what was gathered before may have gone out in part.
     fn sample(&mut self, t: u64, line: &[u8]) -> Result<(), OutErr>
         requires event { MayGive ⟦<JsonOut<'a, K> as Out>⟧.gave self.old (record { t = t; line = line.now }) }
-        ensures given { (before : _) (subject : Subject) (xs : List Sample) → ⟦<JsonOut<'a, K> as Out>⟧.gave before subject xs self.old
-            → OnOk result (⟦<JsonOut<'a, K> as Out>⟧.gave before subject (xs ++ record { t = t; line = line.now } ∷ []) self.new) }
-        ensures broken { (before : _) (subject : Subject) (xs more : List Sample) → AreEvents subject.about.ty (xs ++ record { t = t; line = line.now } ∷ more)
+        ensures given { (before : _) (subject : Subject) (xs : List Sample)
             → ⟦<JsonOut<'a, K> as Out>⟧.gave before subject xs self.old
-            → OnErr result (⟦<JsonOut<'a, K> as Out>⟧.broke before subject (xs ++ record { t = t; line = line.now } ∷ more) self.new) }
+            → OnOk result
+            (⟦<JsonOut<'a, K> as Out>⟧.gave before subject (xs ++ record { t = t; line = line.now } ∷ []) self.new) }
+        ensures broken { (before : _) (subject : Subject) (xs more : List Sample)
+            → AreEvents subject.about.ty (xs ++ record { t = t; line = line.now } ∷ more)
+            → ⟦<JsonOut<'a, K> as Out>⟧.gave before subject xs self.old
+            → OnErr result
+            (⟦<JsonOut<'a, K> as Out>⟧.broke before subject (xs ++ record { t = t; line = line.now } ∷ more) self.new) }
         ensures faults { K.write_faults self.old.sink.now ≤ K.write_faults self.new.sink.now }
-        ensures cause { IsErrOf result OutErr.SinkFault → Rose (K.write_faults self.old.sink.now) (K.write_faults self.new.sink.now) }
-        ensures memory { IsErrOf result OutErr.Memory → Sends (K.written self.old.sink.now) (K.written self.new.sink.now) self.old.buffer self.new.buffer }
+        ensures cause { IsErrOf result OutErr.SinkFault
+            → Rose (K.write_faults self.old.sink.now) (K.write_faults self.new.sink.now) }
+        ensures memory { IsErrOf result OutErr.Memory
+            → Sends (K.written self.old.sink.now) (K.written self.new.sink.now) self.old.buffer self.new.buffer }
     {
         let Some(ty) = self.ty else {
             unreachable!();
@@ -121,13 +132,17 @@ impl<'a, K: Sink> Out for JsonOut<'a, K> {
 
     /// At `Memory` nothing of the text's end was taken; what was gathered before may have gone out in part.
     fn finish(&mut self) -> Result<(), OutErr>
-        ensures finished { (before : _) (subject : Subject) (xs : List Sample) → ⟦<JsonOut<'a, K> as Out>⟧.gave before subject xs self.old
+        ensures finished { (before : _) (subject : Subject) (xs : List Sample)
+            → ⟦<JsonOut<'a, K> as Out>⟧.gave before subject xs self.old
             → OnOk result (⟦<JsonOut<'a, K> as Out>⟧.finished before subject xs self.new) }
-        ensures broken { (before : _) (subject : Subject) (xs : List Sample) → ⟦<JsonOut<'a, K> as Out>⟧.gave before subject xs self.old
+        ensures broken { (before : _) (subject : Subject) (xs : List Sample)
+            → ⟦<JsonOut<'a, K> as Out>⟧.gave before subject xs self.old
             → OnErr result (⟦<JsonOut<'a, K> as Out>⟧.broke before subject xs self.new) }
         ensures faults { K.write_faults self.old.sink.now ≤ K.write_faults self.new.sink.now }
-        ensures cause { IsErrOf result OutErr.SinkFault → Rose (K.write_faults self.old.sink.now) (K.write_faults self.new.sink.now) }
-        ensures memory { IsErrOf result OutErr.Memory → Sends (K.written self.old.sink.now) (K.written self.new.sink.now) self.old.buffer self.new.buffer }
+        ensures cause { IsErrOf result OutErr.SinkFault
+            → Rose (K.write_faults self.old.sink.now) (K.write_faults self.new.sink.now) }
+        ensures memory { IsErrOf result OutErr.Memory
+            → Sends (K.written self.old.sink.now) (K.written self.new.sink.now) self.old.buffer self.new.buffer }
     {
         send(&mut self.buffer, b"]}]\n", self.sink)?;
         let Ok(()) = self.buffer.finish(self.sink) else {
@@ -147,7 +162,8 @@ impl<'a, K: Sink> Out for JsonOut<'a, K> {
 fn send<K: Sink>(buffer: &mut SinkBuffer, piece: &[u8], sink: &mut K) -> Result<(), OutErr>
     ensures sent { OnOk result (Sends (K.written sink.old) (K.written sink.new) (buffer.old ++ piece.now) buffer.new) }
     ensures front { OnErr result (AppendsFront (K.written sink.old) (K.written sink.new) (buffer.old ++ piece.now)) }
-    ensures memory { IsErrOf result OutErr.Memory → Sends (K.written sink.old) (K.written sink.new) buffer.old buffer.new }
+    ensures memory { IsErrOf result OutErr.Memory
+        → Sends (K.written sink.old) (K.written sink.new) buffer.old buffer.new }
     ensures faults { K.write_faults sink.old ≤ K.write_faults sink.new }
     ensures cause { IsErrOf result OutErr.SinkFault → Rose (K.write_faults sink.old) (K.write_faults sink.new) }
 {

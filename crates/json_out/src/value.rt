@@ -109,7 +109,8 @@ pub fn put_number<I: Integer>(number: I, out: &mut Vec<u8>) -> Result<(), AllocE
     out.extend_from_slice(digits.format(number).as_bytes())
 }
 
-/// Appends a JSON string of the bytes, with U+FFFD for what isn't UTF-8. After want of memory a part of it may stand in `out`.
+/// Appends a JSON string of the bytes, with U+FFFD for what isn't UTF-8. After want of memory a part
+/// of it may stand in `out`.
 #[tactic(auto, using(crate::proofs::Strings::plain_string))]
 pub fn put_string(alloc: Global, bytes: &[u8], out: &mut Vec<u8>) -> Result<(), AllocError>
     ensures { OnOk result (out.new.items ≡ out.old.items ++ string_text bytes.now) }

@@ -16,7 +16,8 @@ pub fn one_refusal()
 
 /// A line without a newline means some bytes or has a bad place.
 pub fn every_line()
-    ensures { (line : List ℕ) → HasNoNewline line → ((bytes : List ℕ) × Means line bytes) ⊎ ((at : ℕ) × IsBadPlace line at) }
+    ensures { (line : List ℕ) → HasNoNewline line
+        → ((bytes : List ℕ) × Means line bytes) ⊎ ((at : ℕ) × IsBadPlace line at) }
 {}
 
 /// What `escape` writes is a line, and `unescape` reads the bytes back from it.

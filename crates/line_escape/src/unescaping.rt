@@ -1,6 +1,8 @@
 // The bytes that an escaped line means (PB file format), or its first bad escape.
-ghost use Rattle.std.specs.Prelude.{◌≡◌, ◌≢◌, ◌<◌, ◌≤◌, All, IfSome, IfNone, IfOk, IfErr, IsTrue, OnOk, OnErr, length, take, slice_index};
-ghost use Rattle.line_escape.specs.Unescaping.{AppendsMeaning, BeginsBadEscape, BeginsPair, HasNoNewline, IsRefusal, Means};
+ghost use Rattle.std.specs.Prelude.{◌≡◌, ◌≢◌, ◌<◌, ◌≤◌, All, IfSome, IfNone, IfOk, IfErr, IsTrue, OnOk, OnErr, length};
+ghost use Rattle.std.specs.Prelude.{take, slice_index};
+ghost use Rattle.line_escape.specs.Unescaping.{AppendsMeaning, BeginsBadEscape, BeginsPair, HasNoNewline, IsRefusal};
+ghost use Rattle.line_escape.specs.Unescaping.{Means};
 
 use crate::EscapeErr;
 use memchr::memchr;

@@ -27,7 +27,10 @@ pub(crate) fn give_body<A: Actor, K: Sink>(
 ) -> Retrieved<A::Reader>
     requires held { IsHeld A.number A.stands actor.old variable }
     requires wide { IsWide format }
-    ensures answers { AnswersPinned A.number A.between A.is_spent A.stands A.Reader.tells A.Reader.faults (FinishesBody format version) (BreaksBody format version) (Rose (K.write_faults link.old) (K.write_faults link.new)) actor.old variable query (K.written link.old) result actor.new (K.written link.new) }
+    ensures answers { AnswersPinned A.number A.between A.is_spent A.stands A.Reader.tells A.Reader.faults
+        (FinishesBody format version) (BreaksBody format version)
+        (Rose (K.write_faults link.old) (K.write_faults link.new)) actor.old variable query
+        (K.written link.old) result actor.new (K.written link.new) }
     ensures faults { K.write_faults link.old ≤ K.write_faults link.new }
     ensures stands { (n : Machine) × A.stands actor.new n }
 {
@@ -39,7 +42,8 @@ pub(crate) fn give_body<A: Actor, K: Sink>(
     end
 }
 
-// Writes the text of the answer as the body's. It says that the body still writes to the same link, which `give_text` can't of any sink.
+// Writes the text of the answer as the body's. It says that the body still writes to the same link, which
+// `give_text` can't of any sink.
 fn give_in_chunks<'a, A: Actor, K: Sink>(
     alloc: Global,
     actor: &mut A,
@@ -52,7 +56,11 @@ fn give_in_chunks<'a, A: Actor, K: Sink>(
     requires wide { IsWide format }
     requires told { (told : List ℕ) × (⟦<ChunkedSink<'a, K> as Sink>⟧.written body.old ≡ Some told) }
     ensures same_reference { body.new.link.ghost_name ≡ body.old.link.ghost_name }
-    ensures answers { AnswersPinned A.number A.between A.is_spent A.stands A.Reader.tells A.Reader.faults (FinishesText format) (BreaksText format) (Rose (K.write_faults body.old.link.now) (K.write_faults body.new.link.now)) actor.old variable query (⟦<ChunkedSink<'a, K> as Sink>⟧.written body.old) result actor.new (⟦<ChunkedSink<'a, K> as Sink>⟧.written body.new) }
+    ensures answers { AnswersPinned A.number A.between A.is_spent A.stands A.Reader.tells A.Reader.faults
+        (FinishesText format) (BreaksText format)
+        (Rose (K.write_faults body.old.link.now) (K.write_faults body.new.link.now)) actor.old
+        variable query (⟦<ChunkedSink<'a, K> as Sink>⟧.written body.old)
+        result actor.new (⟦<ChunkedSink<'a, K> as Sink>⟧.written body.new) }
     ensures faults { K.write_faults body.old.link.now ≤ K.write_faults body.new.link.now }
     ensures stands { (n : Machine) × A.stands actor.new n }
 {
@@ -65,7 +73,9 @@ fn end_body<'a, K: Sink, R: ReadAt>(
     body: &mut ChunkedSink<'a, K>,
 ) -> Retrieved<R>
     ensures same_reference { body.new.link.ghost_name ≡ body.old.link.ghost_name }
-    ensures closes { Closes given (Rose (K.write_faults body.old.link.now) (K.write_faults body.new.link.now)) result (⟦<ChunkedSink<'a, K> as Sink>⟧.written body.old) (⟦<ChunkedSink<'a, K> as Sink>⟧.written body.new) (K.written body.new.link.now) }
+    ensures closes { Closes given (Rose (K.write_faults body.old.link.now) (K.write_faults body.new.link.now)) result
+        (⟦<ChunkedSink<'a, K> as Sink>⟧.written body.old) (⟦<ChunkedSink<'a, K> as Sink>⟧.written body.new)
+        (K.written body.new.link.now) }
     ensures faults { K.write_faults body.old.link.now ≤ K.write_faults body.new.link.now }
 {
     let Retrieved::Finished { count } = given else {

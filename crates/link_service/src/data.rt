@@ -4,7 +4,8 @@ ghost use Rattle.edge_io.specs.Stream.{Rose};
 ghost use Rattle.act_model.specs.Machine.{Machine};
 ghost use Rattle.retrieval_query.specs.Pinning.{AnswersPinned, IsHeld, ended_by};
 ghost use Rattle.retrieval_query.specs.Retrieving.{ReadsHeaders};
-ghost use Rattle.link_service.specs.Data.{BreaksBody, FinishesBody, IsWhole, IsWide, MakesActs, RepliesPinned, Tells, pin_refusal};
+ghost use Rattle.link_service.specs.Data.{BreaksBody, FinishesBody, IsWhole, IsWide, MakesActs, RepliesPinned, Tells};
+ghost use Rattle.link_service.specs.Data.{pin_refusal};
 
 use crate::body::give_body;
 use crate::format::Format;
@@ -17,12 +18,13 @@ use retrieval_query::{PinErr, PinnedVariable, Retrieved, give_up_pin, pin_variab
 use series_model::Query;
 use std::alloc::Global;
 
-/// Writes the answer of a variable as the reply to a request of HTTP/1.0 or HTTP/1.1, by its minor version: pins the variable, writes the
-/// head, reads the pin's pieces and writes the text as it comes, gives the pin up, and ends the body.
+/// Writes the answer of a variable as the reply to a request of HTTP/1.0 or HTTP/1.1, by its minor version:
+/// pins the variable, writes the head, reads the pin's pieces and writes the text as it comes, gives the
+/// pin up, and ends the body.
 ///
-/// At `Finished` the link has the whole reply. Where no pin was made it has the refusal that says why, a front of that where a write
-/// failed, and nothing where memory ran out. At every other answer it has a front of the reply, and nothing where memory ran out for the
-/// head.
+/// At `Finished` the link has the whole reply. Where no pin was made it has the refusal that says why, a front of that
+/// where a write failed, and nothing where memory ran out. At every other answer it has a front of the reply, and
+/// nothing where memory ran out for the head.
 pub fn reply_with_data<A: Actor, K: Sink>(
     alloc: Global,
     actor: &mut A,
@@ -35,9 +37,12 @@ pub fn reply_with_data<A: Actor, K: Sink>(
     requires stands { (m : Machine) × A.stands actor.old m }
     requires wide { IsWide format }
     requires version { version ≤ 1 }
-    ensures acts { MakesActs A.number A.between A.is_spent A.Reader.tells A.Reader.faults (Rose (K.write_faults link.old) (K.write_faults link.new)) actor.old (K.written link.old) actor.new (K.written link.new) format version name.now query result }
+    ensures acts { MakesActs A.number A.between A.is_spent A.Reader.tells A.Reader.faults
+        (Rose (K.write_faults link.old) (K.write_faults link.new)) actor.old (K.written link.old) actor.new
+        (K.written link.new) format version name.now query result }
     ensures whole { IsTrue A.Reader.tells → (m : Machine) → A.stands actor.old m → m.told ≡ true → ReadsHeaders m.rule
-        → IsWhole A.number A.between A.is_spent (Rose (K.write_faults link.old) (K.write_faults link.new)) m actor.old (K.written link.old) actor.new (K.written link.new) format version name.now query result }
+        → IsWhole A.number A.between A.is_spent (Rose (K.write_faults link.old) (K.write_faults link.new)) m actor.old
+        (K.written link.old) actor.new (K.written link.new) format version name.now query result }
     ensures faults { K.write_faults link.old ≤ K.write_faults link.new }
     ensures stands { (n : Machine) × A.stands actor.new n }
 {
@@ -60,7 +65,12 @@ fn reply_pinned<A: Actor, K: Sink>(
     requires held { IsHeld A.number A.stands actor.old variable }
     requires wide { IsWide format }
     requires version { version ≤ 1 }
-    ensures replies { RepliesPinned A.number A.between A.is_spent (Rose (K.write_faults link.old) (K.write_faults link.new)) format version actor.old variable (K.written link.old) (λ mid. AnswersPinned A.number A.between A.is_spent A.stands A.Reader.tells A.Reader.faults (FinishesBody format version) (BreaksBody format version) (Rose (K.write_faults link.old) (K.write_faults link.new)) actor.old variable query mid result actor.new (K.written link.new)) result actor.new (K.written link.new) }
+    ensures replies { RepliesPinned A.number A.between A.is_spent
+        (Rose (K.write_faults link.old) (K.write_faults link.new)) format version actor.old variable
+        (K.written link.old) (λ mid. AnswersPinned A.number A.between A.is_spent A.stands A.Reader.tells A.Reader.faults
+        (FinishesBody format version) (BreaksBody format version)
+        (Rose (K.write_faults link.old) (K.write_faults link.new)) actor.old variable query mid
+        result actor.new (K.written link.new)) result actor.new (K.written link.new) }
     ensures faults { K.write_faults link.old ≤ K.write_faults link.new }
     ensures stands { (n : Machine) × A.stands actor.new n }
 {
@@ -81,7 +91,8 @@ fn reply_pinned<A: Actor, K: Sink>(
 
 // Writes the refusal that says why no pin was made.
 fn refuse_pin<K: Sink, R: ReadAt>(alloc: Global, why: PinErr, link: &mut K) -> Retrieved<R>
-    ensures tells { Tells (pin_refusal why) (Rose (K.write_faults link.old) (K.write_faults link.new)) (ended_by why) Retrieved.SinkFault Retrieved.Memory (K.written link.old) result (K.written link.new) }
+    ensures tells { Tells (pin_refusal why) (Rose (K.write_faults link.old) (K.write_faults link.new))
+        (ended_by why) Retrieved.SinkFault Retrieved.Memory (K.written link.old) result (K.written link.new) }
     ensures faults { K.write_faults link.old ≤ K.write_faults link.new }
 {
     let Some(refusal) = pin_refusal(why) else {

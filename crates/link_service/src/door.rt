@@ -18,8 +18,8 @@ use std::sync::Wait;
 /// How a door was served.
 #[derive(Clone, Copy, Debug, PartialEq, Eq)]
 pub enum DoorServed {
-    /// The door was asked to its end, each of its links was served, and it was counted off. Whether memory ran out for one of them, and
-    /// whether the door failed at its end; else no link comes any more.
+    /// The door was asked to its end, each of its links was served, and it was counted off. Whether memory ran out for
+    /// one of them, and whether the door failed at its end; else no link comes any more.
     Done { lacked: bool, failed: bool },
     /// No act is left.
     Spent,
@@ -36,13 +36,14 @@ enum Asked {
     Spent,
 }
 
-/// Serves all links of a door, each of one kind: asks the door for them to its end, serves each, gives each back, and then counts the door
-/// off. It goes on behind a fault of a link and behind want of memory.
+/// Serves all links of a door, each of one kind: asks the door for them to its end, serves each, gives each back, and
+/// then counts the door off. It goes on behind a fault of a link and behind want of memory.
 ///
-/// `gate` is told of each link before and after it is served, with the number `post`, and of a damaged file that ended its reply.
+/// `gate` is told of each link before and after it is served, with the number `post`, and of a damaged
+/// file that ended its reply.
 ///
-/// The acts are those of the links' sessions, one session after another, and then one `DoorDone`. `Spent` comes only where no act was left
-/// for one of them.
+/// The acts are those of the links' sessions, one session after another, and then one `DoorDone`. `Spent` comes only
+/// where no act was left for one of them.
 pub fn serve_door<A: Actor, W: Door, C: Clock, G: Gate>(
     rt: &impl Wait,
     alloc: Global,
@@ -54,7 +55,10 @@ pub fn serve_door<A: Actor, W: Door, C: Clock, G: Gate>(
     post: usize,
 ) -> DoorServed
     requires stands { (m : Machine) × A.stands actor.old m }
-    ensures serves { ServesDoorAt A.number A.between A.is_spent A.stands A.Reader.tells A.Reader.faults W.L.Source.left W.L.Sink.written W.L.Source.read_faults W.L.Sink.write_faults W.is_closed W.door_faults W.ledger (IsTold G.entered G.left gate.now) kind post actor.old (C.coming clock.old) door.old result actor.new (C.coming clock.new) door.new }
+    ensures serves { ServesDoorAt A.number A.between A.is_spent A.stands A.Reader.tells A.Reader.faults W.L.Source.left
+        W.L.Sink.written W.L.Source.read_faults W.L.Sink.write_faults W.is_closed W.door_faults W.ledger
+        (IsTold G.entered G.left gate.now) kind post actor.old
+        (C.coming clock.old) door.old result actor.new (C.coming clock.new) door.new }
     ensures stands { (n : Machine) × A.stands actor.new n }
 {
     match serve_links(rt, alloc, actor, kind, door, clock, gate, post) {
@@ -79,7 +83,12 @@ fn serve_links<A: Actor, W: Door, C: Clock, G: Gate>(
 ) -> DoorServed
     requires stands { (m : Machine) × A.stands actor.old m }
     ensures acts { MakesOnly A.number A.between is_of_link actor.old actor.new }
-    ensures asked { AsksToEnd W.is_closed W.door_faults W.ledger (IsServed kind W.L.Sink.written W.L.Source.read_faults W.L.Sink.write_faults) (λ links results. InTurn (IsFresh W.L.Sink.written W.L.Source.read_faults W.L.Sink.write_faults) (ServesLinkTold A.number A.between A.is_spent A.stands A.Reader.tells A.Reader.faults W.L.Source.left W.L.Sink.written W.L.Sink.write_faults (IsTold G.entered G.left gate.now post) kind) actor.old (C.coming clock.old) links results actor.new (C.coming clock.new)) door.old result door.new }
+    ensures asked { AsksToEnd W.is_closed W.door_faults W.ledger
+        (IsServed kind W.L.Sink.written W.L.Source.read_faults W.L.Sink.write_faults)
+        (λ links results. InTurn (IsFresh W.L.Sink.written W.L.Source.read_faults W.L.Sink.write_faults)
+        (ServesLinkTold A.number A.between A.is_spent A.stands A.Reader.tells A.Reader.faults W.L.Source.left
+        W.L.Sink.written W.L.Sink.write_faults (IsTold G.entered G.left gate.now post) kind)
+        actor.old (C.coming clock.old) links results actor.new (C.coming clock.new)) door.old result door.new }
     ensures spent { result ≡ DoorServed.Spent → WasSpent A.between A.is_spent actor.new }
     ensures stands { (n : Machine) × A.stands actor.new n }
 {
@@ -108,8 +117,14 @@ fn serve_next<A: Actor, W: Door, C: Clock, G: Gate>(
 ) -> Asked
     requires stands { (m : Machine) × A.stands actor.old m }
     ensures acts { MakesOnly A.number A.between is_of_link actor.old actor.new }
-    ensures asked { AsksOn W.is_closed W.door_faults W.ledger (IsFresh W.L.Sink.written W.L.Source.read_faults W.L.Sink.write_faults) (IsServed kind W.L.Sink.written W.L.Source.read_faults W.L.Sink.write_faults) (λ was served link. ServesLinkTold A.number A.between A.is_spent A.stands A.Reader.tells A.Reader.faults W.L.Source.left W.L.Sink.written W.L.Sink.write_faults (IsTold G.entered G.left gate.now post) kind actor.old (C.coming clock.old) was served actor.new (C.coming clock.new) link) door.old lacked result door.new }
-    ensures stays { (failed : Bool) → result ≡ Asked.End failed → (actor.new ≡ actor.old) × (C.coming clock.new ≡ C.coming clock.old) }
+    ensures asked { AsksOn W.is_closed W.door_faults W.ledger
+        (IsFresh W.L.Sink.written W.L.Source.read_faults W.L.Sink.write_faults)
+        (IsServed kind W.L.Sink.written W.L.Source.read_faults W.L.Sink.write_faults)
+        (λ was served link. ServesLinkTold A.number A.between A.is_spent A.stands A.Reader.tells A.Reader.faults
+        W.L.Source.left W.L.Sink.written W.L.Sink.write_faults (IsTold G.entered G.left gate.now post) kind actor.old
+        (C.coming clock.old) was served actor.new (C.coming clock.new) link) door.old lacked result door.new }
+    ensures stays { (failed : Bool) → result ≡ Asked.End failed
+        → (actor.new ≡ actor.old) × (C.coming clock.new ≡ C.coming clock.old) }
     ensures spent { result ≡ Asked.Spent → WasSpent A.between A.is_spent actor.new }
     ensures stands { (n : Machine) × A.stands actor.new n }
 {

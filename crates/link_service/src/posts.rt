@@ -60,9 +60,17 @@ fn serve_seated<R: Wait, X: Applies, C: Clock, W: Door, G: Gate>(
     gate: &G,
     post: usize,
 ) -> Ended
-    requires stands { (m : Machine) × StandsFor (SharedStep X.stands X.leaves X.Reader.tells X.Reader.bytes X.Reader.faults) (SharedStands X.stands) rooms.now pass.old m }
-    ensures acts { ShiftEnds (SharedStep X.stands X.leaves X.Reader.tells X.Reader.bytes X.Reader.faults) (reply_of X.Reader.tells X.Reader.bytes X.Reader.faults) rooms.now pass.old result pass.new }
-    ensures door { DoorEnds (ServesDoorSeated rt.now (SharedStep X.stands X.leaves X.Reader.tells X.Reader.bytes X.Reader.faults) (SharedStands X.stands) (reply_of X.Reader.tells X.Reader.bytes X.Reader.faults) X.Reader.tells X.Reader.faults W.L.Source.left W.L.Sink.written W.L.Source.read_faults W.L.Sink.write_faults W.is_closed W.door_faults W.ledger (IsTold G.entered G.left gate.now)) seat_pass seat_rooms rooms.now kind post pass.old (C.coming clock.old) door.old result pass.new (C.coming clock.new) door.new }
+    requires stands { (m : Machine)
+        × StandsFor (SharedStep X.stands X.leaves X.Reader.tells X.Reader.bytes X.Reader.faults)
+        (SharedStands X.stands) rooms.now pass.old m }
+    ensures acts { ShiftEnds (SharedStep X.stands X.leaves X.Reader.tells X.Reader.bytes X.Reader.faults)
+        (reply_of X.Reader.tells X.Reader.bytes X.Reader.faults) rooms.now pass.old result pass.new }
+    ensures door { DoorEnds
+        (ServesDoorSeated rt.now (SharedStep X.stands X.leaves X.Reader.tells X.Reader.bytes X.Reader.faults)
+        (SharedStands X.stands) (reply_of X.Reader.tells X.Reader.bytes X.Reader.faults) X.Reader.tells X.Reader.faults
+        W.L.Source.left W.L.Sink.written W.L.Source.read_faults W.L.Sink.write_faults W.is_closed W.door_faults W.ledger
+        (IsTold G.entered G.left gate.now)) seat_pass seat_rooms rooms.now kind post pass.old
+        (C.coming clock.old) door.old result pass.new (C.coming clock.new) door.new }
 {
     let mut actor = Seated::new(rt, rooms, pass);
     match serve_door(rt, alloc, &mut actor, kind, door, clock, gate, post) {
@@ -79,8 +87,12 @@ fn tend_seated<R: Wait, X: Applies, C: Clock>(
     task: Task,
     clock: &mut C,
 ) -> Ended
-    requires stands { (m : Machine) × StandsFor (SharedStep X.stands X.leaves X.Reader.tells X.Reader.bytes X.Reader.faults) (SharedStands X.stands) rooms.now pass.old m }
-    ensures { TaskEnds (SharedStep X.stands X.leaves X.Reader.tells X.Reader.bytes X.Reader.faults) (reply_of X.Reader.tells X.Reader.bytes X.Reader.faults) rooms.now task pass.old (C.coming clock.old) result pass.new (C.coming clock.new) }
+    requires stands { (m : Machine)
+        × StandsFor (SharedStep X.stands X.leaves X.Reader.tells X.Reader.bytes X.Reader.faults)
+        (SharedStands X.stands) rooms.now pass.old m }
+    ensures { TaskEnds (SharedStep X.stands X.leaves X.Reader.tells X.Reader.bytes X.Reader.faults)
+        (reply_of X.Reader.tells X.Reader.bytes X.Reader.faults) rooms.now task pass.old
+        (C.coming clock.old) result pass.new (C.coming clock.new) }
 {
     let mut actor = Seated::new(rt, rooms, pass);
     match task {
@@ -104,9 +116,19 @@ pub(crate) fn serve_post<R: Wait, X: Applies, C: Clock, W: Door, G: Gate>(
     worker: &mut Worker<Shared<X>, C, Ended>,
     post: &mut Post<W>,
 )
-    requires stands { (m : Machine) × StandsFor (SharedStep X.stands X.leaves X.Reader.tells X.Reader.bytes X.Reader.faults) (SharedStands X.stands) rooms.now worker.old.pass m }
-    ensures acts { ShiftEnds (SharedStep X.stands X.leaves X.Reader.tells X.Reader.bytes X.Reader.faults) (reply_of X.Reader.tells X.Reader.bytes X.Reader.faults) rooms.now worker.old.pass worker.new.end worker.new.pass }
-    ensures door { DoorEnds (ServesDoorSeated rt.now (SharedStep X.stands X.leaves X.Reader.tells X.Reader.bytes X.Reader.faults) (SharedStands X.stands) (reply_of X.Reader.tells X.Reader.bytes X.Reader.faults) X.Reader.tells X.Reader.faults W.L.Source.left W.L.Sink.written W.L.Source.read_faults W.L.Sink.write_faults W.is_closed W.door_faults W.ledger (IsTold G.entered G.left gate.now)) seat_pass seat_rooms rooms.now post.old.kind worker.old.place worker.old.pass (C.coming worker.old.clock) post.old.door worker.new.end worker.new.pass (C.coming worker.new.clock) post.new.door }
+    requires stands { (m : Machine)
+        × StandsFor (SharedStep X.stands X.leaves X.Reader.tells X.Reader.bytes X.Reader.faults)
+        (SharedStands X.stands) rooms.now worker.old.pass m }
+    ensures acts { ShiftEnds (SharedStep X.stands X.leaves X.Reader.tells X.Reader.bytes X.Reader.faults)
+        (reply_of X.Reader.tells X.Reader.bytes X.Reader.faults)
+        rooms.now worker.old.pass worker.new.end worker.new.pass }
+    ensures door { DoorEnds
+        (ServesDoorSeated rt.now (SharedStep X.stands X.leaves X.Reader.tells X.Reader.bytes X.Reader.faults)
+        (SharedStands X.stands) (reply_of X.Reader.tells X.Reader.bytes X.Reader.faults) X.Reader.tells X.Reader.faults
+        W.L.Source.left W.L.Sink.written W.L.Source.read_faults W.L.Sink.write_faults W.is_closed W.door_faults W.ledger
+        (IsTold G.entered G.left gate.now))
+        seat_pass seat_rooms rooms.now post.old.kind worker.old.place worker.old.pass (C.coming worker.old.clock)
+        post.old.door worker.new.end worker.new.pass (C.coming worker.new.clock) post.new.door }
     ensures kind { post.new.kind ≡ post.old.kind }
 {
     worker.end = serve_seated(
@@ -129,8 +151,12 @@ pub(crate) fn tend<R: Wait, X: Applies, C: Clock>(
     worker: &mut Worker<Shared<X>, C, Ended>,
     task: &mut Task,
 )
-    requires stands { (m : Machine) × StandsFor (SharedStep X.stands X.leaves X.Reader.tells X.Reader.bytes X.Reader.faults) (SharedStands X.stands) rooms.now worker.old.pass m }
-    ensures { TaskEnds (SharedStep X.stands X.leaves X.Reader.tells X.Reader.bytes X.Reader.faults) (reply_of X.Reader.tells X.Reader.bytes X.Reader.faults) rooms.now task.old worker.old.pass (C.coming worker.old.clock) worker.new.end worker.new.pass (C.coming worker.new.clock) }
+    requires stands { (m : Machine)
+        × StandsFor (SharedStep X.stands X.leaves X.Reader.tells X.Reader.bytes X.Reader.faults)
+        (SharedStands X.stands) rooms.now worker.old.pass m }
+    ensures { TaskEnds (SharedStep X.stands X.leaves X.Reader.tells X.Reader.bytes X.Reader.faults)
+        (reply_of X.Reader.tells X.Reader.bytes X.Reader.faults) rooms.now task.old worker.old.pass
+        (C.coming worker.old.clock) worker.new.end worker.new.pass (C.coming worker.new.clock) }
 {
     worker.end = tend_seated(rt, rooms, &mut worker.pass, *task, &mut worker.clock);
 }

@@ -13,11 +13,12 @@ pub enum Replied<R: ReadAt> {
     Finished,
     /// The bytes are no request that is served, and the whole reply that says so was written.
     Refused { why: HttpErr },
-    /// A read of this file failed, which it has counted, and a front of the reply was written. Where no file is told, the disk failed in
-    /// an act, which it has counted: in a later one a front of the reply was written, in the pin the whole reply that says so.
+    /// A read of this file failed, which it has counted, and a front of the reply was written. Where no file is told,
+    /// the disk failed in an act, which it has counted: in a later one a front of the reply was written, in the pin the
+    /// whole reply that says so.
     ReadFault { failed: Option<R> },
-    /// The bytes of this file are no file of the variable's type; the first bad line begins at this place. A front of the reply was
-    /// written.
+    /// The bytes of this file are no file of the variable's type; the first bad line begins at this place. A front
+    /// of the reply was written.
     Damaged { name: FileName, at: u64 },
     /// A read or a write of the link failed, which it has counted.
     PeerFault,

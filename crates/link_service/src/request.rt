@@ -17,20 +17,27 @@ use edge_io::{Link, Sink};
 use http_front::{HttpErr, Request, WebCall, read_request};
 use std::alloc::Global;
 
-/// Reads one request of a link, makes just the acts that it asks for, in order, and writes its whole reply, over their answers. A request
-/// that isn't served makes no act.
+/// Reads one request of a link, makes just the acts that it asks for, in order, and writes its whole reply, over their
+/// answers. A request that isn't served makes no act.
 ///
-/// `PeerFault` comes only where one of the link's counts rose. At every answer but `PeerFault`, `Spent` and `Memory` a reply has begun. At
-/// `Memory` nothing was written to a management call and to bytes that are no request, and a front of the reply to a request for data.
+/// `PeerFault` comes only where one of the link's counts rose. At every answer but `PeerFault`, `Spent` and `Memory` a
+/// reply has begun. At `Memory` nothing was written to a management call and to bytes that are no request, and a front
+/// of the reply to a request for data.
 pub fn reply_to_request<A: Actor, L: Link>(
     alloc: Global,
     actor: &mut A,
     link: &mut L,
 ) -> Replied<A::Reader>
     requires stands { (m : Machine) × A.stands actor.old m }
-    ensures replies { Replies A.number A.between A.is_spent (Rose (L.Sink.write_faults link.old) (L.Sink.write_faults link.new)) (AnswersData A.number A.between A.is_spent A.stands A.Reader.tells A.Reader.faults (Rose (L.Sink.write_faults link.old) (L.Sink.write_faults link.new)) actor.old (L.Sink.written link.old) actor.new (L.Sink.written link.new)) (L.Source.left link.old) actor.old (L.Sink.written link.old) result actor.new (L.Sink.written link.new) }
+    ensures replies { Replies A.number A.between A.is_spent
+        (Rose (L.Sink.write_faults link.old) (L.Sink.write_faults link.new)) (AnswersData A.number A.between A.is_spent
+        A.stands A.Reader.tells A.Reader.faults (Rose (L.Sink.write_faults link.old) (L.Sink.write_faults link.new))
+        actor.old (L.Sink.written link.old) actor.new (L.Sink.written link.new))
+        (L.Source.left link.old) actor.old (L.Sink.written link.old) result actor.new (L.Sink.written link.new) }
     ensures begun { BeginsReply result (L.Sink.written link.old) (L.Sink.written link.new) }
-    ensures peer_fault { result ≡ Replied.PeerFault → Rose (L.Source.read_faults link.old) (L.Source.read_faults link.new) ⊎ Rose (L.Sink.write_faults link.old) (L.Sink.write_faults link.new) }
+    ensures peer_fault { result ≡ Replied.PeerFault
+        → Rose (L.Source.read_faults link.old) (L.Source.read_faults link.new)
+        ⊎ Rose (L.Sink.write_faults link.old) (L.Sink.write_faults link.new) }
     ensures write_faults { L.Sink.write_faults link.old ≤ L.Sink.write_faults link.new }
     ensures stands { (n : Machine) × A.stands actor.new n }
 {
@@ -51,7 +58,10 @@ fn serve<A: Actor, K: Sink>(
     requires stands { (m : Machine) × A.stands actor.old m }
     requires version { request.now.version ≤ 1 }
     requires wide { IsWide request.now.call }
-    ensures replies { RepliesCall A.number A.between A.is_spent (AnswersData A.number A.between A.is_spent A.stands A.Reader.tells A.Reader.faults (Rose (K.write_faults link.old) (K.write_faults link.new)) actor.old (K.written link.old) actor.new (K.written link.new)) request.now.version actor.old request.now.call (K.written link.old) result actor.new (K.written link.new) }
+    ensures replies { RepliesCall A.number A.between A.is_spent (AnswersData A.number A.between A.is_spent A.stands
+        A.Reader.tells A.Reader.faults (Rose (K.write_faults link.old) (K.write_faults link.new)) actor.old
+        (K.written link.old) actor.new (K.written link.new))
+        request.now.version actor.old request.now.call (K.written link.old) result actor.new (K.written link.new) }
     ensures peer_fault { result ≡ Replied.PeerFault → Rose (K.write_faults link.old) (K.write_faults link.new) }
     ensures write_faults { K.write_faults link.old ≤ K.write_faults link.new }
     ensures stands { (n : Machine) × A.stands actor.new n }
@@ -86,7 +96,8 @@ fn serve<A: Actor, K: Sink>(
 // Writes the reply to bytes that are no request which is served. Nothing is replied where memory ran out.
 fn refuse_request<K: Sink, R: ReadAt>(alloc: Global, why: HttpErr, link: &mut K) -> Replied<R>
     requires heard { why ≡ HttpErr.SourceFault → ⊥ }
-    ensures tells { Tells (refusal_of why) (Rose (K.write_faults link.old) (K.write_faults link.new)) (Replied.Refused why) Replied.PeerFault (unreplied why) (K.written link.old) result (K.written link.new) }
+    ensures tells { Tells (refusal_of why) (Rose (K.write_faults link.old) (K.write_faults link.new))
+        (Replied.Refused why) Replied.PeerFault (unreplied why) (K.written link.old) result (K.written link.new) }
     ensures peer_fault { result ≡ Replied.PeerFault → Rose (K.write_faults link.old) (K.write_faults link.new) }
     ensures write_faults { K.write_faults link.old ≤ K.write_faults link.new }
 {

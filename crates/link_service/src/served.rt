@@ -19,7 +19,8 @@ pub enum Kind {
 /// What the last line of a feed tells its peer.
 #[derive(Clone, Copy, Debug, PartialEq, Eq)]
 pub enum FeedTold {
-    /// The stream was read to its end: so many of its samples were kept, held until a tick, and dropped. All that was kept is durable.
+    /// The stream was read to its end: so many of its samples were kept, held until a tick, and dropped. All
+    /// that was kept is durable.
     Durable { kept: u64, held: u64, dropped: u64 },
     /// This line is the stream's first bad one. All that was kept before it is durable.
     Refused { line: u64, fault: ChunkFault },
@@ -34,14 +35,15 @@ pub enum Served<R: ReadAt> {
     Finished,
     /// The feed's last line was written, behind the lines for its chunks. It tells this.
     Fed { told: FeedTold },
-    /// The bytes are no request that is served, and the whole reply that says so was written. It is neither a failed read nor want of
-    /// memory.
+    /// The bytes are no request that is served, and the whole reply that says so was written. It is neither a
+    /// failed read nor want of memory.
     Refused { why: HttpErr },
-    /// A read of this file failed, which it has counted, and a front of the reply to a request was written. Where there is none, the disk
-    /// failed in an act, which it has counted; then that was written too, or the whole reply that says so.
+    /// A read of this file failed, which it has counted, and a front of the reply to a request was written.
+    /// Where there is none, the disk failed in an act, which it has counted; then that was written too, or the
+    /// whole reply that says so.
     ReadFault { failed: Option<R> },
-    /// The bytes of this file are no file of the variable's type; the first bad line begins at this place. A front of the reply to a
-    /// request was written.
+    /// The bytes of this file are no file of the variable's type; the first bad line begins at this place. A front of
+    /// the reply to a request was written.
     Damaged { name: FileName, at: u64 },
     /// A read or a write of the link failed, which it has counted.
     PeerFault,

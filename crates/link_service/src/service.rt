@@ -10,7 +10,8 @@ ghost use Rattle.archive_actors.specs.Seats.{StandsFor};
 ghost use Rattle.archive_actors.specs.Steps.{SharedStands, SharedStep};
 ghost use Rattle.link_service.specs.Doors.{IsTold};
 ghost use Rattle.link_service.specs.Seats.{ServesDoorSeated, seat_pass, seat_rooms};
-ghost use Rattle.link_service.specs.Service.{CanWork, DoorEnds, NumbersSpent, ServesAll, ShiftEnds, TaskEnds, WorkDone, told_of, with_end};
+ghost use Rattle.link_service.specs.Service.{CanWork, DoorEnds, NumbersSpent, ServesAll, ShiftEnds, TaskEnds, WorkDone};
+ghost use Rattle.link_service.specs.Service.{told_of, with_end};
 ghost use Rattle.turns_end.specs.Acting.{EndsInTurns, HasFlushFault};
 
 use crate::gate::Gate;
@@ -106,9 +107,16 @@ fn work_all<
 where
     X::Reader: Send,
     W::L: Send,
-    requires stand { All (CanWork (SharedStep X.stands X.leaves X.Reader.tells X.Reader.bytes X.Reader.faults) (SharedStands X.stands) rooms.now) workers.old }
+    requires stand { All (CanWork (SharedStep X.stands X.leaves X.Reader.tells X.Reader.bytes X.Reader.faults)
+        (SharedStands X.stands) rooms.now) workers.old }
     requires as_many { length workers.old ≡ length posts.old + 2 }
-    ensures { WorkDone (ServesDoorSeated rt.now (SharedStep X.stands X.leaves X.Reader.tells X.Reader.bytes X.Reader.faults) (SharedStands X.stands) (reply_of X.Reader.tells X.Reader.bytes X.Reader.faults) X.Reader.tells X.Reader.faults W.L.Source.left W.L.Sink.written W.L.Source.read_faults W.L.Sink.write_faults W.is_closed W.door_faults W.ledger (IsTold G.entered G.left gate.now)) seat_pass seat_rooms C.coming (SharedStep X.stands X.leaves X.Reader.tells X.Reader.bytes X.Reader.faults) (reply_of X.Reader.tells X.Reader.bytes X.Reader.faults) rooms.now workers.old posts.old workers.new posts.new }
+    ensures { WorkDone
+        (ServesDoorSeated rt.now (SharedStep X.stands X.leaves X.Reader.tells X.Reader.bytes X.Reader.faults)
+        (SharedStands X.stands) (reply_of X.Reader.tells X.Reader.bytes X.Reader.faults) X.Reader.tells X.Reader.faults
+        W.L.Source.left W.L.Sink.written W.L.Source.read_faults W.L.Sink.write_faults W.is_closed W.door_faults W.ledger
+        (IsTold G.entered G.left gate.now))
+        seat_pass seat_rooms C.coming (SharedStep X.stands X.leaves X.Reader.tells X.Reader.bytes X.Reader.faults)
+        (reply_of X.Reader.tells X.Reader.bytes X.Reader.faults) rooms.now workers.old posts.old workers.new posts.new }
 {
     let at_posts = posts.len();
     let (at_doors, beside) = workers.split_at_mut(at_posts);
@@ -116,15 +124,30 @@ where
     run_with(
         rt,
         &|worker: &mut Worker<Shared<X>, C, Ended>, task: &mut Task|
-            requires { (m : Machine) × StandsFor (SharedStep X.stands X.leaves X.Reader.tells X.Reader.bytes X.Reader.faults) (SharedStands X.stands) rooms.now worker.now.pass m }
-            ensures { TaskEnds (SharedStep X.stands X.leaves X.Reader.tells X.Reader.bytes X.Reader.faults) (reply_of X.Reader.tells X.Reader.bytes X.Reader.faults) rooms.entry.now task.entry.now worker.entry.now.pass (C.coming worker.entry.now.clock) worker.exit.now.end worker.exit.now.pass (C.coming worker.exit.now.clock) }
+            requires { (m : Machine)
+                × StandsFor (SharedStep X.stands X.leaves X.Reader.tells X.Reader.bytes X.Reader.faults)
+                (SharedStands X.stands) rooms.now worker.now.pass m }
+            ensures { TaskEnds (SharedStep X.stands X.leaves X.Reader.tells X.Reader.bytes X.Reader.faults)
+                (reply_of X.Reader.tells X.Reader.bytes X.Reader.faults) rooms.entry.now
+                task.entry.now worker.entry.now.pass (C.coming worker.entry.now.clock)
+                worker.exit.now.end worker.exit.now.pass (C.coming worker.exit.now.clock) }
         { tend(rt, rooms, worker, task) },
         beside,
         &mut tasks,
         &|worker: &mut Worker<Shared<X>, C, Ended>, post: &mut Post<W>|
-            requires { (m : Machine) × StandsFor (SharedStep X.stands X.leaves X.Reader.tells X.Reader.bytes X.Reader.faults) (SharedStands X.stands) rooms.now worker.now.pass m }
-            ensures acts { ShiftEnds (SharedStep X.stands X.leaves X.Reader.tells X.Reader.bytes X.Reader.faults) (reply_of X.Reader.tells X.Reader.bytes X.Reader.faults) rooms.entry.now worker.entry.now.pass worker.exit.now.end worker.exit.now.pass }
-            ensures door { DoorEnds (ServesDoorSeated rt.entry.now (SharedStep X.stands X.leaves X.Reader.tells X.Reader.bytes X.Reader.faults) (SharedStands X.stands) (reply_of X.Reader.tells X.Reader.bytes X.Reader.faults) X.Reader.tells X.Reader.faults W.L.Source.left W.L.Sink.written W.L.Source.read_faults W.L.Sink.write_faults W.is_closed W.door_faults W.ledger (IsTold G.entered G.left gate.entry.now)) seat_pass seat_rooms rooms.entry.now post.entry.now.kind worker.entry.now.place worker.entry.now.pass (C.coming worker.entry.now.clock) post.entry.now.door worker.exit.now.end worker.exit.now.pass (C.coming worker.exit.now.clock) post.exit.now.door }
+            requires { (m : Machine)
+                × StandsFor (SharedStep X.stands X.leaves X.Reader.tells X.Reader.bytes X.Reader.faults)
+                (SharedStands X.stands) rooms.now worker.now.pass m }
+            ensures acts { ShiftEnds (SharedStep X.stands X.leaves X.Reader.tells X.Reader.bytes X.Reader.faults)
+                (reply_of X.Reader.tells X.Reader.bytes X.Reader.faults)
+                rooms.entry.now worker.entry.now.pass worker.exit.now.end worker.exit.now.pass }
+            ensures door { DoorEnds (ServesDoorSeated rt.entry.now
+                (SharedStep X.stands X.leaves X.Reader.tells X.Reader.bytes X.Reader.faults) (SharedStands X.stands)
+                (reply_of X.Reader.tells X.Reader.bytes X.Reader.faults) X.Reader.tells X.Reader.faults W.L.Source.left
+                W.L.Sink.written W.L.Source.read_faults W.L.Sink.write_faults W.is_closed W.door_faults W.ledger
+                (IsTold G.entered G.left gate.entry.now)) seat_pass seat_rooms rooms.entry.now post.entry.now.kind
+                worker.entry.now.place worker.entry.now.pass (C.coming worker.entry.now.clock) post.entry.now.door
+                worker.exit.now.end worker.exit.now.pass (C.coming worker.exit.now.clock) post.exit.now.door }
             ensures kind { post.exit.now.kind ≡ post.entry.now.kind }
         { serve_post(rt, alloc, rooms, gate, worker, post) },
         at_doors,
@@ -132,14 +155,15 @@ where
     );
 }
 
-/// Serves all posts: one worker at each asks its door for links to the end and serves them as [`serve_door`](crate::serve_door) does, one who
-/// flushes also ticks all rows, and one moves, each in a thread of its own, by turns of a pass of its own and at the moments of a clock of its
-/// own, up to their ends. Where no thread can be made, the doors are served one after another, and then all is flushed and moved. `gate` is
-/// told of each link with its post's place.
+/// Serves all posts: one worker at each asks its door for links to the end and serves them as
+/// [`serve_door`](crate::serve_door) does, one who flushes also ticks all rows, and one moves, each in a thread of
+/// its own, by turns of a pass of its own and at the moments of a clock of its own, up to their ends. Where no thread
+/// can be made, the doors are served one after another, and then all is flushed and moved. `gate` is told of each
+/// link with its post's place.
 ///
-/// What is told is how each of them ended, and of each door it holds whatever became of the others. Where no passes could be drawn for them,
-/// nothing was done: for want of memory, or where their numbers and those that the pass stands for would be more than there are. No other
-/// pass may be left, and none is at the end.
+/// What is told is how each of them ended, and of each door it holds whatever became of the others. Where no passes
+/// could be drawn for them, nothing was done: for want of memory, or where their numbers and those that the pass stands
+/// for would be more than there are. No other pass may be left, and none is at the end.
 pub fn serve_all<
     R: Threads + Wait + Sync,
     X: Applies + Send,
@@ -158,18 +182,35 @@ pub fn serve_all<
 where
     X::Reader: Send,
     W::L: Send,
-    requires stands { (m : Machine) × StandsFor (SharedStep X.stands X.leaves X.Reader.tells X.Reader.bytes X.Reader.faults) (SharedStands X.stands) rooms.now pass.old m }
+    requires stands { (m : Machine)
+        × StandsFor (SharedStep X.stands X.leaves X.Reader.tells X.Reader.bytes X.Reader.faults)
+        (SharedStands X.stands) rooms.now pass.old m }
     requires last { IsLast pass.old }
     requires few { length posts.old < 2 ^ 32 }
-    ensures rooms { IsPassOf (SharedStep X.stands X.leaves X.Reader.tells X.Reader.bytes X.Reader.faults) rooms.now pass.new }
+    ensures rooms { IsPassOf
+        (SharedStep X.stands X.leaves X.Reader.tells X.Reader.bytes X.Reader.faults) rooms.now pass.new }
     ensures back { IsBack pass.old pass.new }
-    ensures served { ServesAll (ServesDoorSeated rt.now (SharedStep X.stands X.leaves X.Reader.tells X.Reader.bytes X.Reader.faults) (SharedStands X.stands) (reply_of X.Reader.tells X.Reader.bytes X.Reader.faults) X.Reader.tells X.Reader.faults W.L.Source.left W.L.Sink.written W.L.Source.read_faults W.L.Sink.write_faults W.is_closed W.door_faults W.ledger (IsTold G.entered G.left gate.now)) seat_pass seat_rooms C.coming (SharedStep X.stands X.leaves X.Reader.tells X.Reader.bytes X.Reader.faults) (reply_of X.Reader.tells X.Reader.bytes X.Reader.faults) rooms.now result pass.old pass.new posts.old posts.new }
+    ensures served { ServesAll
+        (ServesDoorSeated rt.now (SharedStep X.stands X.leaves X.Reader.tells X.Reader.bytes X.Reader.faults)
+        (SharedStands X.stands) (reply_of X.Reader.tells X.Reader.bytes X.Reader.faults) X.Reader.tells X.Reader.faults
+        W.L.Source.left W.L.Sink.written W.L.Source.read_faults W.L.Sink.write_faults W.is_closed W.door_faults W.ledger
+        (IsTold G.entered G.left gate.now))
+        seat_pass seat_rooms C.coming (SharedStep X.stands X.leaves X.Reader.tells X.Reader.bytes X.Reader.faults)
+        (reply_of X.Reader.tells X.Reader.bytes X.Reader.faults) rooms.now result
+        pass.old pass.new posts.old posts.new }
     ensures clock { Gives (C.coming clock.old) (C.coming clock.new) [] }
-    ensures spent { result.spent ≡ true → (most_acts ≤ length (known pass.new)) ⊎ NumbersSpent pass.old pass.new (length posts.old + 2) }
-    ensures disk_fault { result.disk_fault ≡ true → HasFlushFault (reply_of X.Reader.tells X.Reader.bytes X.Reader.faults) pass.old pass.new }
-    ensures ends { (m : Machine) → StandsFor (SharedStep X.stands X.leaves X.Reader.tells X.Reader.bytes X.Reader.faults) (SharedStands X.stands) rooms.now pass.old m → m.doors ≡ length posts.old
-        → result.spent ≡ false → result.memory ≡ false → result.disk_fault ≡ false
-        → (mover : ℕ) × EndsInTurns (SharedStep X.stands X.leaves X.Reader.tells X.Reader.bytes X.Reader.faults) (SharedStands X.stands) (reply_of X.Reader.tells X.Reader.bytes X.Reader.faults) rooms.now pass.old pass.new m mover }
+    ensures spent { result.spent ≡ true
+        → (most_acts ≤ length (known pass.new)) ⊎ NumbersSpent pass.old pass.new (length posts.old + 2) }
+    ensures disk_fault { result.disk_fault ≡ true
+        → HasFlushFault (reply_of X.Reader.tells X.Reader.bytes X.Reader.faults) pass.old pass.new }
+    ensures ends { (m : Machine)
+        → StandsFor (SharedStep X.stands X.leaves X.Reader.tells X.Reader.bytes X.Reader.faults)
+        (SharedStands X.stands) rooms.now pass.old m
+        → m.doors ≡ length posts.old → result.spent ≡ false
+        → result.memory ≡ false → result.disk_fault ≡ false
+        → (mover : ℕ) × EndsInTurns (SharedStep X.stands X.leaves X.Reader.tells X.Reader.bytes X.Reader.faults)
+        (SharedStands X.stands) (reply_of X.Reader.tells X.Reader.bytes X.Reader.faults) rooms.now
+        pass.old pass.new m mover }
 {
     match draw_workers(
         rt,

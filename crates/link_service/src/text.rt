@@ -26,7 +26,9 @@ pub(crate) fn give_text<A: Actor, S: Sink>(
 ) -> Retrieved<A::Reader>
     requires held { IsHeld A.number A.stands actor.old variable }
     requires wide { IsWide format }
-    ensures answers { AnswersPinned A.number A.between A.is_spent A.stands A.Reader.tells A.Reader.faults (FinishesText format) (BreaksText format) (Rose (S.write_faults sink.old) (S.write_faults sink.new)) actor.old variable query (S.written sink.old) result actor.new (S.written sink.new) }
+    ensures answers { AnswersPinned A.number A.between A.is_spent A.stands A.Reader.tells A.Reader.faults
+        (FinishesText format) (BreaksText format) (Rose (S.write_faults sink.old) (S.write_faults sink.new)) actor.old
+        variable query (S.written sink.old) result actor.new (S.written sink.new) }
     ensures faults { S.write_faults sink.old ≤ S.write_faults sink.new }
     ensures stands { (n : Machine) × A.stands actor.new n }
 {
@@ -47,7 +49,10 @@ fn give_raw<A: Actor, S: Sink>(
 ) -> Retrieved<A::Reader>
     requires held { IsHeld A.number A.stands actor.old variable }
     requires wide { IfSome op IsInRange }
-    ensures answers { AnswersPinned A.number A.between A.is_spent A.stands A.Reader.tells A.Reader.faults (FinishesText (Format.Raw op)) (BreaksText (Format.Raw op)) (Rose (S.write_faults sink.old) (S.write_faults sink.new)) actor.old variable query (S.written sink.old) result actor.new (S.written sink.new) }
+    ensures answers { AnswersPinned A.number A.between A.is_spent A.stands A.Reader.tells A.Reader.faults
+        (FinishesText (Format.Raw op)) (BreaksText (Format.Raw op))
+        (Rose (S.write_faults sink.old) (S.write_faults sink.new)) actor.old variable query
+        (S.written sink.old) result actor.new (S.written sink.new) }
     ensures faults { S.write_faults sink.old ≤ S.write_faults sink.new }
     ensures stands { (n : Machine) × A.stands actor.new n }
 {
@@ -80,7 +85,10 @@ fn give_json<A: Actor, S: Sink>(
 ) -> Retrieved<A::Reader>
     requires held { IsHeld A.number A.stands actor.old variable }
     requires wide { IfSome op IsInRange }
-    ensures answers { AnswersPinned A.number A.between A.is_spent A.stands A.Reader.tells A.Reader.faults (FinishesText (Format.Json op)) (BreaksText (Format.Json op)) (Rose (S.write_faults sink.old) (S.write_faults sink.new)) actor.old variable query (S.written sink.old) result actor.new (S.written sink.new) }
+    ensures answers { AnswersPinned A.number A.between A.is_spent A.stands A.Reader.tells A.Reader.faults
+        (FinishesText (Format.Json op)) (BreaksText (Format.Json op))
+        (Rose (S.write_faults sink.old) (S.write_faults sink.new)) actor.old variable query
+        (S.written sink.old) result actor.new (S.written sink.new) }
     ensures faults { S.write_faults sink.old ≤ S.write_faults sink.new }
     ensures stands { (n : Machine) × A.stands actor.new n }
 {

@@ -21,8 +21,8 @@ pub struct MoveRule {
     pub at: u64,
 }
 
-/// How many of the oldest partitions of a series move on, by its entries in the store and in the next one, oldest first. What `ends`
-/// had is lost.
+/// How many of the oldest partitions of a series move on, by its entries in the store and in the next one, oldest
+/// first. What `ends` had is lost.
 pub fn parts_to_move(
     rule: &MoveRule,
     source: &[Entry],

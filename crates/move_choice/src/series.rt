@@ -13,7 +13,8 @@ use store_manifest::Manifest;
 /// Which move is to be made.
 #[derive(Clone, Copy, Debug, PartialEq, Eq)]
 pub enum ToMove {
-    /// One of this series: the least that has a move to make and none running. It takes so many of its oldest partitions.
+    /// One of this series: the least that has a move to make and none running. It takes so many
+    /// of its oldest partitions.
     Begin { series: u32, parts: usize },
     /// Each series that has a move to make has one running; that of the least such series has this number.
     Running { number: u32 },
@@ -21,8 +22,8 @@ pub enum ToMove {
     Nothing,
 }
 
-/// The move to be made next from one store to another, of the series below a number. `running` tells by its series the number of each
-/// move that runs, of whatever stores. It goes over the series once.
+/// The move to be made next from one store to another, of the series below a number. `running` tells by its series the
+/// number of each move that runs, of whatever stores. It goes over the series once.
 pub fn move_to_make(
     alloc: Global,
     rule: &MoveRule,
@@ -31,7 +32,8 @@ pub fn move_to_make(
     series: u32,
     running: &BTreeMap<u32, u32>,
 ) -> Result<ToMove, AllocError>
-    ensures { IfOk result (IsToMove (parts_in rule.now source.now.entries destination.now.entries) (get nat_cmp running.now) series) }
+    ensures { IfOk result
+        (IsToMove (parts_in rule.now source.now.entries destination.now.entries) (get nat_cmp running.now) series) }
 {
     let mut ends = Vec::new(alloc);
     let mut first = None;

@@ -1,12 +1,14 @@
 //! Work on pairs in threads: one call on each pair of two slices, each in a thread of its own.
 //!
-//! [`run_all`] pairs the values of two slices by their places and calls a closure on each pair; [`run_with`] is two `run_all` at a time.
-//! Each call returns once all its threads have ended.
+//! [`run_all`] pairs the values of two slices by their places and calls a closure on each pair; [`run_with`] is two
+//! `run_all` at a time. Each call returns once all its threads have ended.
 //!
-//! Model: what each call may leave of its pair, pair by pair, as if the calls were made one after another. Nothing is claimed of which
-//! calls run at the same time, nor of their order: where no thread can be made, calls are made one after another by the caller.
+//! Model: what each call may leave of its pair, pair by pair, as if the calls were made one after another. Nothing is
+//! claimed of which calls run at the same time, nor of their order: where no thread can be made, calls are made one
+//! after another by the caller.
 //!
-//! The calls are generic over plain parameters, so that what a closure wrote through a part of a slice is known at any type.
+//! The calls are generic over plain parameters, so that what a closure wrote through a part of a
+//! slice is known at any type.
 #![tactic(auto)]
 
 ghost use Rattle.std.specs.Prelude.{◌≡◌, ◌<◌, ◌≤◌, length};
@@ -24,8 +26,8 @@ fn run_one<T, U, F: Fn(&mut T, &mut U)>(f: &F, x: &mut T, y: &mut U)
     f(x, y);
 }
 
-/// Calls `f` on each pair of values at the same place of two slices, which are of one length. Each pair has a thread of its own; where
-/// none can be made, pairs are done one after another.
+/// Calls `f` on each pair of values at the same place of two slices, which are of one length. Each pair has a thread of
+/// its own; where none can be made, pairs are done one after another.
 pub fn run_all<R: Threads + Sync, T: Send, U: Send, F: Fn(&mut T, &mut U) + Sync>(
     rt: &R,
     f: &F,
@@ -49,18 +51,22 @@ pub fn run_all<R: Threads + Sync, T: Send, U: Send, F: Fn(&mut T, &mut U) + Sync
     join_mut(
         rt,
         &mut ||
-            requires { IsSync R.row × IsSync F.row × AllCan (TakesPair F.Fn f.now) xs_front.now ys_front.now × (length xs_front.now ≡ length ys_front.now) }
-            ensures { AllGive (LeavesPair F.Fn f.entry.now) xs_front.entry.now ys_front.entry.now xs_front.exit.now ys_front.exit.now }
+            requires { IsSync R.row × IsSync F.row × AllCan (TakesPair F.Fn f.now) xs_front.now ys_front.now
+                × (length xs_front.now ≡ length ys_front.now) }
+            ensures { AllGive (LeavesPair F.Fn f.entry.now)
+                xs_front.entry.now ys_front.entry.now xs_front.exit.now ys_front.exit.now }
         { run_all(rt, f, xs_front, ys_front) },
         &mut ||
-            requires { IsSync R.row × IsSync F.row × AllCan (TakesPair F.Fn f.now) xs_back.now ys_back.now × (length xs_back.now ≡ length ys_back.now) }
-            ensures { AllGive (LeavesPair F.Fn f.entry.now) xs_back.entry.now ys_back.entry.now xs_back.exit.now ys_back.exit.now }
+            requires { IsSync R.row × IsSync F.row × AllCan (TakesPair F.Fn f.now) xs_back.now ys_back.now
+                × (length xs_back.now ≡ length ys_back.now) }
+            ensures { AllGive (LeavesPair F.Fn f.entry.now)
+                xs_back.entry.now ys_back.entry.now xs_back.exit.now ys_back.exit.now }
         { run_all(rt, f, xs_back, ys_back) },
     );
 }
 
-/// Calls `f` on each pair of two slices beside `g` on each pair of two others. Where no thread can be made, `g`'s pairs come first:
-/// what waits for the others belongs in `f`.
+/// Calls `f` on each pair of two slices beside `g` on each pair of two others. Where no thread can be made, `g`'s pairs
+/// come first: what waits for the others belongs in `f`.
 pub fn run_with<
     R: Threads + Sync,
     S: Send,
@@ -79,11 +85,13 @@ pub fn run_with<
     join_mut(
         rt,
         &mut ||
-            requires { IsSync R.row × IsSync F.row × AllCan (TakesPair F.Fn f.now) ss.now ts.now × (length ss.now ≡ length ts.now) }
+            requires { IsSync R.row × IsSync F.row × AllCan (TakesPair F.Fn f.now) ss.now ts.now
+                × (length ss.now ≡ length ts.now) }
             ensures { AllGive (LeavesPair F.Fn f.entry.now) ss.entry.now ts.entry.now ss.exit.now ts.exit.now }
         { run_all(rt, f, ss, ts) },
         &mut ||
-            requires { IsSync R.row × IsSync G.row × AllCan (TakesPair G.Fn g.now) us.now vs.now × (length us.now ≡ length vs.now) }
+            requires { IsSync R.row × IsSync G.row × AllCan (TakesPair G.Fn g.now) us.now vs.now
+                × (length us.now ≡ length vs.now) }
             ensures { AllGive (LeavesPair G.Fn g.entry.now) us.entry.now vs.entry.now us.exit.now vs.exit.now }
         { run_all(rt, g, us, vs) },
     );

@@ -32,8 +32,8 @@ pub fn parts_adjoin()
 /// A partition lies in the partition of each coarser granularity with which it shares a moment,
 /// and in none of a finer granularity.
 pub fn parts_nest()
-    ensures coarser { (coarse fine : Granularity) (p q : Part) (t : ℕ) → Holds coarse fine → IsPart fine p → IsPart coarse q
-        → HoldsMoment p t → HoldsMoment q t → (q.start ≤ p.start) × (p.end ≤ q.end) }
+    ensures coarser { (coarse fine : Granularity) (p q : Part) (t : ℕ) → Holds coarse fine → IsPart fine p
+        → IsPart coarse q → HoldsMoment p t → HoldsMoment q t → (q.start ≤ p.start) × (p.end ≤ q.end) }
     ensures finer { (coarse fine : Granularity) (p q : Part) → (Holds coarse fine → ⊥) → IsPart fine p → IsPart coarse q
         → (q.start ≤ p.start) × (p.end ≤ q.end) → ⊥ }
 {}

@@ -24,7 +24,8 @@ impl Members<'_> {
     // The required members come first, in the order of their numbers, then the type and the year.
     #[tactic(auto, unfolding(crate::specs::Info::info_with))]
     fn into_info(self, alloc: Global) -> Result<PayloadInfo, InfoErr>
-        ensures header { Gives result (info_with self.entry.ty (option_map (λ t. t.now) self.entry.name) self.entry.year self.entry.count self.entry.headers) }
+        ensures header { Gives result (info_with self.entry.ty
+            (option_map (λ t. t.now) self.entry.name) self.entry.year self.entry.count self.entry.headers) }
         ensures year { IfOk result (λ info. IsSampleYear info.year) }
     {
         let number = self.ty.ok_or(InfoFault::Missing { field: 1 })?;

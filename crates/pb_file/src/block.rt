@@ -48,7 +48,8 @@ impl Block {
     ghost use Rattle.disk_model.specs.Files.{Rose};
     ghost use Rattle.pb_file.specs.Block.{piece_of, IsPieceOf, HoldsLine, GivesLine};
 
-    // Reads the line at a place, without its newline, into `line`, whose bytes before are lost. It is the one step that is counted.
+    // Reads the line at a place, without its newline, into `line`, whose bytes before are lost. It is the
+    // one step that is counted.
     pub fn read_line<H: ReadAt, L: Ledger>(
         &mut self,
         file: &mut H,
@@ -58,8 +59,10 @@ impl Block {
     ) -> LineRead
         requires within { at ≤ self.old.len }
         requires file { IsTrue H.tells → self.old.len ≤ length (H.bytes file.old) }
-        ensures line { IsTrue H.tells → IsPieceOf (piece_of self.old) (H.bytes file.old) → GivesLine (H.bytes file.old) self.old.len at line.new.items result }
-        ensures piece { IsTrue H.tells → IsPieceOf (piece_of self.old) (H.bytes file.old) → IsPieceOf (piece_of self.new) (H.bytes file.old) }
+        ensures line { IsTrue H.tells → IsPieceOf (piece_of self.old) (H.bytes file.old)
+            → GivesLine (H.bytes file.old) self.old.len at line.new.items result }
+        ensures piece { IsTrue H.tells → IsPieceOf (piece_of self.old) (H.bytes file.old)
+            → IsPieceOf (piece_of self.new) (H.bytes file.old) }
         ensures whole { HasNoNewline line.new.items }
         ensures room { result ≡ LineRead.Line → at + length line.new.items + 1 ≤ self.old.len }
         ensures len { self.new.len ≡ self.old.len }
@@ -106,7 +109,8 @@ impl Block {
         ensures some { IsTrue H.tells → result ≡ Filled.Nothing → ⊥ }
         ensures start { result ≡ Filled.More → self.new.start ≤ place }
         ensures end { result ≡ Filled.More → place < self.new.start + vec_len self.new.bytes }
-        ensures piece { IsTrue H.tells → IsPieceOf (piece_of self.old) (H.bytes file.old) → IsPieceOf (piece_of self.new) (H.bytes file.old) }
+        ensures piece { IsTrue H.tells → IsPieceOf (piece_of self.old) (H.bytes file.old)
+            → IsPieceOf (piece_of self.new) (H.bytes file.old) }
         ensures len { self.new.len ≡ self.old.len }
         ensures same { IsTrue H.tells → H.bytes file.new ≡ H.bytes file.old }
         ensures leaves { H.leaves file.old file.new }
@@ -126,7 +130,8 @@ impl Block {
         ensures some { IsTrue H.tells → result ≡ Filled.Nothing → ⊥ }
         ensures start { result ≡ Filled.More → self.new.start ≡ place }
         ensures end { result ≡ Filled.More → 0 < vec_len self.new.bytes }
-        ensures piece { IsTrue H.tells → IsPieceOf (piece_of self.old) (H.bytes file.old) → IsPieceOf (piece_of self.new) (H.bytes file.old) }
+        ensures piece { IsTrue H.tells → IsPieceOf (piece_of self.old) (H.bytes file.old)
+            → IsPieceOf (piece_of self.new) (H.bytes file.old) }
         ensures len { self.new.len ≡ self.old.len }
         ensures same { IsTrue H.tells → H.bytes file.new ≡ H.bytes file.old }
         ensures leaves { H.leaves file.old file.new }
@@ -141,8 +146,8 @@ impl Block {
         filled
     }
 
-    // How many bytes a read from a place on asks for: few, since one line may be all that is wanted there. A read that goes on behind the
-    // bytes in memory asks for twice as many as these are.
+    // How many bytes a read from a place on asks for: few, since one line may be all that is wanted there. A read that
+    // goes on behind the bytes in memory asks for twice as many as these are.
     fn room(&self, place: u64) -> u64
         ensures some { 0 < result }
     {
@@ -165,14 +170,16 @@ impl Block {
     }
 }
 
-// Reads bytes of a file from a place on, at most so many, in place of those that are there. Where memory runs out these stay.
+// Reads bytes of a file from a place on, at most so many, in place of those that are there. Where
+// memory runs out these stay.
 fn read_from<H: ReadAt>(file: &mut H, place: u64, want: usize, bytes: &mut Vec<u8>) -> Filled
     requires some { 0 < want }
     requires file { IsTrue H.tells → place + want ≤ length (H.bytes file.old) }
     ensures some { IsTrue H.tells → result ≡ Filled.Nothing → ⊥ }
     ensures more { result ≡ Filled.More → 0 < vec_len bytes.new }
     ensures memory { result ≡ Filled.Memory → bytes.new.items ≡ bytes.old.items }
-    ensures piece { IsTrue H.tells → (result ≡ Filled.Memory → ⊥) → bytes.new.items ≡ take (vec_len bytes.new) (drop place (H.bytes file.old)) }
+    ensures piece { IsTrue H.tells → (result ≡ Filled.Memory → ⊥)
+        → bytes.new.items ≡ take (vec_len bytes.new) (drop place (H.bytes file.old)) }
     ensures fits { (result ≡ Filled.Memory → ⊥) → vec_len bytes.new ≤ want }
     ensures same { IsTrue H.tells → H.bytes file.new ≡ H.bytes file.old }
     ensures leaves { H.leaves file.old file.new }

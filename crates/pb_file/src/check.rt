@@ -17,7 +17,8 @@ use std::sync::ledger::{Blank, Ledger};
 pub enum Verdict {
     /// The file has so many samples, at least one, all in the partition, the first and the last at these moments.
     Good { count: u64, first: u64, last: u64 },
-    /// The first line that fails begins at this place. Where the file has no sample and no bad line, it is the file's end.
+    /// The first line that fails begins at this place. Where the file has no sample and no bad
+    /// line, it is the file's end.
     Damaged { at: u64 },
     /// A read of the file failed.
     ReadFault,

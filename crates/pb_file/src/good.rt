@@ -35,15 +35,15 @@ pub struct Front {
 pub enum FrontErr {
     /// A read of the file failed.
     ReadFault,
-    /// The file doesn't begin with a header's line and a sample of the partition, or the header's line with its newline has
-    /// 4,294,967,296 bytes or more.
+    /// The file doesn't begin with a header's line and a sample of the partition, or the header's line with its newline
+    /// has 4,294,967,296 bytes or more.
     NoFront,
     /// Memory ran out.
     Memory,
 }
 
-/// Gives the longest front of the first `len` bytes of a partition's file that ends behind a line and is itself such a file: a header's
-/// line and at least one sample, all in the partition, each later than the one before.
+/// Gives the longest front of the first `len` bytes of a partition's file that ends behind a line and is itself such a
+/// file: a header's line and at least one sample, all in the partition, each later than the one before.
 ///
 /// The file is read once, up to the first line that fails. Memory is taken for one line at a time.
 pub fn good_front<H: ReadAt>(

@@ -25,25 +25,30 @@ pub fn one_file()
 /// Bytes have one first bad line at most, and a file has none.
 pub fn one_bad_line()
     ensures place { (bytes : List ℕ) (at other : ℕ) → IsBadAt bytes at → IsBadAt bytes other → at ≡ other }
-    ensures excluded { (bytes head : List ℕ) (info : PayloadInfo) (xs : List Sample) (at : ℕ) → IsFile bytes head info xs → IsBadAt bytes at → ⊥ }
+    ensures excluded { (bytes head : List ℕ) (info : PayloadInfo) (xs : List Sample) (at : ℕ)
+        → IsFile bytes head info xs → IsBadAt bytes at → ⊥ }
 {}
 
 /// All bytes are a file, or have a first bad line.
 pub fn every_file()
     ensures { (bytes : List ℕ)
-        → ((head : List ℕ) × (info : PayloadInfo) × (xs : List Sample) × IsFile bytes head info xs) ⊎ ((at : ℕ) × IsBadAt bytes at) }
+        → ((head : List ℕ) × (info : PayloadInfo) × (xs : List Sample) × IsFile bytes head info xs)
+        ⊎ ((at : ℕ) × IsBadAt bytes at) }
 {}
 
 /// A header's line with its newline is a file of no samples: each line of a header, and so what `header_line` writes.
 pub fn a_file_begins()
-    ensures any { (head : List ℕ) (info : PayloadInfo) → HasNoNewline head → IsHeaderLine head info → IsFile (head ++ 10 ∷ []) head info [] }
-    ensures written { (info : PayloadInfo) → FitsInfo info → IsFile (escaped (info_text info) ++ 10 ∷ []) (escaped (info_text info)) info [] }
+    ensures any { (head : List ℕ) (info : PayloadInfo) → HasNoNewline head → IsHeaderLine head info
+        → IsFile (head ++ 10 ∷ []) head info [] }
+    ensures written { (info : PayloadInfo) → FitsInfo info
+        → IsFile (escaped (info_text info) ++ 10 ∷ []) (escaped (info_text info)) info [] }
 {}
 
 /// A file grows by samples of its type and year that rise behind its last.
 pub fn a_file_grows()
-    ensures { (bytes head : List ℕ) (info : PayloadInfo) (xs ys : List Sample)
-        → IsFile bytes head info xs → AreSamples info.ty info.year ys → RisesFrom (end_of xs) ys → IsFile (bytes ++ lines_of ys) head info (xs ++ ys) }
+    ensures { (bytes head : List ℕ) (info : PayloadInfo) (xs ys : List Sample) → IsFile bytes head info xs
+        → AreSamples info.ty info.year ys → RisesFrom (end_of xs) ys
+        → IsFile (bytes ++ lines_of ys) head info (xs ++ ys) }
 {}
 
 /// A file that is cut behind any of its lines is the file of the samples up to there.
@@ -54,17 +59,23 @@ pub fn a_file_is_cut()
 
 /// Bytes have one verdict for a partition at most, but for failed reads and want of memory.
 pub fn one_verdict()
-    ensures { (part : Part) (bytes : List ℕ) (a b : Verdict) → IsDecided a → IsDecided b → Says part bytes a → Says part bytes b → a ≡ b }
+    ensures { (part : Part) (bytes : List ℕ) (a b : Verdict) → IsDecided a → IsDecided b → Says part bytes a
+        → Says part bytes b → a ≡ b }
 {}
 
-/// Bytes have one good front for a partition at most. Where there is one whose header's line isn't too long, the bytes don't have none.
+/// Bytes have one good front for a partition at most. Where there is one whose header's line isn't too long,
+/// the bytes don't have none.
 pub fn one_front()
-    ensures one { (part : Part) (bytes : List ℕ) (a b : GoodFront) → IsGoodFront part bytes a → IsGoodFront part bytes b → a ≡ b }
-    ensures excluded { (part : Part) (bytes : List ℕ) (front : GoodFront) → IsGoodFront part bytes front → front.head_len < 2 ^ 32 → HasNoFront part bytes → ⊥ }
+    ensures one { (part : Part) (bytes : List ℕ) (a b : GoodFront) → IsGoodFront part bytes a
+        → IsGoodFront part bytes b → a ≡ b }
+    ensures excluded { (part : Part) (bytes : List ℕ) (front : GoodFront) → IsGoodFront part bytes front
+        → front.head_len < 2 ^ 32 → HasNoFront part bytes → ⊥ }
 {}
 
 /// A walk has one answer at most to a call, but for failed reads and want of memory.
 pub fn one_step()
     ensures { (front : Option Front) (bytes line other : List ℕ) (a b : Walked) (old v w : Walk)
-        → HasWalked old bytes front → old.len ≤ length bytes → IsAnswer a → IsAnswer b → Reads front bytes old line a v → Reads front bytes old other b w → a ≡ b }
+        → HasWalked old bytes front → old.len ≤ length bytes → IsAnswer a → IsAnswer b
+        → Reads front bytes old line a v
+        → Reads front bytes old other b w → a ≡ b }
 {}

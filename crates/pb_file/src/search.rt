@@ -1,5 +1,6 @@
 //! Search in a file: where its lines part at a moment, by halving the places of its bytes.
-ghost use Rattle.std.specs.Prelude.{◌≡◌, ◌≤◌, ◌<◌, ◌+◌, ◌*◌, ◌^◌, ℕ, List, None, Some, IfOk, IfSome, OnOk, Err, IsSome, IsTrue, length, take, drop};
+ghost use Rattle.std.specs.Prelude.{◌≡◌, ◌≤◌, ◌<◌, ◌+◌, ◌*◌, ◌^◌, ℕ, List, None, Some, IfOk, IfSome, OnOk, Err, IsSome};
+ghost use Rattle.std.specs.Prelude.{IsTrue, length, take, drop};
 ghost use Rattle.disk_model.specs.Files.{Rose};
 ghost use Rattle.series_model.specs.declared.sample.Sample.{Sample as SampleValue};
 ghost use Rattle.series_model.specs.Series.{before};
@@ -29,7 +30,8 @@ pub enum SearchErr {
     Memory,
 }
 
-// Where the lines of a file part at a moment: the last line that isn't later, if there is one, and the first that is, or the end.
+// Where the lines of a file part at a moment: the last line that isn't later, if there is one, and the
+// first that is, or the end.
 #[derive(Clone, Copy)]
 pub struct Parted {
     last: Option<u64>,
@@ -44,11 +46,13 @@ pub struct Found {
     end: u64,
 }
 
-/// The place of the first line of a file that is later than `t`, or `len`. The header's line with its newline has `head_len` bytes.
-/// Lines between are not read: at each halving of the range of places it reads the rest of one line, and one line.
+/// The place of the first line of a file that is later than `t`, or `len`. The header's line with its newline
+/// has `head_len` bytes. Lines between are not read: at each halving of the range of places it reads the rest
+/// of one line, and one line.
 ///
-/// Of bytes that are no file it is a place from which they may be read on: `head_len`, `len`, or that of a sample's line. At a line
-/// that is none the search ends, with the last sample that it knows isn't later, or with `head_len`: so a reading from there meets that line.
+/// Of bytes that are no file it is a place from which they may be read on: `head_len`, `len`, or that of a sample's
+/// line. At a line that is none the search ends, with the last sample that it knows isn't later, or with `head_len`: so
+/// a reading from there meets that line.
 ///
 /// What `work` had may be lost.
 pub fn first_after<H: ReadAt, L: Ledger>(
@@ -61,13 +65,17 @@ pub fn first_after<H: ReadAt, L: Ledger>(
     steps: &mut Steps<L>,
 ) -> Result<u64, SearchErr>
     requires file { IsTrue H.tells → len ≤ length (H.bytes file.old) }
-    ensures place { IsTrue H.tells → (head : List ℕ) (info : Info) (samples : List SampleValue) → IsFile (take len (H.bytes file.old)) head info samples → head_len ≡ length head + 1
+    ensures place { IsTrue H.tells → (head : List ℕ) (info : Info) (samples : List SampleValue)
+        → IsFile (take len (H.bytes file.old)) head info samples
+        → head_len ≡ length head + 1
         → IfOk result (λ at. at ≡ place_from head samples (t + 1)) }
     ensures within { IfOk result (λ at. at ≤ len) }
     ensures start { IsTrue H.tells → IfOk result (λ at. IsLineStart (take len (H.bytes file.old)) head_len at) }
-    ensures begins { IsTrue H.tells → (head : List ℕ) (info : Info) → BeginsWithHeader (take len (H.bytes file.old)) head info
+    ensures begins { IsTrue H.tells → (head : List ℕ) (info : Info)
+        → BeginsWithHeader (take len (H.bytes file.old)) head info
         → IfOk result (λ at. MayBegin info (take len (H.bytes file.old)) head_len at) }
-    ensures refused { IsTrue H.tells → (at : ℕ) → result ≡ Err (Damaged at) → (at ≡ 0) × HasNoHeader (take len (H.bytes file.old)) }
+    ensures refused { IsTrue H.tells → (at : ℕ) → result ≡ Err (Damaged at)
+        → (at ≡ 0) × HasNoHeader (take len (H.bytes file.old)) }
     ensures same { IsTrue H.tells → H.bytes file.new ≡ H.bytes file.old }
     ensures faults { H.faults file.old ≤ H.faults file.new }
     ensures cause { result ≡ Err ReadFault → Rose (H.faults file.old) (H.faults file.new) }
@@ -78,8 +86,8 @@ pub fn first_after<H: ReadAt, L: Ledger>(
     Ok(parted.next)
 }
 
-/// The place of the last line of a file that is earlier than `t`, or `None` where no line is. Of bytes that are no file it is that of a
-/// sample's line, or `None`. For the rest it is as `first_after`.
+/// The place of the last line of a file that is earlier than `t`, or `None` where no line is. Of bytes that are no file
+/// it is that of a sample's line, or `None`. For the rest it is as `first_after`.
 pub fn last_before<H: ReadAt, L: Ledger>(
     alloc: Global,
     file: &mut H,
@@ -90,13 +98,18 @@ pub fn last_before<H: ReadAt, L: Ledger>(
     steps: &mut Steps<L>,
 ) -> Result<Option<u64>, SearchErr>
     requires file { IsTrue H.tells → len ≤ length (H.bytes file.old) }
-    ensures place { IsTrue H.tells → (head : List ℕ) (info : Info) (samples : List SampleValue) → IsFile (take len (H.bytes file.old)) head info samples → head_len ≡ length head + 1
+    ensures place { IsTrue H.tells → (head : List ℕ) (info : Info) (samples : List SampleValue)
+        → IsFile (take len (H.bytes file.old)) head info samples
+        → head_len ≡ length head + 1
         → IfOk result (λ last. IsLastLine head (before t samples) last) }
     ensures within { IfOk result (λ last. IfSome last (λ at. at ≤ len)) }
-    ensures start { IsTrue H.tells → IfOk result (λ last. IfSome last (λ at. IsLineStart (take len (H.bytes file.old)) head_len at)) }
-    ensures begins { IsTrue H.tells → (head : List ℕ) (info : Info) → BeginsWithHeader (take len (H.bytes file.old)) head info
+    ensures start { IsTrue H.tells
+        → IfOk result (λ last. IfSome last (λ at. IsLineStart (take len (H.bytes file.old)) head_len at)) }
+    ensures begins { IsTrue H.tells → (head : List ℕ) (info : Info)
+        → BeginsWithHeader (take len (H.bytes file.old)) head info
         → IfOk result (λ last. IfSome last (λ at. HasSampleAt info (take len (H.bytes file.old)) at)) }
-    ensures refused { IsTrue H.tells → (at : ℕ) → result ≡ Err (Damaged at) → (at ≡ 0) × HasNoHeader (take len (H.bytes file.old)) }
+    ensures refused { IsTrue H.tells → (at : ℕ) → result ≡ Err (Damaged at)
+        → (at ≡ 0) × HasNoHeader (take len (H.bytes file.old)) }
     ensures same { IsTrue H.tells → H.bytes file.new ≡ H.bytes file.old }
     ensures faults { H.faults file.old ≤ H.faults file.new }
     ensures cause { result ≡ Err ReadFault → Rose (H.faults file.old) (H.faults file.new) }
@@ -121,13 +134,17 @@ fn part<H: ReadAt, L: Ledger>(
     steps: &mut Steps<L>,
 ) -> Result<Parted, SearchErr>
     requires file { IsTrue H.tells → len ≤ length (H.bytes file.old) }
-    ensures parted { IsTrue H.tells → (head : List ℕ) (info : Info) (samples : List SampleValue) → IsFile (take len (H.bytes file.old)) head info samples → head_len ≡ length head + 1
+    ensures parted { IsTrue H.tells → (head : List ℕ) (info : Info) (samples : List SampleValue)
+        → IsFile (take len (H.bytes file.old)) head info samples
+        → head_len ≡ length head + 1
         → IfOk result (IsPartedAt head samples (until + 1)) }
     ensures within { IfOk result (λ p. (p.next ≤ len) × IfSome p.last (λ at. at ≤ len)) }
     ensures start { IsTrue H.tells → IfOk result (λ p. AreLineStarts (take len (H.bytes file.old)) head_len p) }
-    ensures begins { IsTrue H.tells → (head : List ℕ) (info : Info) → BeginsWithHeader (take len (H.bytes file.old)) head info
+    ensures begins { IsTrue H.tells → (head : List ℕ) (info : Info)
+        → BeginsWithHeader (take len (H.bytes file.old)) head info
         → IfOk result (λ p. AreBegins info (take len (H.bytes file.old)) head_len p) }
-    ensures refused { IsTrue H.tells → (at : ℕ) → result ≡ Err (Damaged at) → (at ≡ 0) × HasNoHeader (take len (H.bytes file.old)) }
+    ensures refused { IsTrue H.tells → (at : ℕ) → result ≡ Err (Damaged at)
+        → (at ≡ 0) × HasNoHeader (take len (H.bytes file.old)) }
     ensures same { IsTrue H.tells → H.bytes file.new ≡ H.bytes file.old }
     ensures faults { H.faults file.old ≤ H.faults file.new }
     ensures cause { result ≡ Err ReadFault → Rose (H.faults file.old) (H.faults file.new) }
@@ -148,10 +165,13 @@ fn read_header<H: ReadAt, L: Ledger>(
 ) -> Result<(), SearchErr>
     requires file { IsTrue H.tells → walk.old.len ≤ length (H.bytes file.old) }
     requires fresh { (walk.old.stop ≡ None) × (walk.old.info ≡ None) }
-    ensures begun { IsTrue H.tells → HasWalked walk.old (H.bytes file.old) None → OnOk result ((front : Front) × HasWalked walk.new (H.bytes file.old) (Some front)) }
+    ensures begun { IsTrue H.tells → HasWalked walk.old (H.bytes file.old) None
+        → OnOk result ((front : Front) × HasWalked walk.new (H.bytes file.old) (Some front)) }
     ensures some { OnOk result (IsSome walk.new.info) }
     ensures len { walk.new.len ≡ walk.old.len }
-    ensures refused { IsTrue H.tells → HasWalked walk.old (H.bytes file.old) None → (at : ℕ) → result ≡ Err (Damaged at) → IsBadAt (take walk.old.len (H.bytes file.old)) at × (at ≡ walk.old.place) }
+    ensures refused { IsTrue H.tells → HasWalked walk.old (H.bytes file.old) None → (at : ℕ)
+        → result ≡ Err (Damaged at)
+        → IsBadAt (take walk.old.len (H.bytes file.old)) at × (at ≡ walk.old.place) }
     ensures same { IsTrue H.tells → H.bytes file.new ≡ H.bytes file.old }
     ensures faults { H.faults file.old ≤ H.faults file.new }
     ensures cause { result ≡ Err ReadFault → Rose (H.faults file.old) (H.faults file.new) }
@@ -168,8 +188,8 @@ fn read_header<H: ReadAt, L: Ledger>(
     }
 }
 
-// Halves the range of places until no line begins in it. All lines that begin before it aren't later than `until`, and those from
-// `next` on are. It stops at a line that is no sample's.
+// Halves the range of places until no line begins in it. All lines that begin before it aren't later than `until`, and
+// those from `next` on are. It stops at a line that is no sample's.
 fn halve<H: ReadAt, L: Ledger>(
     walk: &mut FileWalk,
     file: &mut H,
@@ -180,10 +200,14 @@ fn halve<H: ReadAt, L: Ledger>(
 ) -> Result<Parted, SearchErr>
     requires file { IsTrue H.tells → walk.old.len ≤ length (H.bytes file.old) }
     requires some { IsSome walk.old.info }
-    ensures parted { IsTrue H.tells → (head : List ℕ) (info : Info) (samples : List SampleValue) → HasHeader walk.old (H.bytes file.old) head info → IsFile (take walk.old.len (H.bytes file.old)) head info samples → head_len ≡ length head + 1
+    ensures parted { IsTrue H.tells → (head : List ℕ) (info : Info) (samples : List SampleValue)
+        → HasHeader walk.old (H.bytes file.old) head info
+        → IsFile (take walk.old.len (H.bytes file.old)) head info samples
+        → head_len ≡ length head + 1
         → IfOk result (IsPartedAt head samples (until + 1)) }
     ensures within { IfOk result (λ p. (p.next ≤ walk.old.len) × IfSome p.last (λ at. at ≤ walk.old.len)) }
-    ensures start { IsTrue H.tells → (head : List ℕ) (info : Info) → HasHeader walk.old (H.bytes file.old) head info → IfOk result (λ p. AreLineStarts (take walk.old.len (H.bytes file.old)) head_len p) }
+    ensures start { IsTrue H.tells → (head : List ℕ) (info : Info) → HasHeader walk.old (H.bytes file.old) head info
+        → IfOk result (λ p. AreLineStarts (take walk.old.len (H.bytes file.old)) head_len p) }
     ensures begins { IsTrue H.tells → (head : List ℕ) (info : Info) → HasHeader walk.old (H.bytes file.old) head info
         → IfOk result (λ p. AreBegins info (take walk.old.len (H.bytes file.old)) head_len p) }
     ensures never { (at : ℕ) → result ≡ Err (Damaged at) → ⊥ }
@@ -248,10 +272,15 @@ fn find<H: ReadAt, L: Ledger>(
     requires end { next ≤ walk.old.len }
     requires some { IsSome walk.old.info }
     requires file { IsTrue H.tells → walk.old.len ≤ length (H.bytes file.old) }
-    ensures found { IsTrue H.tells → (head : List ℕ) (info : Info) → HasHeader walk.old (H.bytes file.old) head info → IfOk result (IsFoundIn info (take walk.old.len (H.bytes file.old)) low middle next) }
+    ensures found { IsTrue H.tells → (head : List ℕ) (info : Info) → HasHeader walk.old (H.bytes file.old) head info
+        → IfOk result (IsFoundIn info (take walk.old.len (H.bytes file.old)) low middle next) }
     ensures place { IfOk result (λ o. IfSome o (λ f. (middle ≤ f.at) × (f.at < f.end) × (f.end ≤ walk.old.len))) }
-    ensures headed { IsTrue H.tells → (head : List ℕ) (info : Info) → HasHeader walk.old (H.bytes file.old) head info → OnOk result (HasHeader walk.new (H.bytes file.old) head info) }
-    ensures refused { IsTrue H.tells → (head : List ℕ) (info : Info) → HasHeader walk.old (H.bytes file.old) head info → (at : ℕ) → result ≡ Err (Damaged at) → BeginsFrom (take walk.old.len (H.bytes file.old)) low middle at × HasNoSample info (λ t. Unit {0}) (drop at (take walk.old.len (H.bytes file.old))) }
+    ensures headed { IsTrue H.tells → (head : List ℕ) (info : Info) → HasHeader walk.old (H.bytes file.old) head info
+        → OnOk result (HasHeader walk.new (H.bytes file.old) head info) }
+    ensures refused { IsTrue H.tells → (head : List ℕ) (info : Info) → HasHeader walk.old (H.bytes file.old) head info
+        → (at : ℕ) → result ≡ Err (Damaged at)
+        → BeginsFrom (take walk.old.len (H.bytes file.old)) low middle at
+        × HasNoSample info (λ t. Unit {0}) (drop at (take walk.old.len (H.bytes file.old))) }
     ensures len { walk.new.len ≡ walk.old.len }
     ensures info { walk.new.info ≡ walk.old.info }
     ensures same { IsTrue H.tells → H.bytes file.new ≡ H.bytes file.old }
@@ -281,8 +310,10 @@ fn start_from<H: ReadAt, L: Ledger>(
     requires within { middle < walk.old.len }
     requires file { IsTrue H.tells → walk.old.len ≤ length (H.bytes file.old) }
     ensures behind { IfOk result (λ at. (middle ≤ at) × (at ≤ walk.old.len)) }
-    ensures first { IsTrue H.tells → IsPieceOf walk.old.piece (H.bytes file.old) → IfOk result (BeginsFrom (take walk.old.len (H.bytes file.old)) low middle) }
-    ensures piece { IsTrue H.tells → IsPieceOf walk.old.piece (H.bytes file.old) → IsPieceOf walk.new.piece (H.bytes file.old) }
+    ensures first { IsTrue H.tells → IsPieceOf walk.old.piece (H.bytes file.old)
+        → IfOk result (BeginsFrom (take walk.old.len (H.bytes file.old)) low middle) }
+    ensures piece { IsTrue H.tells → IsPieceOf walk.old.piece (H.bytes file.old)
+        → IsPieceOf walk.new.piece (H.bytes file.old) }
     ensures walk { walk.new ≡ record walk.old { piece = walk.new.piece } }
     ensures never { (at : ℕ) → result ≡ Err (Damaged at) → ⊥ }
     ensures same { IsTrue H.tells → H.bytes file.new ≡ H.bytes file.old }
@@ -309,9 +340,13 @@ fn read_at<H: ReadAt, L: Ledger>(
     requires some { IsSome walk.old.info }
     requires file { IsTrue H.tells → walk.old.len ≤ length (H.bytes file.old) }
     ensures place { IfOk result (λ f. (f.at ≡ at) × (at < f.end) × (f.end ≤ walk.old.len)) }
-    ensures line { IsTrue H.tells → (head : List ℕ) (info : Info) → HasHeader walk.old (H.bytes file.old) head info → IfOk result (IsLineAt info (take walk.old.len (H.bytes file.old))) }
-    ensures headed { IsTrue H.tells → (head : List ℕ) (info : Info) → HasHeader walk.old (H.bytes file.old) head info → OnOk result (HasHeader walk.new (H.bytes file.old) head info) }
-    ensures refused { IsTrue H.tells → (head : List ℕ) (info : Info) → HasHeader walk.old (H.bytes file.old) head info → (bad : ℕ) → result ≡ Err (Damaged bad) → (bad ≡ at) × HasNoSample info (λ t. Unit {0}) (drop at (take walk.old.len (H.bytes file.old))) }
+    ensures line { IsTrue H.tells → (head : List ℕ) (info : Info) → HasHeader walk.old (H.bytes file.old) head info
+        → IfOk result (IsLineAt info (take walk.old.len (H.bytes file.old))) }
+    ensures headed { IsTrue H.tells → (head : List ℕ) (info : Info) → HasHeader walk.old (H.bytes file.old) head info
+        → OnOk result (HasHeader walk.new (H.bytes file.old) head info) }
+    ensures refused { IsTrue H.tells → (head : List ℕ) (info : Info) → HasHeader walk.old (H.bytes file.old) head info
+        → (bad : ℕ) → result ≡ Err (Damaged bad)
+        → (bad ≡ at) × HasNoSample info (λ t. Unit {0}) (drop at (take walk.old.len (H.bytes file.old))) }
     ensures len { walk.new.len ≡ walk.old.len }
     ensures info { walk.new.info ≡ walk.old.info }
     ensures same { IsTrue H.tells → H.bytes file.new ≡ H.bytes file.old }

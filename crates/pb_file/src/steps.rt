@@ -22,7 +22,8 @@ impl<L: Ledger> Model for Steps<L> {
 }
 
 impl<L: Ledger> Steps<L> {
-    /// No line was read yet. A caller that wants no count writes `Steps::<Brand>::new(Blank::new(1))` in a function of its own.
+    /// No line was read yet. A caller that wants no count writes `Steps::<Brand>::new(Blank::new(1))`
+    /// in a function of its own.
     pub fn new(blank: Blank) -> Steps<L>
         requires name { blank.name ≡ L.name }
         requires parts { blank.parts ≡ L.parts }

@@ -1,5 +1,6 @@
 // A walk through a PB file, one line a call.
-ghost use Rattle.std.specs.Prelude.{◌≡◌, ◌≤◌, ◌<◌, ◌+◌, ◌↔◌, [], ℕ, List, Option, Some, None, Err, IfOk, IfSome, IfNone, IsSome, IsTrue, length, take};
+ghost use Rattle.std.specs.Prelude.{◌≡◌, ◌≤◌, ◌<◌, ◌+◌, ◌↔◌, [], ℕ, List, Option, Some, None, Err, IfOk, IfSome};
+ghost use Rattle.std.specs.Prelude.{IfNone, IsSome, IsTrue, length, take};
 ghost use Rattle.std.specs.Option.{option_copied};
 ghost use Rattle.line_escape.specs.Unescaping.{HasNoNewline};
 ghost use Rattle.disk_model.specs.Files.{Rose};
@@ -66,7 +67,14 @@ impl Model for FileWalk {
 
     ghost Value = { Walk };
 
-    ghost view = { λ w. record { len = w.block.len; place = w.place; info = option_map (λ h. h.info) w.header; earliest = behind w.last; stop = w.stop; piece = piece_of w.block } };
+    ghost view = { λ w. record {
+      len = w.block.len;
+      place = w.place;
+      info = option_map (λ h. h.info) w.header;
+      earliest = behind w.last;
+      stop = w.stop;
+      piece = piece_of w.block;
+    } };
 
     ghost invariant = { λ w. (w.place ≤ w.block.len) × IsFinal w.stop };
 }
@@ -128,8 +136,8 @@ impl FileWalk {
         self.place
     }
 
-    /// Reads the next line into `line`, without its newline, or tells the end of the file or its first bad line. After `End`
-    /// and `Damaged` the same comes again. After `ReadFault` and `Memory` the walk goes on at the same line.
+    /// Reads the next line into `line`, without its newline, or tells the end of the file or its first bad line. After
+    /// `End` and `Damaged` the same comes again. After `ReadFault` and `Memory` the walk goes on at the same line.
     ///
     /// Each call is given the same file. What `line` had may be lost. It reads one line at most.
     pub fn next<H: ReadAt, L: Ledger>(
@@ -139,10 +147,13 @@ impl FileWalk {
         steps: &mut Steps<L>,
     ) -> Walked
         requires file { IsTrue H.tells → self.old.len ≤ length (H.bytes file.old) }
-        ensures walked { IsTrue H.tells → (front : Option Front) → HasWalked self.old (H.bytes file.old) front → Walks front (H.bytes file.old) line.new.items result self.new }
-        ensures skipped { IsTrue H.tells → (at : ℕ) (front : Front) → HasSkipped self.old (H.bytes file.old) at front → GoesOnFrom at front (H.bytes file.old) line.new.items result self.new }
+        ensures walked { IsTrue H.tells → (front : Option Front) → HasWalked self.old (H.bytes file.old) front
+            → Walks front (H.bytes file.old) line.new.items result self.new }
+        ensures skipped { IsTrue H.tells → (at : ℕ) (front : Front) → HasSkipped self.old (H.bytes file.old) at front
+            → GoesOnFrom at front (H.bytes file.old) line.new.items result self.new }
         ensures gives { IfNone self.old.stop (Gives self.old line.new.items result self.new) }
-        ensures stopped { IfSome self.old.stop (λ stop. (result ≡ stop) × (self.new ≡ self.old) × (line.new ≡ line.old) × (file.new ≡ file.old)) }
+        ensures stopped { IfSome self.old.stop (λ stop.
+            (result ≡ stop) × (self.new ≡ self.old) × (line.new ≡ line.old) × (file.new ≡ file.old)) }
         ensures within { self.new.place ≤ self.new.len }
         ensures same { IsTrue H.tells → H.bytes file.new ≡ H.bytes file.old }
         ensures leaves { H.leaves file.old file.new }
@@ -167,8 +178,8 @@ impl FileWalk {
         }
     }
 
-    /// The next sample's moment and its line, without its newline, where the line is in memory whole and good, and the moment is from `from`
-    /// to `to`, both included. `pass` goes on behind it.
+    /// The next sample's moment and its line, without its newline, where the line is in memory whole and good, and the
+    /// moment is from `from` to `to`, both included. `pass` goes on behind it.
     ///
     /// `work` is scratch space: what it held is lost.
     #[inline(always)]
@@ -205,14 +216,17 @@ impl FileWalk {
         self.last = Some(t);
     }
 
-    /// Goes on at a later place, without reading what stands before it: `next` answers from then on as over the header's line and the
-    /// bytes from there on. The first line there is compared with none before it. At a place that isn't later, or is past the bytes
-    /// that count, nothing changes.
+    /// Goes on at a later place, without reading what stands before it: `next` answers from then on as over the
+    /// header's line and the bytes from there on. The first line there is compared with none before it. At a place that
+    /// isn't later, or is past the bytes that count, nothing changes.
     pub fn skip_to(&mut self, at: u64)
         requires { IsSome self.old.info }
-        ensures skips { self.old.place < at → at ≤ self.old.len → self.new ≡ record self.old { place = at; earliest = 0; stop = None } }
+        ensures skips { self.old.place < at → at ≤ self.old.len
+            → self.new ≡ record self.old { place = at; earliest = 0; stop = None } }
         ensures stays { (self.old.place < at → at ≤ self.old.len → ⊥) → self.new ≡ self.old }
-        ensures skipped { self.old.place < at → at ≤ self.old.len → (bytes head : List ℕ) (info : InfoValue) → HasHeader self.old bytes head info → HasSkipped self.new bytes at (record { head = head; info = info; samples = [] }) }
+        ensures skipped { self.old.place < at → at ≤ self.old.len → (bytes head : List ℕ) (info : InfoValue)
+            → HasHeader self.old bytes head info
+            → HasSkipped self.new bytes at (record { head = head; info = info; samples = [] }) }
     {
         if self.place < at && at <= self.block.len {
             self.seek(at);
@@ -223,7 +237,8 @@ impl FileWalk {
     pub(crate) fn seek(&mut self, at: u64)
         requires within { at ≤ self.old.len }
         ensures moved { self.new ≡ record self.old { place = at; earliest = 0; stop = None } }
-        ensures skipped { (bytes head : List ℕ) (info : InfoValue) → HasHeader self.old bytes head info → HasSkipped self.new bytes at (record { head = head; info = info; samples = [] }) }
+        ensures skipped { (bytes head : List ℕ) (info : InfoValue) → HasHeader self.old bytes head info
+            → HasSkipped self.new bytes at (record { head = head; info = info; samples = [] }) }
     {
         self.place = at;
         self.last = None;
@@ -241,8 +256,10 @@ impl FileWalk {
         requires within { place < self.old.len }
         requires file { IsTrue H.tells → self.old.len ≤ length (H.bytes file.old) }
         ensures behind { IfOk result (λ at. (place < at) × (at ≤ self.old.len)) }
-        ensures line { IsTrue H.tells → IsPieceOf self.old.piece (H.bytes file.old) → IfOk result (BeginsBehind (take self.old.len (H.bytes file.old)) place) }
-        ensures piece { IsTrue H.tells → IsPieceOf self.old.piece (H.bytes file.old) → IsPieceOf self.new.piece (H.bytes file.old) }
+        ensures line { IsTrue H.tells → IsPieceOf self.old.piece (H.bytes file.old)
+            → IfOk result (BeginsBehind (take self.old.len (H.bytes file.old)) place) }
+        ensures piece { IsTrue H.tells → IsPieceOf self.old.piece (H.bytes file.old)
+            → IsPieceOf self.new.piece (H.bytes file.old) }
         ensures walk { self.new ≡ record self.old { piece = self.new.piece } }
         ensures never { (at : ℕ) → result ≡ Err (Damaged at) → ⊥ }
         ensures same { IsTrue H.tells → H.bytes file.new ≡ H.bytes file.old }

@@ -6,7 +6,8 @@ use crate::ChunkFault;
 
 /// Each list of bytes is a stream of some items, up to its end or to its first bad line.
 pub fn every_stream()
-    ensures { (s : Section) (n p : ℕ) (bytes : List ℕ) → (items : List Item) × (stop : Stop) × IsStream s n p bytes items stop }
+    ensures { (s : Section) (n p : ℕ) (bytes : List ℕ)
+        → (items : List Item) × (stop : Stop) × IsStream s n p bytes items stop }
 {}
 
 /// No list of bytes is two streams: its items, and its first bad line with that line's number and
@@ -20,10 +21,13 @@ pub fn one_stream()
 /// in the stream, each stream that begins with it has the same items and the same first bad line. So
 /// has each where that line, or the stream, is too long.
 pub fn refusal_is_final()
-    ensures whole_line { (s : Section) (n p : ℕ) (bytes more : List ℕ) (items : List Item) (number : ℕ) (fault : ChunkFault)
-        → IsStream s n p bytes items (Some (number, fault)) → fault ≢ ChunkFault.Torn → number ≤ n + newline_count bytes
+    ensures whole_line { (s : Section) (n p : ℕ) (bytes more : List ℕ) (items : List Item)
+        (number : ℕ) (fault : ChunkFault)
+        → IsStream s n p bytes items (Some (number, fault))
+        → fault ≢ ChunkFault.Torn → number ≤ n + newline_count bytes
         → IsStream s n p (bytes ++ more) items (Some (number, fault)) }
-    ensures any_line { (s : Section) (n p : ℕ) (bytes more : List ℕ) (items : List Item) (number : ℕ) (fault : ChunkFault)
+    ensures any_line { (s : Section) (n p : ℕ) (bytes more : List ℕ) (items : List Item)
+        (number : ℕ) (fault : ChunkFault)
         → IsStream s n p bytes items (Some (number, fault)) → IsFinal fault
         → IsStream s n p (bytes ++ more) items (Some (number, fault)) }
 {}

@@ -13,8 +13,8 @@
 //! to their end or to the first bad line with its number and fault. `ChunkReader` gives these one
 //! by one, whatever pieces the bytes come in.
 //!
-//! What a file of a partition is stands here too (`File.IsFile`, for one header and samples that rise in time), so that what lists
-//! and writes such files needs nothing of the crate that reads them.
+//! What a file of a partition is stands here too (`File.IsFile`, for one header and samples that rise in time), so that
+//! what lists and writes such files needs nothing of the crate that reads them.
 //!
 //! Caveats: nothing is said of the order in time of a stream's samples. Of a source that doesn't tell its
 //! bytes, as a real file, the contracts don't say which items are given.

@@ -1,8 +1,11 @@
 // A raw PB stream read item by item: headers, samples and the ends of chunks.
-ghost use Rattle.std.specs.Prelude.{◌≡◌, ◌≢◌, ◌↔◌, ◌≤◌, ℕ, List, Option, [], IfOk, IfSome, IfNone, IsTrue, IsSome, length, take, map};
+ghost use Rattle.std.specs.Prelude.{◌≡◌, ◌≢◌, ◌↔◌, ◌≤◌, ℕ, List, Option, [], IfOk, IfSome, IfNone, IsTrue, IsSome};
+ghost use Rattle.std.specs.Prelude.{length, take, map};
 ghost use Rattle.std.specs.Option.{option_copied};
 ghost use Rattle.edge_io.specs.Stream.{Rose};
-ghost use Rattle.pb_lines.specs.Reader.{IsFresh, HoldsLine, ReadsItem, ReadsLine, Fetches, EndsStream, TakesLine, IsLineOf, Counts, CountsOn, to_come, lines_taken, bytes_taken, line_number, Passes};
+ghost use Rattle.pb_lines.specs.Reader.{IsFresh, HoldsLine, ReadsItem, ReadsLine, Fetches, EndsStream, TakesLine};
+ghost use Rattle.pb_lines.specs.Reader.{IsLineOf, Counts, CountsOn, to_come, lines_taken, bytes_taken, line_number};
+ghost use Rattle.pb_lines.specs.Reader.{Passes};
 ghost use Rattle.pb_lines.specs.Stream.{sample};
 ghost use Rattle.pb_lines.specs.Run.{HoldsRun, TakesRun, samples_of};
 
@@ -68,7 +71,12 @@ impl Model for ChunkReader {
 
     ghost Value = { Chunks };
 
-    ghost view = { λ r. record { lines = r.lines; pending = r.pending; section = record { begun = r.begun; chunk = option_map (λ c. c.info) r.chunk }; refused = r.refused } };
+    ghost view = { λ r. record {
+      lines = r.lines;
+      pending = r.pending;
+      section = record { begun = r.begun; chunk = option_map (λ c. c.info) r.chunk };
+      refused = r.refused;
+    } };
 
     ghost invariant = { λ r. IsReady r.lines r.pending r.refused };
 }
@@ -129,10 +137,12 @@ impl ChunkReader {
 
     /// Reads the next item, and skips empty lines outside a chunk before it.
     pub fn next<S: Source>(&mut self, source: &mut S) -> ChunkItem
-        ensures item { IfNone self.old.refused (ReadsItem self.old self.new (to_come self.old (S.left source.old)) (to_come self.new (S.left source.new)) result) }
+        ensures item { IfNone self.old.refused (ReadsItem self.old self.new
+            (to_come self.old (S.left source.old)) (to_come self.new (S.left source.new)) result) }
         ensures line { IsLineOf self.new result }
         ensures lines { IfNone self.old.refused (CountsOn self.old self.new result) }
-        ensures refused { IfSome self.old.refused (λ f. (result ≡ ChunkItem.Refused f) × (self.new ≡ self.old) × (source.new ≡ source.old)) }
+        ensures refused { IfSome self.old.refused (λ f.
+            (result ≡ ChunkItem.Refused f) × (self.new ≡ self.old) × (source.new ≡ source.old)) }
         ensures faults { S.read_faults source.old ≤ S.read_faults source.new }
         ensures failed { result ≡ ChunkItem.SourceFault → Rose (S.read_faults source.old) (S.read_faults source.new) }
         ensures beside { S.beside source.new ≡ S.beside source.old }
@@ -148,13 +158,16 @@ impl ChunkReader {
     /// a chunk. So a caller can turn to other work between two lines.
     #[inline(always)]
     pub fn read_line<S: Source>(&mut self, source: &mut S) -> Option<ChunkItem>
-        ensures item { IfNone self.old.refused (ReadsLine self.old self.new (to_come self.old (S.left source.old)) (to_come self.new (S.left source.new)) result) }
+        ensures item { IfNone self.old.refused (ReadsLine self.old self.new
+            (to_come self.old (S.left source.old)) (to_come self.new (S.left source.new)) result) }
         ensures line { IfSome result (IsLineOf self.new) }
         ensures lines { IfNone self.old.refused (Counts (lines_taken self.old) (bytes_taken self.old) self.new result) }
-        ensures refused { IfSome self.old.refused (λ f. (result ≡ Some (ChunkItem.Refused f)) × (self.new ≡ self.old) × (source.new ≡ source.old)) }
+        ensures refused { IfSome self.old.refused (λ f.
+            (result ≡ Some (ChunkItem.Refused f)) × (self.new ≡ self.old) × (source.new ≡ source.old)) }
         ensures unread { HoldsLine self.old → source.new ≡ source.old }
         ensures faults { S.read_faults source.old ≤ S.read_faults source.new }
-        ensures failed { result ≡ Some ChunkItem.SourceFault → Rose (S.read_faults source.old) (S.read_faults source.new) }
+        ensures failed { result ≡ Some ChunkItem.SourceFault
+            → Rose (S.read_faults source.old) (S.read_faults source.new) }
         ensures beside { S.beside source.new ≡ S.beside source.old }
     {
         if let Some(fault) = self.refused {
@@ -217,13 +230,17 @@ impl ChunkReader {
     // Reads a line that is to be taken, unless there is one.
     fn fetch<S: Source>(&mut self, source: &mut S) -> Option<ChunkItem>
         requires { self.old.refused ≡ None }
-        ensures line { IfNone result (Fetches self.old self.new (to_come self.old (S.left source.old)) (to_come self.new (S.left source.new))) }
-        ensures item { IfSome result (ReadsItem self.old self.new (to_come self.old (S.left source.old)) (to_come self.new (S.left source.new))) }
+        ensures line { IfNone result
+            (Fetches self.old self.new (to_come self.old (S.left source.old)) (to_come self.new (S.left source.new))) }
+        ensures item { IfSome result (ReadsItem self.old self.new
+            (to_come self.old (S.left source.old)) (to_come self.new (S.left source.new))) }
         ensures no_line { IfSome result (IsLineOf self.new) }
-        ensures lines { IfSome result (λ item. Counts (lines_taken self.old) (bytes_taken self.old) self.new (Some item)) }
+        ensures lines { IfSome result (λ item.
+            Counts (lines_taken self.old) (bytes_taken self.old) self.new (Some item)) }
         ensures unread { HoldsLine self.old → source.new ≡ source.old }
         ensures faults { S.read_faults source.old ≤ S.read_faults source.new }
-        ensures failed { result ≡ Some ChunkItem.SourceFault → Rose (S.read_faults source.old) (S.read_faults source.new) }
+        ensures failed { result ≡ Some ChunkItem.SourceFault
+            → Rose (S.read_faults source.old) (S.read_faults source.new) }
         ensures beside { S.beside source.new ≡ S.beside source.old }
     {
         if self.pending {

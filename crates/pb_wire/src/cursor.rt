@@ -75,7 +75,8 @@ impl<'a> Fields<'a> {
     #[inline(always)]
     pub fn next_number(&mut self, number: u32) -> Option<u64>
         requires { (1 ≤ number) × (number ≤ 15) }
-        ensures taken { IfSome result (λ n. TakesItem field_at self.old self.new (record { number = number; value = varint n })) }
+        ensures taken { IfSome result (λ n.
+            TakesItem field_at self.old self.new (record { number = number; value = varint n })) }
         ensures none { IfNone result (self.new ≡ self.old) }
     {
         let (n, rest) = read_short_number(self.rest, number, self.end)?;
@@ -87,7 +88,8 @@ impl<'a> Fields<'a> {
     #[inline(always)]
     pub fn next_fixed64(&mut self, number: u32) -> Option<u64>
         requires { (1 ≤ number) × (number ≤ 15) }
-        ensures taken { IfSome result (λ n. TakesItem field_at self.old self.new (record { number = number; value = fixed64 n })) }
+        ensures taken { IfSome result (λ n.
+            TakesItem field_at self.old self.new (record { number = number; value = fixed64 n })) }
         ensures none { IfNone result (self.new ≡ self.old) }
     {
         let (n, rest) = read_short_fixed64(self.rest, number, self.end)?;
@@ -99,7 +101,8 @@ impl<'a> Fields<'a> {
     #[inline(always)]
     pub fn next_fixed32(&mut self, number: u32) -> Option<u32>
         requires { (1 ≤ number) × (number ≤ 15) }
-        ensures taken { IfSome result (λ n. TakesItem field_at self.old self.new (record { number = number; value = fixed32 n })) }
+        ensures taken { IfSome result (λ n.
+            TakesItem field_at self.old self.new (record { number = number; value = fixed32 n })) }
         ensures none { IfNone result (self.new ≡ self.old) }
     {
         let (n, rest) = read_short_fixed32(self.rest, number, self.end)?;

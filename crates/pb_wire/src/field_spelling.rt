@@ -29,7 +29,8 @@ pub fn put_optional(out: &mut Vec<u8>, number: u32, value: Option<u64>) -> Resul
 #[tactic(auto, using(crate::proofs::PairTexts::pair_written, crate::proofs::PairTexts::pair_short))]
 pub fn put_pair(out: &mut Vec<u8>, number: u32, name: &[u8], val: &[u8]) -> Result<(), AllocError>
     requires { IsFieldNumber number }
-    ensures ok { OnOk result (out.new.items ≡ out.old.items ++ message_text (pair_field number (name.now, val.now) ∷ [])) }
+    ensures ok { OnOk result
+        (out.new.items ≡ out.old.items ++ message_text (pair_field number (name.now, val.now) ∷ [])) }
     ensures grows { StartsWith out.new.items out.old.items }
     ensures fits { OnOk result (length (pair_text (name.now, val.now)) < 2 ^ 64) }
 {

@@ -2,7 +2,8 @@
 ghost use Rattle.std.specs.Prelude.{◌≡◌, ◌<◌, ◌≤◌, ◌^◌, Ok, IfOk, IfSome, length};
 ghost use Rattle.std.specs.Int.{w32, w64, from_le_bytes};
 ghost use Rattle.pb_wire.specs.Message.{view, view_value, varint, fixed32, fixed64};
-ghost use Rattle.pb_wire.specs.Reading.{Gives, varint_at, tag_at, front_at, fixed64_at, fixed32_at, blob_at, value_at, field_at};
+ghost use Rattle.pb_wire.specs.Reading.{Gives, varint_at, tag_at, front_at, fixed64_at, fixed32_at, blob_at, value_at};
+ghost use Rattle.pb_wire.specs.Reading.{field_at};
 
 use crate::{Field, Wire, WireErr};
 
@@ -127,7 +128,8 @@ fn read_short_varint(bytes: &[u8], end: usize) -> Option<(u64, &[u8])>
 pub(crate) fn read_short_number(bytes: &[u8], number: u32, end: usize) -> Option<(u64, &[u8])>
     requires within { length bytes.now ≤ end }
     requires number { (1 ≤ number) × (number ≤ 15) }
-    ensures read { IfSome result (λ x. field_at end bytes.now ≡ Ok (record { number = number; value = varint x.0 }, x.1.now)) }
+    ensures read { IfSome result (λ x.
+        field_at end bytes.now ≡ Ok (record { number = number; value = varint x.0 }, x.1.now)) }
     ensures shorter { IfSome result (λ x. length x.1.now ≤ length bytes.now) }
 {
     let (tag, rest) = bytes.split_first()?;
@@ -143,7 +145,8 @@ pub(crate) fn read_short_number(bytes: &[u8], number: u32, end: usize) -> Option
 pub(crate) fn read_short_fixed64(bytes: &[u8], number: u32, end: usize) -> Option<(u64, &[u8])>
     requires within { length bytes.now ≤ end }
     requires number { (1 ≤ number) × (number ≤ 15) }
-    ensures read { IfSome result (λ x. field_at end bytes.now ≡ Ok (record { number = number; value = fixed64 x.0 }, x.1.now)) }
+    ensures read { IfSome result (λ x.
+        field_at end bytes.now ≡ Ok (record { number = number; value = fixed64 x.0 }, x.1.now)) }
     ensures shorter { IfSome result (λ x. length x.1.now ≤ length bytes.now) }
 {
     let (tag, rest) = bytes.split_first()?;
@@ -161,7 +164,8 @@ pub(crate) fn read_short_fixed64(bytes: &[u8], number: u32, end: usize) -> Optio
 pub(crate) fn read_short_fixed32(bytes: &[u8], number: u32, end: usize) -> Option<(u32, &[u8])>
     requires within { length bytes.now ≤ end }
     requires number { (1 ≤ number) × (number ≤ 15) }
-    ensures read { IfSome result (λ x. field_at end bytes.now ≡ Ok (record { number = number; value = fixed32 x.0 }, x.1.now)) }
+    ensures read { IfSome result (λ x.
+        field_at end bytes.now ≡ Ok (record { number = number; value = fixed32 x.0 }, x.1.now)) }
     ensures shorter { IfSome result (λ x. length x.1.now ≤ length bytes.now) }
 {
     let (tag, rest) = bytes.split_first()?;

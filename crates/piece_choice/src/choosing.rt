@@ -1,6 +1,7 @@
 // The choice, file by file.
 ghost use Rattle.std.specs.Prelude.{◌≡◌, ◌<◌, ◌≤◌, ℕ, List, [], ◌++◌, ◌∷◌, ◌↔◌, All, IsTrue, OnOk, length, take, drop};
-ghost use Rattle.piece_choice.specs.Choosing.{IsChoice, IsChosen, IsBelow, IsPast, Cuts, StartsPast, EndsWithin, listed};
+ghost use Rattle.piece_choice.specs.Choosing.{IsChoice, IsChosen, IsBelow, IsPast, Cuts, StartsPast, EndsWithin};
+ghost use Rattle.piece_choice.specs.Choosing.{listed};
 ghost use Rattle.piece_choice.specs.declared.choosing.Listed.{Listed as ListedValue};
 
 use std::alloc::{AllocError, Global};
@@ -25,7 +26,8 @@ pub struct Choice {
 }
 
 impl Choice {
-    /// A choice for an interval, of which no file was told yet. Where `to` is `None` the interval has no end. It takes no memory.
+    /// A choice for an interval, of which no file was told yet. Where `to` is `None` the interval has
+    /// no end. It takes no memory.
     pub fn new(alloc: Global, from: u64, to: Option<u64>) -> Choice
         ensures chosen { IsChoice [] result }
         ensures from { result.from ≡ from }
@@ -41,7 +43,8 @@ impl Choice {
 
     /// Tells the entries of a store, behind those that were told.
     pub fn add(&mut self, store: u8, entries: &[Entry]) -> Result<(), AllocError>
-        ensures chosen { (told : List ListedValue) → IsChoice told self.old → OnOk result (IsChoice (told ++ listed store entries.now) self.new) }
+        ensures chosen { (told : List ListedValue) → IsChoice told self.old
+            → OnOk result (IsChoice (told ++ listed store entries.now) self.new) }
         ensures from { self.new.from ≡ self.old.from }
         ensures to { self.new.to ≡ self.old.to }
     {
@@ -55,11 +58,13 @@ impl Choice {
         Ok(())
     }
 
-    /// The files that are opened, in order: the last one that begins before the interval and behind all that were told before it, and those
-    /// behind it, up to the last one that doesn't begin later than both ends of the interval. One that begins so late is opened only
-    /// where a file behind it doesn't: its samples keep those of the other out that aren't later than its own.
+    /// The files that are opened, in order: the last one that begins before the interval and behind all that were told
+    /// before it, and those behind it, up to the last one that doesn't begin later than both ends of the interval. One
+    /// that begins so late is opened only where a file behind it doesn't: its samples keep those of the other out that
+    /// aren't later than its own.
     pub fn opened(&self) -> &[Listed]
-        ensures { (told : List ListedValue) → IsChoice told self.now → IsChosen self.now.from self.now.to told result.now }
+        ensures { (told : List ListedValue) → IsChoice told self.now
+            → IsChosen self.now.from self.now.to told result.now }
     {
         &self.rest[..self.needed()]
     }
@@ -93,7 +98,8 @@ impl Choice {
 
     // Tells one file more.
     fn add_file(&mut self, file: Listed) -> Result<(), AllocError>
-        ensures chosen { (told : List ListedValue) → IsChoice told self.old → OnOk result (IsChoice (told ++ file ∷ []) self.new) }
+        ensures chosen { (told : List ListedValue) → IsChoice told self.old
+            → OnOk result (IsChoice (told ++ file ∷ []) self.new) }
         ensures from { self.new.from ≡ self.old.from }
         ensures to { self.new.to ≡ self.old.to }
     {
@@ -112,7 +118,8 @@ impl Choice {
 
     // All before the file stay closed.
     fn start_with(&mut self, file: Listed) -> Result<(), AllocError>
-        ensures chosen { (told : List ListedValue) → IsChoice told self.old → Cuts self.old.from told file → OnOk result (IsChoice (told ++ file ∷ []) self.new) }
+        ensures chosen { (told : List ListedValue) → IsChoice told self.old → Cuts self.old.from told file
+            → OnOk result (IsChoice (told ++ file ∷ []) self.new) }
         ensures from { self.new.from ≡ self.old.from }
         ensures to { self.new.to ≡ self.old.to }
     {
@@ -122,7 +129,8 @@ impl Choice {
 
     fn go_on_with(&mut self, file: Listed) -> Result<(), AllocError>
         ensures rest { OnOk result (self.new.rest.items ≡ self.old.rest.items ++ file ∷ []) }
-        ensures greatest { OnOk result ((n : ℕ) → IsBelow self.new.greatest n ↔ (IsBelow self.old.greatest n × (file.entry.last < n))) }
+        ensures greatest { OnOk result
+            ((n : ℕ) → IsBelow self.new.greatest n ↔ (IsBelow self.old.greatest n × (file.entry.last < n))) }
         ensures from { self.new.from ≡ self.old.from }
         ensures to { self.new.to ≡ self.old.to }
     {

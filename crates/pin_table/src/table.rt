@@ -56,7 +56,8 @@ impl Pins {
     pub fn pin(&mut self, owner: u64, files: &[FileName]) -> Result<u32, AllocError>
         ensures free { IfOk result (λ pin. map.get self.old pin ≡ None) }
         ensures least { IfOk result (λ pin. (lower : ℕ) → lower < pin → IsSome (map.get self.old lower)) }
-        ensures pinned { IfOk result (λ pin. self.new ≡ map.insert self.old pin (record { owner = owner; files = files.now })) }
+        ensures pinned { IfOk result (λ pin.
+            self.new ≡ map.insert self.old pin (record { owner = owner; files = files.now })) }
         ensures unchanged { OnErr result (self.new ≡ self.old) }
     {
         let number = free_number(&self.pins)?;
@@ -94,7 +95,8 @@ impl Pins {
 // The least number that no pin has. Where each number is some pin's, it is want of memory.
 fn free_number(pins: &BTreeMap<u32, Pin>) -> Result<u32, AllocError>
     ensures free { IfOk result (λ pin. map.get (map.from_entries {R = nat_cmp} pins.now.entries) pin ≡ None) }
-    ensures least { IfOk result (λ pin. (lower : ℕ) → lower < pin → IsSome (map.get (map.from_entries {R = nat_cmp} pins.now.entries) lower)) }
+    ensures least { IfOk result (λ pin. (lower : ℕ) → lower < pin
+        → IsSome (map.get (map.from_entries {R = nat_cmp} pins.now.entries) lower)) }
 {
     let mut free: u32 = 0;
     for number in pins.keys() {

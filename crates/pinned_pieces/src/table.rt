@@ -56,7 +56,8 @@ impl PinnedPieces {
     pub fn pin(&mut self, owner: u64, pieces: Vec<PinnedFile>) -> Result<u32, AllocError>
         ensures free { IfOk result (λ pin. map.get self.old pin ≡ None) }
         ensures least { IfOk result (λ pin. (lower : ℕ) → lower < pin → IsSome (map.get self.old lower)) }
-        ensures pinned { IfOk result (λ pin. self.new ≡ map.insert self.old pin (record { owner = owner; pieces = pieces.items })) }
+        ensures pinned { IfOk result (λ pin.
+            self.new ≡ map.insert self.old pin (record { owner = owner; pieces = pieces.items })) }
         ensures unchanged { OnErr result (self.new ≡ self.old) }
     {
         let files = files_of(self.alloc, &pieces)?;
@@ -70,9 +71,11 @@ impl PinnedPieces {
         }
     }
 
-    /// The pieces of an owner's own pin. `NoPin` and `NotYours` come exactly where no pin has the number, and where it is another's.
+    /// The pieces of an owner's own pin. `NoPin` and `NotYours` come exactly where no pin has the number,
+    /// and where it is another's.
     pub fn pieces(&self, owner: u64, pin: u32) -> Result<&[PinnedFile], PinErr>
-        ensures found { IfOk result (λ pieces. asked owner (map.get self.now pin) ≡ Ok (record { owner = owner; pieces = pieces.now })) }
+        ensures found { IfOk result (λ pieces.
+            asked owner (map.get self.now pin) ≡ Ok (record { owner = owner; pieces = pieces.now })) }
         ensures refused { IfErr result (λ e. asked owner (map.get self.now pin) ≡ Err e) }
     {
         let Some(found) = self.pieces.get(&pin) else {

@@ -7,8 +7,8 @@ use crate::{Catalogue, Row};
 use std::alloc::{AllocError, Global};
 
 impl Catalogue {
-    /// The ids of a row's line: the first name's row, then each over the one before, this row last. Empty where no row has this id. `Err`
-    /// only for want of memory.
+    /// The ids of a row's line: the first name's row, then each over the one before, this row last. Empty where no row
+    /// has this id. `Err` only for want of memory.
     pub fn line(&self, alloc: Global, id: u32) -> Result<Vec<u32>, AllocError>
         ensures { IfOk result (λ ids. ids.items ≡ line self.now.rows id) }
     {

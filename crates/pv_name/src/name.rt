@@ -1,5 +1,6 @@
 // The name of a variable, which is checked when it is made.
-ghost use Rattle.std.specs.Prelude.{◌≡◌, ℕ, ◌<◌, ◌≤◌, ◌↔◌, List, length, drop, take, IsTrue, MatchOption, IfOk, IfErr, nat_eq};
+ghost use Rattle.std.specs.Prelude.{◌≡◌, ℕ, ◌<◌, ◌≤◌, ◌↔◌, List, length, drop, take, IsTrue, MatchOption, IfOk, IfErr};
+ghost use Rattle.std.specs.Prelude.{nat_eq};
 ghost use Rattle.std.specs.Cmp.Lexicographic.{pointwise};
 ghost use Rattle.std.specs.Cmp.Rules.{comparing};
 ghost use Rattle.std.proofs.Common.{rules};

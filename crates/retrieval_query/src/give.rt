@@ -36,9 +36,16 @@ pub(crate) fn give_answer<P: Pieces, O: Out, L: Ledger>(
     requires ty { merge.source.ty ≡ about.now.ty }
     requires may { P.may_open pieces.old }
     ensures gives { GivesBy P.Reader.tells P.Reader.faults P.opened P.failed about.now.ty pieces.old result pieces.new }
-    ensures gave { GivesSome O.gave O.broke out.old (record { name = name.now; about = about.now; query = query }) result out.new }
-    ensures whole { IsTrue P.Reader.tells → (ps : List NamedBytes) (xs : List SampleValue) → P.left pieces.old ps → Rest P.Reader.bytes merge ps xs → AreEvents about.now.ty xs → Gives O.gave O.broke out.old (record { name = name.now; about = about.now; query = query }) xs result out.new }
-    ensures reads { IsTrue P.Reader.tells → merge.query ≡ query → HasGiven P.Reader.bytes merge (P.count pieces.old) [] [] → GivesReadAt P.opened O.gave query (P.count pieces.new) merge.source.tail.items out.old (record { name = name.now; about = about.now; query = query }) pieces.old result pieces.new out.new }
+    ensures gave { GivesSome O.gave O.broke out.old
+        (record { name = name.now; about = about.now; query = query }) result out.new }
+    ensures whole { IsTrue P.Reader.tells → (ps : List NamedBytes) (xs : List SampleValue) → P.left pieces.old ps
+        → Rest P.Reader.bytes merge ps xs → AreEvents about.now.ty xs
+        → Gives O.gave O.broke out.old
+        (record { name = name.now; about = about.now; query = query }) xs result out.new }
+    ensures reads { IsTrue P.Reader.tells → merge.query ≡ query
+        → HasGiven P.Reader.bytes merge (P.count pieces.old) [] []
+        → GivesReadAt P.opened O.gave query (P.count pieces.new) merge.source.tail.items out.old
+        (record { name = name.now; about = about.now; query = query }) pieces.old result pieces.new out.new }
     ensures faults { O.faults out.old ≤ O.faults out.new }
     ensures cause { IsErrOf result Retrieved.SinkFault → Rose (O.faults out.old) (O.faults out.new) }
 {

@@ -1,5 +1,6 @@
 // The header lines of a raw text.
-ghost use Rattle.std.specs.Prelude.{◌≡◌, ◌≤◌, ◌∷◌, ◌++◌, [], ℤ, Option, Some, None, IfOk, OnOk, OnErr, IsErrOf, if◌then◌else◌};
+ghost use Rattle.std.specs.Prelude.{◌≡◌, ◌≤◌, ◌∷◌, ◌++◌, [], ℤ, Option, Some, None, IfOk, OnOk, OnErr, IsErrOf};
+ghost use Rattle.std.specs.Prelude.{if◌then◌else◌};
 ghost use Rattle.edge_io.specs.Stream.{Rose};
 ghost use Rattle.act_model.specs.Out.{Subject};
 ghost use Rattle.retrieval_query.specs.Raw.{header_of, line_of_header};
@@ -33,7 +34,8 @@ impl Head {
         about: &About,
         year: i32,
     ) -> Result<Head, AllocError>
-        ensures info { IfOk result (λ head. (subject : Subject) → subject.name ≡ name.now → subject.about ≡ about.now → head.info ≡ header_of subject year) }
+        ensures info { IfOk result (λ head. (subject : Subject) → subject.name ≡ name.now → subject.about ≡ about.now
+            → head.info ≡ header_of subject year) }
         ensures last { IfOk result (λ head. head.last ≡ None) }
     {
         Ok(Head {
@@ -56,8 +58,12 @@ impl Head {
         buffer: &mut SinkBuffer,
         sink: &mut K,
     ) -> Result<(), OutErr>
-        ensures opens { (subject : Subject) → IsHeader subject self.old.info → OnOk result (Opens (K.written sink.old) (K.written sink.new) buffer.old buffer.new subject self.old.last year) }
-        ensures front { (subject : Subject) → IsHeader subject self.old.info → OnErr result (OpensFront (K.written sink.old) (K.written sink.new) buffer.old subject self.old.last year) }
+        ensures opens { (subject : Subject) → IsHeader subject self.old.info
+            → OnOk result
+            (Opens (K.written sink.old) (K.written sink.new) buffer.old buffer.new subject self.old.last year) }
+        ensures front { (subject : Subject) → IsHeader subject self.old.info
+            → OnErr result
+            (OpensFront (K.written sink.old) (K.written sink.new) buffer.old subject self.old.last year) }
         ensures info { (subject : Subject) → IsHeader subject self.old.info → IsHeader subject self.new.info }
         ensures last { OnOk result (self.new.last ≡ Some year) }
         ensures faults { K.write_faults sink.old ≤ K.write_faults sink.new }
@@ -83,8 +89,10 @@ pub(crate) fn close<K: Sink>(
     buffer: &mut SinkBuffer,
     sink: &mut K,
 ) -> Result<(), OutErr>
-    ensures closes { (subject : Subject) (last : Option ℤ) → HasHead subject head.old last → OnOk result (Closes (K.written sink.old) (K.written sink.new) buffer.old buffer.new subject last) }
-    ensures front { (subject : Subject) (last : Option ℤ) → HasHead subject head.old last → OnErr result (ClosesFront (K.written sink.old) (K.written sink.new) buffer.old subject last) }
+    ensures closes { (subject : Subject) (last : Option ℤ) → HasHead subject head.old last
+        → OnOk result (Closes (K.written sink.old) (K.written sink.new) buffer.old buffer.new subject last) }
+    ensures front { (subject : Subject) (last : Option ℤ) → HasHead subject head.old last
+        → OnErr result (ClosesFront (K.written sink.old) (K.written sink.new) buffer.old subject last) }
     ensures faults { K.write_faults sink.old ≤ K.write_faults sink.new }
     ensures cause { IsErrOf result OutErr.SinkFault → Rose (K.write_faults sink.old) (K.write_faults sink.new) }
 {
@@ -100,7 +108,8 @@ pub(crate) fn close<K: Sink>(
 
 // Appends a header line, behind an empty line where it is a later one.
 fn add_header(info: &PayloadInfo, later: bool, line: &mut Vec<u8>) -> Result<(), AllocError>
-    ensures { OnOk result (line.new.items ≡ line.old.items ++ ((if later then 10 ∷ [] else []) ++ line_of_header info.now)) }
+    ensures { OnOk result
+        (line.new.items ≡ line.old.items ++ ((if later then 10 ∷ [] else []) ++ line_of_header info.now)) }
 {
     if later {
         line.push(b'\n')?;

@@ -30,9 +30,12 @@ impl<'a, A: Actor> Pieces for PinPieces<'a, A> {
 
     ghost may_open = { λ p. Holds A.number A.stands p.actor.now p.pin p.next p.left };
 
-    ghost opened = { λ old ps new. (new.actor.ghost_name ≡ old.actor.ghost_name) × HasOpened A.number A.between old.actor.now old.pin old.next old.left ps new.actor.now new.pin new.next new.left };
+    ghost opened = { λ old ps new. (new.actor.ghost_name ≡ old.actor.ghost_name)
+        × HasOpened A.number A.between old.actor.now old.pin old.next old.left ps
+        new.actor.now new.pin new.next new.left };
 
-    ghost failed = { λ old why new. (new.actor.ghost_name ≡ old.actor.ghost_name) × FailsToOpen A.number A.between A.is_spent old.actor.now old.pin old.next why new.actor.now new.pin };
+    ghost failed = { λ old why new. (new.actor.ghost_name ≡ old.actor.ghost_name)
+        × FailsToOpen A.number A.between A.is_spent old.actor.now old.pin old.next why new.actor.now new.pin };
 
     fn open_next(&mut self) -> Opened<A::Reader> {
         if self.left == 0 {
@@ -70,9 +73,18 @@ impl<'a, A: Actor> Pieces for PinPieces<'a, A> {
 
     ghost none_opened = { λ a. (refl, none_opened A.number A.between A.nothing a.actor.now a.pin a.next a.left) };
 
-    ghost opened_on = { λ a b c xs ys one two. (two.0 ∙ one.0, opened_on A.number A.between A.joined A.number_stays a.actor.now b.actor.now c.actor.now a.pin b.pin c.pin a.next b.next c.next a.left b.left c.left xs ys one.1 two.1) };
+    ghost opened_on = { λ a b c xs ys one two. (
+      two.0 ∙ one.0,
+      opened_on A.number A.between A.joined A.number_stays a.actor.now b.actor.now c.actor.now a.pin b.pin c.pin
+          a.next b.next c.next a.left b.left c.left xs ys one.1 two.1,
+    ) };
 
-    ghost failed_on = { λ a b c xs why one two. (two.0 ∙ one.0, failed_on A.number A.between A.joined A.number_stays A.is_spent a.actor.now b.actor.now c.actor.now a.pin b.pin c.pin a.next b.next a.left b.left xs why one.1 two.1) };
+    ghost failed_on = { λ a b c xs why one two. (
+      two.0 ∙ one.0,
+      failed_on A.number A.between A.joined A.number_stays A.is_spent a.actor.now b.actor.now c.actor.now a.pin
+          b.pin c.pin a.next b.next a.left b.left xs why one.1 two.1,
+    ) };
 
-    ghost goes_on = { λ a b xs may one. goes_on A.number A.between A.stands A.legal A.sound A.number_stays a.actor.now b.actor.now a.pin b.pin a.next b.next a.left b.left xs may one.1 };
+    ghost goes_on = { λ a b xs may one. goes_on A.number A.between A.stands A.legal A.sound A.number_stays a.actor.now
+        b.actor.now a.pin b.pin a.next b.next a.left b.left xs may one.1 };
 }

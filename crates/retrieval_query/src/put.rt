@@ -30,8 +30,10 @@ pub(crate) fn put_line<K: Sink>(
     line: &[u8],
     sink: &mut K,
 ) -> Result<(), OutErr>
-    ensures sent { OnOk result (Sends (K.written sink.old) (K.written sink.new) (buffer.old ++ (line.now ++ 10 ∷ [])) buffer.new) }
-    ensures front { OnErr result (AppendsFront (K.written sink.old) (K.written sink.new) (buffer.old ++ (line.now ++ 10 ∷ []))) }
+    ensures sent { OnOk result
+        (Sends (K.written sink.old) (K.written sink.new) (buffer.old ++ (line.now ++ 10 ∷ [])) buffer.new) }
+    ensures front { OnErr result
+        (AppendsFront (K.written sink.old) (K.written sink.new) (buffer.old ++ (line.now ++ 10 ∷ []))) }
     ensures faults { K.write_faults sink.old ≤ K.write_faults sink.new }
     ensures cause { IsErrOf result OutErr.SinkFault → Rose (K.write_faults sink.old) (K.write_faults sink.new) }
 {

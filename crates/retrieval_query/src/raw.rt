@@ -51,11 +51,14 @@ impl<'a, K: Sink> RawOut<'a, K> {
 }
 
 impl<'a, K: Sink> Out for RawOut<'a, K> {
-    ghost gave = { λ before subject xs now. (now.sink.ghost_name ≡ before.sink.ghost_name) × Gives (K.written before.sink.now) (K.written now.sink.now) before.buffer now.buffer now.head subject xs };
+    ghost gave = { λ before subject xs now. (now.sink.ghost_name ≡ before.sink.ghost_name)
+        × Gives (K.written before.sink.now) (K.written now.sink.now) before.buffer now.buffer now.head subject xs };
 
-    ghost finished = { λ before subject xs now. (now.sink.ghost_name ≡ before.sink.ghost_name) × Finishes (K.written before.sink.now) (K.written now.sink.now) before.buffer now.buffer subject xs };
+    ghost finished = { λ before subject xs now. (now.sink.ghost_name ≡ before.sink.ghost_name)
+        × Finishes (K.written before.sink.now) (K.written now.sink.now) before.buffer now.buffer subject xs };
 
-    ghost broke = { λ before subject xs now. (now.sink.ghost_name ≡ before.sink.ghost_name) × Breaks (K.written before.sink.now) (K.written now.sink.now) before.buffer subject xs };
+    ghost broke = { λ before subject xs now. (now.sink.ghost_name ≡ before.sink.ghost_name)
+        × Breaks (K.written before.sink.now) (K.written now.sink.now) before.buffer subject xs };
 
     ghost faults = { λ out. K.write_faults out.sink.now };
 
@@ -83,5 +86,9 @@ impl<'a, K: Sink> Out for RawOut<'a, K> {
         Ok(())
     }
 
-    ghost front = { λ before now subject xs more events gave. (gave.0, gives_breaks (K.written before.sink.now) (K.written now.sink.now) before.buffer now.buffer now.head subject xs more events gave.1) };
+    ghost front = { λ before now subject xs more events gave. (
+      gave.0,
+      gives_breaks (K.written before.sink.now)
+          (K.written now.sink.now) before.buffer now.buffer now.head subject xs more events gave.1,
+    ) };
 }

@@ -1,5 +1,6 @@
 // A retrieval: the answer of a variable, from its pin on.
-ghost use Rattle.std.specs.Prelude.{◌≡◌, ◌≤◌, ◌<◌, ◌^◌, ◌+◌, ◌⊎◌, [], IsTrue, IsErrOf, Err, OnOk, OnErr, None, true, List, ℕ, length};
+ghost use Rattle.std.specs.Prelude.{◌≡◌, ◌≤◌, ◌<◌, ◌^◌, ◌+◌, ◌⊎◌, [], IsTrue, IsErrOf, Err, OnOk, OnErr, None, true};
+ghost use Rattle.std.specs.Prelude.{List, ℕ, length};
 ghost use Rattle.disk_model.specs.Files.{Rose};
 ghost use Rattle.series_model.specs.declared.sample.Sample.{Sample as SampleValue};
 ghost use Rattle.series_model.specs.Series.{IsRising};
@@ -18,7 +19,8 @@ ghost use Rattle.stream_merge.specs.Reads.{HasGiven};
 ghost use Rattle.retrieval_query.specs.Giving.{Gives, GivesBy, GivesReadAt, GivesSome};
 ghost use Rattle.retrieval_query.specs.Openings.{FailsOf, Holds, LeftOf, OpensLeaving, OpensOf};
 ghost use Rattle.retrieval_query.specs.Pinning.{AnswersPinned, GivesUp, IsHeld, subject_of};
-ghost use Rattle.retrieval_query.specs.Retrieving.{NotPinned, IsPinned, ReadsPinned, EndsPinned, WritesSome, Writes, WritesAnswer, ReadsHeaders, ReadsToEnd, RetrievesToEnd};
+ghost use Rattle.retrieval_query.specs.Retrieving.{NotPinned, IsPinned, ReadsPinned, EndsPinned, WritesSome, Writes};
+ghost use Rattle.retrieval_query.specs.Retrieving.{WritesAnswer, ReadsHeaders, ReadsToEnd, RetrievesToEnd};
 
 use crate::give::give_answer;
 use crate::pinned::PinPieces;
@@ -33,14 +35,14 @@ use std::marker::Brand;
 use std::sync::ledger::{Blank, Ledger};
 use stream_merge::Merge;
 
-/// Writes the answer of a variable to an output: the last sample before the interval, and those of the interval, of all that was accepted
-/// of the variable as its pin was made.
+/// Writes the answer of a variable to an output: the last sample before the interval, and those of the interval, of all
+/// that was accepted of the variable as its pin was made.
 ///
-/// It pins the variable, opens the pin's pieces one by one, in order, by later acts, and reads them outside every act. Then it gives up
-/// the pin, at every answer, unless no act is left for that. At `Finished` the whole text was written, and at every other answer a front
-/// of it. Where no pin was made the output is untouched. Whatever somebody else has made of the files, the text at `Finished` is the answer
-/// over what was read: of each piece all from where its reading began, with none left, or as much as there is up to a sample behind the
-/// interval.
+/// It pins the variable, opens the pin's pieces one by one, in order, by later acts, and reads them outside every act.
+/// Then it gives up the pin, at every answer, unless no act is left for that. At `Finished` the whole text was written,
+/// and at every other answer a front of it. Where no pin was made the output is untouched. Whatever somebody else has
+/// made of the files, the text at `Finished` is the answer over what was read: of each piece all from where its reading
+/// began, with none left, or as much as there is up to a sample behind the interval.
 pub fn retrieve<A: Actor, O: Out>(
     alloc: Global,
     actor: &mut A,
@@ -49,9 +51,15 @@ pub fn retrieve<A: Actor, O: Out>(
     out: &mut O,
 ) -> Retrieved<A::Reader>
     requires stands { (m : Machine) × A.stands actor.old m }
-    ensures acts { NotPinned A.number A.between A.is_spent actor.old name.now query out.old result actor.new out.new ⊎ IsPinned A.number A.between A.is_spent A.Reader.tells A.Reader.faults O.finished O.broke (Rose (O.faults out.old) (O.faults out.new)) actor.old name.now query out.old result actor.new out.new }
-    ensures whole { IsTrue A.Reader.tells → (m : Machine) → A.stands actor.old m → m.told ≡ true → ReadsHeaders m.rule → NotPinned A.number A.between A.is_spent actor.old name.now query out.old result actor.new out.new ⊎ WritesAnswer A.number A.between O.finished O.broke actor.old m name.now query out.old result actor.new out.new }
-    ensures read { IsTrue A.Reader.tells → RetrievesToEnd A.number A.between O.finished actor.old name.now query out.old result actor.new out.new }
+    ensures acts { NotPinned A.number A.between A.is_spent actor.old name.now query out.old result actor.new out.new
+        ⊎ IsPinned A.number A.between A.is_spent A.Reader.tells A.Reader.faults O.finished O.broke
+        (Rose (O.faults out.old) (O.faults out.new)) actor.old name.now query out.old result actor.new out.new }
+    ensures whole { IsTrue A.Reader.tells → (m : Machine) → A.stands actor.old m → m.told ≡ true → ReadsHeaders m.rule
+        → NotPinned A.number A.between A.is_spent actor.old name.now query out.old result actor.new out.new
+        ⊎ WritesAnswer A.number A.between O.finished O.broke actor.old m name.now query
+        out.old result actor.new out.new }
+    ensures read { IsTrue A.Reader.tells
+        → RetrievesToEnd A.number A.between O.finished actor.old name.now query out.old result actor.new out.new }
     ensures faults { O.faults out.old ≤ O.faults out.new }
     ensures stands { (n : Machine) × A.stands actor.new n }
 {
@@ -61,10 +69,11 @@ pub fn retrieve<A: Actor, O: Out>(
     }
 }
 
-/// Writes the answer of a pinned variable to an output, and gives its pin up, at every answer, unless no act is left for that.
+/// Writes the answer of a pinned variable to an output, and gives its pin up, at every answer,
+/// unless no act is left for that.
 ///
-/// It opens the pin's pieces one by one, in order, and reads them outside every act. At `Finished` the whole text was written, and at
-/// every other answer a front of it.
+/// It opens the pin's pieces one by one, in order, and reads them outside every act. At `Finished` the whole text was
+/// written, and at every other answer a front of it.
 pub fn read_pinned<A: Actor, O: Out>(
     alloc: Global,
     actor: &mut A,
@@ -73,8 +82,11 @@ pub fn read_pinned<A: Actor, O: Out>(
     out: &mut O,
 ) -> Retrieved<A::Reader>
     requires held { IsHeld A.number A.stands actor.old variable }
-    ensures answers { AnswersPinned A.number A.between A.is_spent A.stands A.Reader.tells A.Reader.faults O.finished O.broke (Rose (O.faults out.old) (O.faults out.new)) actor.old variable query out.old result actor.new out.new }
-    ensures read { IsTrue A.Reader.tells → ReadsToEnd A.number A.between O.finished actor.old variable.pin variable.pieces variable.tail (subject_of variable query) out.old result actor.new out.new }
+    ensures answers { AnswersPinned A.number A.between A.is_spent A.stands A.Reader.tells A.Reader.faults O.finished
+        O.broke (Rose (O.faults out.old) (O.faults out.new)) actor.old variable query out.old result actor.new out.new }
+    ensures read { IsTrue A.Reader.tells
+        → ReadsToEnd A.number A.between O.finished actor.old variable.pin variable.pieces variable.tail
+        (subject_of variable query) out.old result actor.new out.new }
     ensures faults { O.faults out.old ≤ O.faults out.new }
     ensures stands { (n : Machine) × A.stands actor.new n }
 {
@@ -121,11 +133,19 @@ fn read_pieces<A: Actor, O: Out>(
 ) -> Retrieved<A::Reader>
     requires holds { Holds A.number A.stands actor.old pin 0 pieces }
     requires events { AreSamplesOf about.now.ty tail }
-    ensures reads { ReadsPinned A.number A.between A.is_spent A.Reader.tells A.Reader.faults about.now.ty actor.old pin (Rose (O.faults out.old) (O.faults out.new)) result actor.new }
-    ensures some { WritesSome O.finished O.broke out.old (record { name = name.now; about = about.now; query = query }) result out.new }
-    ensures whole { IsTrue A.Reader.tells → (ps : List NamedBytes) (lists : List (List SampleValue)) → LeftOf A.number A.stands actor.old pin 0 pieces ps → AreReadAs about.now.ty ps lists → IsRising tail → AreEvents about.now.ty (answer (over_all lists tail) query)
-        → Writes O.finished O.broke out.old (record { name = name.now; about = about.now; query = query }) (answer (over_all lists tail) query) result out.new }
-    ensures read { IsTrue A.Reader.tells → ReadsToEnd A.number A.between O.finished actor.old pin pieces tail (record { name = name.now; about = about.now; query = query }) out.old result actor.new out.new }
+    ensures reads { ReadsPinned A.number A.between A.is_spent A.Reader.tells A.Reader.faults about.now.ty actor.old pin
+        (Rose (O.faults out.old) (O.faults out.new)) result actor.new }
+    ensures some { WritesSome O.finished O.broke out.old
+        (record { name = name.now; about = about.now; query = query }) result out.new }
+    ensures whole { IsTrue A.Reader.tells → (ps : List NamedBytes) (lists : List (List SampleValue))
+        → LeftOf A.number A.stands actor.old pin 0 pieces ps
+        → AreReadAs about.now.ty ps lists → IsRising tail
+        → AreEvents about.now.ty (answer (over_all lists tail) query)
+        → Writes O.finished O.broke out.old (record { name = name.now; about = about.now; query = query })
+        (answer (over_all lists tail) query) result out.new }
+    ensures read { IsTrue A.Reader.tells
+        → ReadsToEnd A.number A.between O.finished actor.old pin pieces tail
+        (record { name = name.now; about = about.now; query = query }) out.old result actor.new out.new }
     ensures faults { O.faults out.old ≤ O.faults out.new }
 {
     let merge = Merge::new(alloc, query, about.ty, tail);
@@ -169,11 +189,23 @@ fn give_pinned<A: Actor, O: Out, L: Ledger>(
     requires ty { merge.source.ty ≡ about.now.ty }
     requires holds { Holds A.number A.stands pieces.old.actor.now pieces.old.pin pieces.old.next pieces.old.left }
     ensures same_reference { pieces.new.actor.ghost_name ≡ pieces.old.actor.ghost_name }
-    ensures gives { GivesBy A.Reader.tells A.Reader.faults (OpensOf A.number A.between pieces.old.pin pieces.old.next pieces.old.left) (FailsOf A.number A.between A.is_spent pieces.old.pin pieces.old.next) about.now.ty pieces.old.actor.now result pieces.new.actor.now }
-    ensures gave { GivesSome O.gave O.broke out.old (record { name = name.now; about = about.now; query = query }) result out.new }
-    ensures whole { IsTrue A.Reader.tells → (ps : List NamedBytes) (xs : List SampleValue) → LeftOf A.number A.stands pieces.old.actor.now pieces.old.pin pieces.old.next pieces.old.left ps → Rest A.Reader.bytes merge ps xs → AreEvents about.now.ty xs
-        → Gives O.gave O.broke out.old (record { name = name.now; about = about.now; query = query }) xs result out.new }
-    ensures reads { IsTrue A.Reader.tells → merge.query ≡ query → HasGiven A.Reader.bytes merge pieces.old.left [] [] → GivesReadAt (OpensLeaving A.number A.between pieces.old.pin pieces.old.next pieces.old.left pieces.new.left) O.gave query pieces.new.left merge.source.tail.items out.old (record { name = name.now; about = about.now; query = query }) pieces.old.actor.now result pieces.new.actor.now out.new }
+    ensures gives { GivesBy A.Reader.tells A.Reader.faults
+        (OpensOf A.number A.between pieces.old.pin pieces.old.next pieces.old.left)
+        (FailsOf A.number A.between A.is_spent pieces.old.pin pieces.old.next)
+        about.now.ty pieces.old.actor.now result pieces.new.actor.now }
+    ensures gave { GivesSome O.gave O.broke out.old
+        (record { name = name.now; about = about.now; query = query }) result out.new }
+    ensures whole { IsTrue A.Reader.tells → (ps : List NamedBytes) (xs : List SampleValue)
+        → LeftOf A.number A.stands pieces.old.actor.now pieces.old.pin pieces.old.next pieces.old.left ps
+        → Rest A.Reader.bytes merge ps xs → AreEvents about.now.ty xs
+        → Gives O.gave O.broke out.old
+        (record { name = name.now; about = about.now; query = query }) xs result out.new }
+    ensures reads { IsTrue A.Reader.tells → merge.query ≡ query
+        → HasGiven A.Reader.bytes merge pieces.old.left [] []
+        → GivesReadAt (OpensLeaving A.number A.between pieces.old.pin pieces.old.next pieces.old.left pieces.new.left)
+        O.gave query pieces.new.left merge.source.tail.items out.old
+        (record { name = name.now; about = about.now; query = query })
+        pieces.old.actor.now result pieces.new.actor.now out.new }
     ensures faults { O.faults out.old ≤ O.faults out.new }
     ensures cause { IsErrOf result Retrieved.SinkFault → Rose (O.faults out.old) (O.faults out.new) }
 {
@@ -190,8 +222,11 @@ fn end_pinned<A: Actor, O: Out>(
     requires holds { (next left : ℕ) × Holds A.number A.stands actor.old pin next left }
     requires spent { given ≡ Err Retrieved.Spent → A.is_spent actor.old }
     requires whole { (count : ℕ) → given ≡ Err (Retrieved.Finished count) → ⊥ }
-    ensures ends { EndsPinned A.number A.between A.is_spent actor.old pin (Rose (O.faults out.old) (O.faults out.new)) given result actor.new }
-    ensures writes { (before : O) (subject : Subject) (xs : List SampleValue) → AreEvents subject.about.ty xs → Gives O.gave O.broke before subject xs given out.old → Writes O.finished O.broke before subject xs result out.new }
+    ensures ends { EndsPinned A.number A.between A.is_spent actor.old pin
+        (Rose (O.faults out.old) (O.faults out.new)) given result actor.new }
+    ensures writes { (before : O) (subject : Subject) (xs : List SampleValue) → AreEvents subject.about.ty xs
+        → Gives O.gave O.broke before subject xs given out.old
+        → Writes O.finished O.broke before subject xs result out.new }
     ensures faults { O.faults out.old ≤ O.faults out.new }
 {
     if let Err(Retrieved::Spent) = given {
@@ -211,8 +246,10 @@ fn end_pinned<A: Actor, O: Out>(
 
 // Ends a text of so many samples.
 fn finish<R: ReadAt, O: Out>(count: u64, out: &mut O) -> Retrieved<R>
-    ensures ends { (result ≡ Retrieved.Finished count) ⊎ ((result ≡ Retrieved.SinkFault) × Rose (O.faults out.old) (O.faults out.new)) ⊎ (result ≡ Retrieved.Memory) }
-    ensures writes { (before : O) (subject : Subject) (xs : List SampleValue) → O.gave before subject xs out.old → count ≡ length xs → Writes O.finished O.broke before subject xs result out.new }
+    ensures ends { (result ≡ Retrieved.Finished count)
+        ⊎ ((result ≡ Retrieved.SinkFault) × Rose (O.faults out.old) (O.faults out.new)) ⊎ (result ≡ Retrieved.Memory) }
+    ensures writes { (before : O) (subject : Subject) (xs : List SampleValue) → O.gave before subject xs out.old
+        → count ≡ length xs → Writes O.finished O.broke before subject xs result out.new }
     ensures faults { O.faults out.old ≤ O.faults out.new }
 {
     match out.finish() {

@@ -14,7 +14,8 @@ pub enum Retrieved<R: ReadAt> {
     Finished { count: u64 },
     /// No row has the name.
     NoSuchVariable,
-    /// A read of this file failed, which it has counted. Where there is none, the disk failed in an act, which it has counted.
+    /// A read of this file failed, which it has counted. Where there is none, the disk failed in an
+    /// act, which it has counted.
     ReadFault { failed: Option<R> },
     /// The bytes of this file are no file of the variable's type; the first bad line begins at this place.
     Damaged { name: FileName, at: u64 },

@@ -37,7 +37,8 @@ pub enum PinErr {
 
 /// Pins a variable, by one act.
 ///
-/// The pin is the caller's until [`read_pinned`](crate::read_pinned) or [`give_up_pin`](crate::give_up_pin) gives it up.
+/// The pin is the caller's until [`read_pinned`](crate::read_pinned) or
+/// [`give_up_pin`](crate::give_up_pin) gives it up.
 pub fn pin_variable<A: Actor>(
     alloc: Global,
     actor: &mut A,
@@ -45,9 +46,11 @@ pub fn pin_variable<A: Actor>(
     query: Query,
 ) -> Result<PinnedVariable, PinErr>
     requires stands { (m : Machine) × A.stands actor.old m }
-    ensures pins { IfOk result (λ v. MadeOne A.number A.between actor.old (Act.Pin name.now query) (told.Pinned v.pin v.name v.about v.pieces v.tail) actor.new) }
+    ensures pins { IfOk result (λ v. MadeOne A.number A.between actor.old (Act.Pin name.now query)
+        (told.Pinned v.pin v.name v.about v.pieces v.tail) actor.new) }
     ensures held { IfOk result (IsHeld A.number A.stands actor.new) }
-    ensures fails { IfErr result (λ why. FailsToPin A.number A.between A.is_spent actor.old name.now query why actor.new) }
+    ensures fails { IfErr result (λ why.
+        FailsToPin A.number A.between A.is_spent actor.old name.now query why actor.new) }
     ensures stands { (n : Machine) × A.stands actor.new n }
 {
     let Ok(asked) = Vec::from_slice(alloc, name) else {

@@ -1,5 +1,6 @@
 // The moves by their numbers.
-ghost use Rattle.std.specs.Prelude.{◌≡◌, ◌<◌, ◌≤◌, ◌==◌, length, ℕ, Some, None, IsSome, is_some, IfOk, OnOk, OnErr, if◌then◌else◌};
+ghost use Rattle.std.specs.Prelude.{◌≡◌, ◌<◌, ◌≤◌, ◌==◌, length, ℕ, Some, None, IsSome, is_some, IfOk, OnOk, OnErr};
+ghost use Rattle.std.specs.Prelude.{if◌then◌else◌};
 ghost use Rattle.std.specs.BTreeMap.{get};
 ghost use Rattle.std.specs.Ordering.{nat_cmp};
 ghost use Rattle.running_moves.specs.Table.{at, told, IsOf};
@@ -40,7 +41,8 @@ impl<M: Drop> RunningMoves<M> {
     pub fn begin(&mut self, running: Running<M>) -> Result<u32, AllocError>
         ensures free { IfOk result (λ m. at self.old.slots.items m ≡ None) }
         ensures least { IfOk result (λ m. (k : ℕ) → k < m → IsSome (at self.old.slots.items k)) }
-        ensures begun { IfOk result (λ m. (k : ℕ) → at self.new.slots.items k ≡ (if k == m then Some running else at self.old.slots.items k)) }
+        ensures begun { IfOk result (λ m. (k : ℕ)
+            → at self.new.slots.items k ≡ (if k == m then Some running else at self.old.slots.items k)) }
         ensures unchanged { OnErr result ((k : ℕ) → at self.new.slots.items k ≡ at self.old.slots.items k) }
     {
         let place = free_place(&self.slots);
@@ -66,7 +68,8 @@ impl<M: Drop> RunningMoves<M> {
     /// The move of this number, which runs no more.
     pub fn take(&mut self, number: u32) -> Option<Running<M>>
         ensures taken { result ≡ at self.old.slots.items number }
-        ensures others { (k : ℕ) → at self.new.slots.items k ≡ (if k == number then None else at self.old.slots.items k) }
+        ensures others { (k : ℕ)
+            → at self.new.slots.items k ≡ (if k == number then None else at self.old.slots.items k) }
         ensures room { IsSome result → number < length self.new.slots.items }
     {
         let slot = self.slots.get_mut(number as usize)?;
@@ -76,7 +79,8 @@ impl<M: Drop> RunningMoves<M> {
     /// Puts a move that was taken back under its number. It needs no memory.
     pub fn put_back(&mut self, number: u32, running: Running<M>)
         requires { number < length self.old.slots.items }
-        ensures { (k : ℕ) → at self.new.slots.items k ≡ (if k == number then Some running else at self.old.slots.items k) }
+        ensures { (k : ℕ)
+            → at self.new.slots.items k ≡ (if k == number then Some running else at self.old.slots.items k) }
     {
         self.slots[number as usize] = Some(running);
     }
@@ -90,8 +94,10 @@ impl<M: Drop> RunningMoves<M> {
 
     /// By its series the number of each move that runs; where moves of one series run, that of one of them.
     pub fn by_series(&self) -> Result<BTreeMap<u32, u32>, AllocError>
-        ensures runs { IfOk result (λ by. (series number : ℕ) → get nat_cmp by series ≡ Some number → IsOf self.now.slots.items number series) }
-        ensures all { IfOk result (λ by. (series number : ℕ) → IsOf self.now.slots.items number series → IsSome (get nat_cmp by series)) }
+        ensures runs { IfOk result (λ by. (series number : ℕ) → get nat_cmp by series ≡ Some number
+            → IsOf self.now.slots.items number series) }
+        ensures all { IfOk result (λ by. (series number : ℕ) → IsOf self.now.slots.items number series
+            → IsSome (get nat_cmp by series)) }
     {
         let mut by = BTreeMap::new(self.alloc);
         let mut number: u32 = 0;
@@ -123,7 +129,8 @@ fn tell<M: Drop>(
     slot: &Option<Running<M>>,
     number: u32,
 ) -> Result<(), AllocError>
-    ensures { OnOk result ((series : ℕ) → get nat_cmp by.new series ≡ told slot.now number series (get nat_cmp by.old series)) }
+    ensures { OnOk result
+        ((series : ℕ) → get nat_cmp by.new series ≡ told slot.now number series (get nat_cmp by.old series)) }
 {
     if let Some(running) = slot {
         by.insert(running.series, number)?;

@@ -27,8 +27,11 @@ pub(crate) fn begin_bins<O: Out>(
     about: &About,
     query: Query,
 ) -> Result<(), OutErr>
-    ensures begun { OnOk result (O.gave inner.old (binned_subject op (record { name = name.now; about = about.now; query = query })) [] inner.new) }
-    ensures broken { OnErr result ((all : List Sample) → AreEvents (about_of op about.now).ty all → O.broke inner.old (binned_subject op (record { name = name.now; about = about.now; query = query })) all inner.new) }
+    ensures begun { OnOk result (O.gave inner.old
+        (binned_subject op (record { name = name.now; about = about.now; query = query })) [] inner.new) }
+    ensures broken { OnErr result ((all : List Sample) → AreEvents (about_of op about.now).ty all
+        → O.broke inner.old
+        (binned_subject op (record { name = name.now; about = about.now; query = query })) all inner.new) }
     ensures faults { O.faults inner.old ≤ O.faults inner.new }
     ensures cause { IsErrOf result OutErr.SinkFault → Rose (O.faults inner.old) (O.faults inner.new) }
 {

@@ -31,8 +31,10 @@ pub(crate) fn give_due<O: Out>(
     requires early { kept_start (width_of op) kept.now.bin < end }
     requires held { Stands O.gave op inner.old kept.now.held }
     requires event { Stands O.gave op inner.old (Some (record { t = t; line = line.now })) }
-    ensures given { OnOk result (Gives O.gave inner.old (due op kept.now (record { t = t; line = line.now })) inner.new) }
-    ensures broken { OnErr result (Breaks O.gave O.broke inner.old (due op kept.now (record { t = t; line = line.now })) inner.new) }
+    ensures given { OnOk result
+        (Gives O.gave inner.old (due op kept.now (record { t = t; line = line.now })) inner.new) }
+    ensures broken { OnErr result
+        (Breaks O.gave O.broke inner.old (due op kept.now (record { t = t; line = line.now })) inner.new) }
     ensures faults { O.faults inner.old ≤ O.faults inner.new }
     ensures cause { IsErrOf result OutErr.SinkFault → Rose (O.faults inner.old) (O.faults inner.new) }
 {

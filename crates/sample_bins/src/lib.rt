@@ -1,7 +1,8 @@
 //! Answers that are thinned or counted: bins of samples, as an operator asks for them.
 //!
-//! `read_pv` reads what a request asks for: `firstSample_60(A:B)` is an operator and a name. `BinOut::new` over any output, then the calls of
-//! `act_model::Out`: it hands on to that output what the operator makes of the samples that it is given.
+//! `read_pv` reads what a request asks for: `firstSample_60(A:B)` is an operator and a name. `BinOut::new` over
+//! any output, then the calls of `act_model::Out`: it hands on to that output what the operator makes of the
+//! samples that it is given.
 //!
 //! | Operator | What it gives |
 //! |---|---|
@@ -15,8 +16,8 @@
 //!
 //! Model: `bins_of` is a function on lists of samples.
 //!
-//! Caveats: the sample before the interval of a query isn't used. A count of more than 2,147,483,647 is told as that number. Memory is
-//! taken for one line.
+//! Caveats: the sample before the interval of a query isn't used. A count of more than 2,147,483,647 is told as that
+//! number. Memory is taken for one line.
 //!
 //! Tests: the built program's run it.
 #![tactic(auto)]

@@ -67,11 +67,14 @@ impl<O: Out> Out for BinOut<O> {
     ghost use Rattle.sample_bins.specs.Binning.{GivesBins};
     ghost use Rattle.sample_bins.specs.Events.{gives_breaks};
 
-    ghost gave = { λ before subject xs now. (now.op ≡ before.op) × GivesBins O.gave before.op now.begun now.kept before.inner subject xs now.inner };
+    ghost gave = { λ before subject xs now. (now.op ≡ before.op)
+        × GivesBins O.gave before.op now.begun now.kept before.inner subject xs now.inner };
 
-    ghost finished = { λ before subject xs now. O.finished before.inner (binned_subject before.op subject) (bins_of before.op subject.query xs) now.inner };
+    ghost finished = { λ before subject xs now.
+        O.finished before.inner (binned_subject before.op subject) (bins_of before.op subject.query xs) now.inner };
 
-    ghost broke = { λ before subject xs now. O.broke before.inner (binned_subject before.op subject) (bins_of before.op subject.query xs) now.inner };
+    ghost broke = { λ before subject xs now.
+        O.broke before.inner (binned_subject before.op subject) (bins_of before.op subject.query xs) now.inner };
 
     ghost faults = { λ out. O.faults out.inner };
 
@@ -119,5 +122,6 @@ impl<O: Out> Out for BinOut<O> {
         self.inner.finish()
     }
 
-    ghost front = { λ before now subject xs more events gave. gives_breaks O.gave O.broke O.front before.op now.begun now.kept before.inner subject xs more now.inner events gave.1 };
+    ghost front = { λ before now subject xs more events gave. gives_breaks O.gave O.broke O.front before.op now.begun
+        now.kept before.inner subject xs more now.inner events gave.1 };
 }

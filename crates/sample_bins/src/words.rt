@@ -1,5 +1,6 @@
 // What a request asks for, as text.
-ghost use Rattle.std.specs.Prelude.{◌≡◌, ◌≢◌, ◌<◌, ◌≤◌, ◌∷◌, ◌++◌, [], ℕ, List, Option, None, length, take, drop, All, IsTrue, IfSome, IfNone, false};
+ghost use Rattle.std.specs.Prelude.{◌≡◌, ◌≢◌, ◌<◌, ◌≤◌, ◌∷◌, ◌++◌, [], ℕ, List, Option, None, length, take, drop, All};
+ghost use Rattle.std.specs.Prelude.{IsTrue, IfSome, IfNone, false};
 ghost use Rattle.sample_bins.specs.declared.op.Op.{Op as OpValue};
 ghost use Rattle.sample_bins.specs.Bins.{IsInRange};
 ghost use Rattle.sample_bins.specs.Words.{IsWidth, IsSuffix, IsBinWidth, Spells, IsOperator, Asks, IsCut};
@@ -13,8 +14,8 @@ const USUAL_WIDTH: u32 = 900;
 // No number that is good has more digits.
 const MOST_DIGITS: usize = 9;
 
-/// The operator, if one is asked for, and the bytes of the name. `None` comes exactly where the text has a parenthesis and isn't an
-/// operator with a name in parentheses. It takes no memory.
+/// The operator, if one is asked for, and the bytes of the name. `None` comes exactly where the text has a parenthesis
+/// and isn't an operator with a name in parentheses. It takes no memory.
 pub fn read_pv(text: &[u8]) -> Option<(Option<Op>, &[u8])>
     ensures found { IfSome result (λ asked. Asks text.now asked.0 asked.1.now) }
     ensures wide { IfSome result (λ asked. IfSome asked.0 IsInRange) }

@@ -57,8 +57,8 @@ impl Scan {
         self.held.as_ref()
     }
 
-    /// Gives up the sample that is held, at a tick that is due. The next is due a period after `now`, or at the last moment of a `u64`
-    /// where that is beyond it.
+    /// Gives up the sample that is held, at a tick that is due. The next is due a period after `now`, or at the last
+    /// moment of a `u64` where that is beyond it.
     pub fn tick(&mut self, now: u64) -> Option<Sample>
         requires { self.old.cell.due ≤ now }
         ensures value { result ≡ self.old.cell.held }

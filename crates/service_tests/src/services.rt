@@ -175,7 +175,8 @@ fn serve<R: Threads + Wait + Sync, C: Clock + Drop + Send, G: Gate + Sync>(
     Some(serve_all(rt, alloc, &rooms, &mut pass, posts, clock, gate))
 }
 
-// Two links that wait for one another, at two posts: what is told, how many saw the other, and whether both were refused.
+// Two links that wait for one another, at two posts: what is told, how many saw the other, and
+// whether both were refused.
 fn two_links<R: Threads + Wait + Sync>(rt: &R, alloc: Global) -> Option<(AllServed, u64, bool)> {
     let mut posts = [post(alloc, &[])?, post(alloc, &[])?];
     let mut clock = ListClock::new(Vec::new(alloc), Vec::new(alloc));
@@ -185,7 +186,8 @@ fn two_links<R: Threads + Wait + Sync>(rt: &R, alloc: Global) -> Option<(AllServ
     Some((told, gate.meetings.load(Ordering::SeqCst), refused))
 }
 
-// A link that waits until the flusher and the mover have rested: what is told, whether it saw that, and whether it was refused.
+// A link that waits until the flusher and the mover have rested: what is told, whether it saw that,
+// and whether it was refused.
 fn a_link_beside<R: Threads + Wait + Sync>(
     rt: &R,
     alloc: Global,
@@ -202,7 +204,8 @@ fn a_link_beside<R: Threads + Wait + Sync>(
     Some((told, gate.seen.load(Ordering::SeqCst), refused))
 }
 
-// Three doors, of which one fails before its link and one behind it: what is told, and how many links came back refused.
+// Three doors, of which one fails before its link and one behind it: what is told, and how
+// many links came back refused.
 fn failing_doors<R: Threads + Wait + Sync>(rt: &R, alloc: Global) -> Option<(AllServed, u64)> {
     let mut posts = [post(alloc, &[1])?, post(alloc, &[])?, post(alloc, &[2])?];
     let mut clock = ListClock::new(Vec::new(alloc), Vec::new(alloc));

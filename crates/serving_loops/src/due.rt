@@ -17,11 +17,11 @@ pub struct DueMoved {
     pub medium: u64,
 }
 
-/// Moves all that is due at a moment: of the short term until nothing is due there, then of the medium term, and then sweeps. It tells how
-/// many partitions its acts retired from each.
+/// Moves all that is due at a moment: of the short term until nothing is due there, then of the medium term, and then
+/// sweeps. It tells how many partitions its acts retired from each.
 ///
-/// Just these acts are made, in this order. It stops at the first that fails, and tells why; `Spent` comes only where no act is left. It
-/// waits for nothing, but may go on for as long as others give it work.
+/// Just these acts are made, in this order. It stops at the first that fails, and tells why; `Spent` comes only where
+/// no act is left. It waits for nothing, but may go on for as long as others give it work.
 pub fn move_all_due<A: Actor>(rt: &impl Wait, actor: &mut A, now: u64) -> Result<DueMoved, MoveErr>
     requires stands { (m : Machine) × A.stands actor.old m }
     ensures moves { Does A.number A.between actor.old (MovesDue now result) actor.new }

@@ -106,16 +106,17 @@ fn flush_round<A: Actor>(actor: &mut A, now: u64) -> Result<Option<FlushEnd>, Sp
     }
 }
 
-/// The flusher's work, to its end: rounds, of which the last begins when no doors are left, and leaves nothing that isn't durable, fails,
-/// or lacks memory. The clock gives one moment for each round, at which the round ticks all rows, and between two rounds it rests. `Spent`
-/// comes only where no act is left, within the last of the rounds.
+/// The flusher's work, to its end: rounds, of which the last begins when no doors are left, and leaves nothing that
+/// isn't durable, fails, or lacks memory. The clock gives one moment for each round, at which the round ticks all rows,
+/// and between two rounds it rests. `Spent` comes only where no act is left, within the last of the rounds.
 pub fn flush_to_end<A: Actor, C: Clock>(
     rt: &impl Wait,
     actor: &mut A,
     clock: &mut C,
 ) -> Result<FlushEnd, Spent>
     requires stands { (m : Machine) × A.stands actor.old m }
-    ensures flushes { DoesAt A.number A.between actor.old (C.coming clock.old) (FlushesTo result) actor.new (C.coming clock.new) }
+    ensures flushes { DoesAt A.number A.between actor.old (C.coming clock.old)
+        (FlushesTo result) actor.new (C.coming clock.new) }
     ensures spent { IsErr result → A.is_spent actor.new }
     ensures stands { (n : Machine) × A.stands actor.new n }
 {

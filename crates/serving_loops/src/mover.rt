@@ -2,7 +2,8 @@
 ghost use Rattle.std.specs.Prelude.{◌≡◌, ◌≤◌, ℕ, List, IfOk, IsErr, OnErr, Option};
 ghost use Rattle.act_model.specs.Machine.{Machine};
 ghost use Rattle.serving_loops.specs.Does.{Does, AreNone};
-ghost use Rattle.serving_loops.specs.Moves.{AreSoFar, StoreSo, SweepsSo, end_met, fault_of, first_of, end_of_round, IsMoverRoundSo, MovesCutAt, MovesTo};
+ghost use Rattle.serving_loops.specs.Moves.{AreSoFar, StoreSo, SweepsSo, end_met, fault_of, first_of, end_of_round};
+ghost use Rattle.serving_loops.specs.Moves.{IsMoverRoundSo, MovesCutAt, MovesTo};
 ghost use Rattle.serving_loops.specs.Timed.{DoesAt};
 
 use crate::flusher::are_doors_shut;
@@ -27,8 +28,8 @@ fn end_met(err: MoveErr) -> Result<Option<MoverEnd>, Spent>
     }
 }
 
-// The moves of a store in a round, up to where it has none to make, meets a fault or lacks memory. It tells nothing where the store has
-// none to make and doors are left.
+// The moves of a store in a round, up to where it has none to make, meets a fault or lacks memory. It tells nothing
+// where the store has none to make and doors are left.
 fn move_in_round<A: Actor>(
     rt: &impl Wait,
     actor: &mut A,
@@ -39,7 +40,8 @@ fn move_in_round<A: Actor>(
     requires low { 1 ≤ store }
     requires high { store ≤ 2 }
     ensures moves { IfOk result (λ end. Does A.number A.between actor.old (StoreSo store now end) actor.new) }
-    ensures spent { OnErr result (Does A.number A.between actor.old (AreSoFar store now) actor.new × A.is_spent actor.new) }
+    ensures spent { OnErr result
+        (Does A.number A.between actor.old (AreSoFar store now) actor.new × A.is_spent actor.new) }
     ensures stands { (n : Machine) × A.stands actor.new n }
 {
     match move_store(rt, actor, store, now) {
@@ -88,8 +90,8 @@ fn first_told(one: Option<MoverEnd>, other: Option<MoverEnd>) -> Option<MoverEnd
     }
 }
 
-// How a round ended, if it is the last: both stores had nothing to move and no doors were left, or the round began with no doors and met a
-// fault or lacked memory.
+// How a round ended, if it is the last: both stores had nothing to move and no doors were left, or the round began with
+// no doors and met a fault or lacked memory.
 fn round_end(
     shut: bool,
     short: Option<MoverEnd>,
@@ -133,16 +135,18 @@ fn move_round<A: Actor>(rt: &impl Wait, actor: &mut A, now: u64) -> Result<Optio
     }
 }
 
-/// The mover's work, to its end: rounds, up to one in which both stores had nothing to move and no doors were left, or one that began
-/// when no doors were left and met a fault or lacked memory. The clock gives one moment for each round, at which all its moves begin, and
-/// between two rounds it rests. `Spent` comes only where no act is left, within the last of the rounds.
+/// The mover's work, to its end: rounds, up to one in which both stores had nothing to move and no doors were left,
+/// or one that began when no doors were left and met a fault or lacked memory. The clock gives one moment for each
+/// round, at which all its moves begin, and between two rounds it rests. `Spent` comes only where no act is left,
+/// within the last of the rounds.
 pub fn move_to_end<A: Actor, C: Clock>(
     rt: &impl Wait,
     actor: &mut A,
     clock: &mut C,
 ) -> Result<MoverEnd, Spent>
     requires stands { (m : Machine) × A.stands actor.old m }
-    ensures moves { DoesAt A.number A.between actor.old (C.coming clock.old) (MovesTo result) actor.new (C.coming clock.new) }
+    ensures moves { DoesAt A.number A.between actor.old (C.coming clock.old)
+        (MovesTo result) actor.new (C.coming clock.new) }
     ensures spent { IsErr result → A.is_spent actor.new }
     ensures stands { (n : Machine) × A.stands actor.new n }
 {

@@ -65,14 +65,15 @@ impl SinkBuffer {
 
     /// Takes a piece of a text. Where much is gathered with it, that is written first.
     ///
-    /// `SinkFault` comes only where the sink's count of failed writes rose, and nothing is gathered then. After an error a front of
-    /// what was gathered and the piece went out.
+    /// `SinkFault` comes only where the sink's count of failed writes rose, and nothing is gathered then. After an
+    /// error a front of what was gathered and the piece went out.
     pub fn put<K: Sink>(&mut self, piece: &[u8], sink: &mut K) -> Result<(), PutErr>
         ensures ok { OnOk result (Sends (K.written sink.old) (K.written sink.new) (self.old ++ piece.now) self.new) }
         ensures front { OnErr result (AppendsFront (K.written sink.old) (K.written sink.new) (self.old ++ piece.now)) }
         ensures most { length self.new ≤ 65536 }
         ensures empty { IsErrOf result PutErr.SinkFault → self.new ≡ [] }
-        ensures memory { IsErrOf result PutErr.Memory → Sends (K.written sink.old) (K.written sink.new) self.old self.new }
+        ensures memory { IsErrOf result PutErr.Memory
+            → Sends (K.written sink.old) (K.written sink.new) self.old self.new }
         ensures faults { K.write_faults sink.old ≤ K.write_faults sink.new }
         ensures failed { IsErrOf result PutErr.SinkFault → Rose (K.write_faults sink.old) (K.write_faults sink.new) }
     {
@@ -87,11 +88,14 @@ impl SinkBuffer {
 
     /// Takes a line, and a newline behind it, as `put` takes a piece: where memory runs out, neither was taken.
     pub fn put_line<K: Sink>(&mut self, line: &[u8], sink: &mut K) -> Result<(), PutErr>
-        ensures ok { OnOk result (Sends (K.written sink.old) (K.written sink.new) (self.old ++ (line.now ++ 10 ∷ [])) self.new) }
-        ensures front { OnErr result (AppendsFront (K.written sink.old) (K.written sink.new) (self.old ++ (line.now ++ 10 ∷ []))) }
+        ensures ok { OnOk result
+            (Sends (K.written sink.old) (K.written sink.new) (self.old ++ (line.now ++ 10 ∷ [])) self.new) }
+        ensures front { OnErr result
+            (AppendsFront (K.written sink.old) (K.written sink.new) (self.old ++ (line.now ++ 10 ∷ []))) }
         ensures most { length self.new ≤ 65536 }
         ensures empty { IsErrOf result PutErr.SinkFault → self.new ≡ [] }
-        ensures memory { IsErrOf result PutErr.Memory → Sends (K.written sink.old) (K.written sink.new) self.old self.new }
+        ensures memory { IsErrOf result PutErr.Memory
+            → Sends (K.written sink.old) (K.written sink.new) self.old self.new }
         ensures faults { K.write_faults sink.old ≤ K.write_faults sink.new }
         ensures failed { IsErrOf result PutErr.SinkFault → Rose (K.write_faults sink.old) (K.write_faults sink.new) }
     {
@@ -135,8 +139,8 @@ impl SinkBuffer {
         Ok(())
     }
 
-    /// Writes what is gathered, and nothing is gathered then, also where a write failed: what was left of it is lost, and no byte goes
-    /// out twice.
+    /// Writes what is gathered, and nothing is gathered then, also where a write failed: what was left of it is lost,
+    /// and no byte goes out twice.
     ///
     /// `Failed` comes only where the sink's count of failed writes rose; a front of what was gathered went out then.
     pub fn finish<K: Sink>(&mut self, sink: &mut K) -> Result<(), Failed>

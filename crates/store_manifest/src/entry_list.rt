@@ -1,5 +1,5 @@
-// The entries of one series in memory, oldest first. Moves take the oldest away, so what goes at the front costs no move of the rest: it
-// stays in memory until room is made for entries that are more than half gone.
+// The entries of one series in memory, oldest first. Moves take the oldest away, so what goes at the front costs no
+// move of the rest: it stays in memory until room is made for entries that are more than half gone.
 ghost use Rattle.std.specs.Prelude.{◌≡◌, ◌≤◌, ◌<◌, ◌+◌, ◌++◌, ◌∷◌, [], ℕ, suc, length, take, drop, OnOk};
 
 use crate::Entry;
@@ -18,7 +18,8 @@ impl Model for EntryList {
 
     ghost Value = { ListState };
 
-    ghost view = { λ l. record { items = drop l.gone l.entries.items; used = vec_len l.entries; capacity = vec_capacity l.entries } };
+    ghost view = { λ l.
+        record { items = drop l.gone l.entries.items; used = vec_len l.entries; capacity = vec_capacity l.entries } };
 
     ghost invariant = { λ l. l.gone ≤ vec_len l.entries };
 }

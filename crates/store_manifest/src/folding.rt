@@ -1,5 +1,6 @@
 // The batches of a file, folded to a granularity and entries, one after another.
-ghost use Rattle.std.specs.Prelude.{◌≡◌, ◌≢◌, ◌↔◌, ◌<◌, ◌++◌, ◌∷◌, [], List, ℕ, IfOk, IfSome, IfNone, IsTrue, Some, false, length};
+ghost use Rattle.std.specs.Prelude.{◌≡◌, ◌≢◌, ◌↔◌, ◌<◌, ◌++◌, ◌∷◌, [], List, ℕ, IfOk, IfSome, IfNone, IsTrue, Some};
+ghost use Rattle.std.specs.Prelude.{false, length};
 ghost use Rattle.partition_names.specs.declared.granularity.Granularity.{Granularity as GranularityValue};
 ghost use Rattle.store_manifest.specs.declared.entry.Entry.{Entry};
 ghost use Rattle.store_manifest.specs.Batches.{config, Makes, IsBatch, OnlySets};
@@ -52,7 +53,8 @@ impl BatchFold for Folding {
 // What batches come to with one more, which is of this number.
 fn followed(alloc: Global, folded: Folded, number: u64, batch: &[u8]) -> Result<Folded, AllocError>
     requires { (batches : List (List ℕ)) × IsFolded batches folded × (number ≡ length batches) }
-    ensures { (batches : List (List ℕ)) → IsFolded batches folded → number ≡ length batches → IfOk result (IsFolded (batches ++ batch.now ∷ [])) }
+    ensures { (batches : List (List ℕ)) → IsFolded batches folded → number ≡ length batches
+        → IfOk result (IsFolded (batches ++ batch.now ∷ [])) }
 {
     match folded {
         Folded::Nothing => begun(alloc, number, batch),
@@ -68,7 +70,8 @@ fn followed(alloc: Global, folded: Folded, number: u64, batch: &[u8]) -> Result<
 
 // What a first batch comes to.
 fn begun(alloc: Global, number: u64, batch: &[u8]) -> Result<Folded, AllocError>
-    ensures { (batches : List (List ℕ)) → batches ≡ [] → number ≡ length batches → IfOk result (IsFolded (batches ++ batch.now ∷ [])) }
+    ensures { (batches : List (List ℕ)) → batches ≡ [] → number ≡ length batches
+        → IfOk result (IsFolded (batches ++ batch.now ∷ [])) }
 {
     let Some((g, rest)) = config_of(batch) else {
         return Ok(Folded::Bad(number));
@@ -94,7 +97,8 @@ fn config_of(batch: &[u8]) -> Option<(Granularity, &[u8])>
     }
 }
 
-// Sets the entry at the front of a first batch's bytes, and gives the bytes behind it. None if no entry that is set stands there.
+// Sets the entry at the front of a first batch's bytes, and gives the bytes behind it. None if no entry
+// that is set stands there.
 fn make_set<'a>(
     lists: &mut SeriesLists,
     g: Granularity,
@@ -104,9 +108,11 @@ fn make_set<'a>(
     requires some { bytes.now ≢ [] }
     ensures good { AreLists lists.new.listed.entries }
     ensures made { IfOk result (λ r. IfSome r (λ rest. (last : List Entry)
-        → OnlySets g (entries_of lists.new.listed.entries) rest.now last ↔ OnlySets g (entries_of lists.old.listed.entries) bytes.now last)) }
+        → OnlySets g (entries_of lists.new.listed.entries) rest.now last
+        ↔ OnlySets g (entries_of lists.old.listed.entries) bytes.now last)) }
     ensures shorter { IfOk result (λ r. IfSome r (λ rest. length rest.now < length bytes.now)) }
-    ensures none { IfOk result (λ r. IfNone r ((last : List Entry) → OnlySets g (entries_of lists.old.listed.entries) bytes.now last → ⊥)) }
+    ensures none { IfOk result (λ r.
+        IfNone r ((last : List Entry) → OnlySets g (entries_of lists.old.listed.entries) bytes.now last → ⊥)) }
 {
     let Some((change, rest)) = read_change(g, bytes) else {
         return Ok(None);
@@ -122,8 +128,10 @@ fn make_set<'a>(
 fn make_sets(lists: &mut SeriesLists, g: Granularity, bytes: &[u8]) -> Result<bool, AllocError>
     requires good { AreLists lists.old.listed.entries }
     ensures good { AreLists lists.new.listed.entries }
-    ensures made { IfOk result (λ made. IsTrue made → OnlySets g (entries_of lists.old.listed.entries) bytes.now (entries_of lists.new.listed.entries)) }
-    ensures bad { IfOk result (λ made. made ≡ false → (last : List Entry) → OnlySets g (entries_of lists.old.listed.entries) bytes.now last → ⊥) }
+    ensures made { IfOk result (λ made. IsTrue made
+        → OnlySets g (entries_of lists.old.listed.entries) bytes.now (entries_of lists.new.listed.entries)) }
+    ensures bad { IfOk result (λ made.
+        made ≡ false → (last : List Entry) → OnlySets g (entries_of lists.old.listed.entries) bytes.now last → ⊥) }
 {
     let mut rest = bytes;
     while !rest.is_empty() {
@@ -135,7 +143,8 @@ fn make_sets(lists: &mut SeriesLists, g: Granularity, bytes: &[u8]) -> Result<bo
     Ok(true)
 }
 
-// Makes the change at the front of a batch's bytes, and gives the bytes behind it. None if no change stands there that may follow.
+// Makes the change at the front of a batch's bytes, and gives the bytes behind it. None if no change
+// stands there that may follow.
 fn make_change<'a>(
     lists: &mut SeriesLists,
     g: Granularity,
@@ -145,9 +154,11 @@ fn make_change<'a>(
     requires some { bytes.now ≢ [] }
     ensures good { AreLists lists.new.listed.entries }
     ensures made { IfOk result (λ r. IfSome r (λ rest. (last : List Entry)
-        → Makes g (entries_of lists.new.listed.entries) rest.now last ↔ Makes g (entries_of lists.old.listed.entries) bytes.now last)) }
+        → Makes g (entries_of lists.new.listed.entries) rest.now last
+        ↔ Makes g (entries_of lists.old.listed.entries) bytes.now last)) }
     ensures shorter { IfOk result (λ r. IfSome r (λ rest. length rest.now < length bytes.now)) }
-    ensures none { IfOk result (λ r. IfNone r ((last : List Entry) → Makes g (entries_of lists.old.listed.entries) bytes.now last → ⊥)) }
+    ensures none { IfOk result (λ r.
+        IfNone r ((last : List Entry) → Makes g (entries_of lists.old.listed.entries) bytes.now last → ⊥)) }
 {
     let Some((change, rest)) = read_change(g, bytes) else {
         return Ok(None);
@@ -163,8 +174,10 @@ fn make_change<'a>(
 fn make_batch(lists: &mut SeriesLists, g: Granularity, batch: &[u8]) -> Result<bool, AllocError>
     requires good { AreLists lists.old.listed.entries }
     ensures good { AreLists lists.new.listed.entries }
-    ensures made { IfOk result (λ made. IsTrue made → IsBatch g (entries_of lists.old.listed.entries) batch.now (entries_of lists.new.listed.entries)) }
-    ensures bad { IfOk result (λ made. made ≡ false → (last : List Entry) → IsBatch g (entries_of lists.old.listed.entries) batch.now last → ⊥) }
+    ensures made { IfOk result (λ made. IsTrue made
+        → IsBatch g (entries_of lists.old.listed.entries) batch.now (entries_of lists.new.listed.entries)) }
+    ensures bad { IfOk result (λ made.
+        made ≡ false → (last : List Entry) → IsBatch g (entries_of lists.old.listed.entries) batch.now last → ⊥) }
 {
     if batch.is_empty() {
         return Ok(false);

@@ -1,5 +1,5 @@
-// The entries of a manifest in memory, and the changes of a commit. They are kept while it goes on, and made when it is done, which
-// takes no memory.
+// The entries of a manifest in memory, and the changes of a commit. They are kept while it goes on, and made when it is
+// done, which takes no memory.
 ghost use Rattle.std.specs.Prelude.{◌≡◌, ◌==◌, ◌≤◌, ◌+◌, ℕ, [], List, OnOk, filter, take, drop};
 ghost use Rattle.store_manifest.specs.Entries.{place_of, all_changed};
 
@@ -48,7 +48,8 @@ impl Listing {
         requires { IsListing self.old }
         ensures good { IsListing self.new }
         ensures entries { entries_of self.new.lists.listed.entries ≡ entries_of self.old.lists.listed.entries }
-        ensures next { OnOk result (next_of self.new ≡ all_changed (entries_of self.old.lists.listed.entries) changes.now) }
+        ensures next { OnOk result
+            (next_of self.new ≡ all_changed (entries_of self.old.lists.listed.entries) changes.now) }
     {
         self.pending.clear();
         self.lists.make_rooms(changes)?;

@@ -66,7 +66,8 @@ impl SeriesLists {
         ensures good { AreLists self.new.listed.entries }
         ensures entries { entries_of self.new.listed.entries ≡ entries_of self.old.listed.entries }
         ensures there { OnOk result (IsSome (list_of series self.new.listed.entries)) }
-        ensures others { (s : ℕ) → (s ≡ series → ⊥) → list_of s self.new.listed.entries ≡ list_of s self.old.listed.entries }
+        ensures others { (s : ℕ) → (s ≡ series → ⊥)
+            → list_of s self.new.listed.entries ≡ list_of s self.old.listed.entries }
     {
         if self.listed.contains_key(&series) {
             return Ok(());
@@ -81,8 +82,10 @@ impl SeriesLists {
         ensures good { AreLists self.new.listed.entries }
         ensures entries { entries_of self.new.listed.entries ≡ entries_of self.old.listed.entries }
         ensures there { OnOk result (IsSome (list_of series self.new.listed.entries)) }
-        ensures room { OnOk result (IfSome (list_of series self.new.listed.entries) (λ list. list.used + room ≤ list.capacity)) }
-        ensures others { (s : ℕ) → (s ≡ series → ⊥) → list_of s self.new.listed.entries ≡ list_of s self.old.listed.entries }
+        ensures room { OnOk result
+            (IfSome (list_of series self.new.listed.entries) (λ list. list.used + room ≤ list.capacity)) }
+        ensures others { (s : ℕ) → (s ≡ series → ⊥)
+            → list_of s self.new.listed.entries ≡ list_of s self.old.listed.entries }
     {
         self.open(series)?;
         match self.listed.get_mut(&series) {
@@ -114,7 +117,8 @@ impl SeriesLists {
         requires good { AreLists self.old.listed.entries }
         requires room { HasRoom self.old.listed.entries changes.now }
         ensures good { AreLists self.new.listed.entries }
-        ensures entries { entries_of self.new.listed.entries ≡ all_changed (entries_of self.old.listed.entries) changes.now }
+        ensures entries { entries_of self.new.listed.entries
+            ≡ all_changed (entries_of self.old.listed.entries) changes.now }
     {
         for change in changes {
             self.make(change);
@@ -125,7 +129,8 @@ impl SeriesLists {
     pub(crate) fn change(&mut self, change: &Change) -> Result<(), AllocError>
         requires { AreLists self.old.listed.entries }
         ensures good { AreLists self.new.listed.entries }
-        ensures entries { OnOk result (entries_of self.new.listed.entries ≡ changed (entries_of self.old.listed.entries) change.now) }
+        ensures entries { OnOk result
+            (entries_of self.new.listed.entries ≡ changed (entries_of self.old.listed.entries) change.now) }
     {
         self.make_room(change.series(), change.sets())?;
         self.make(change);

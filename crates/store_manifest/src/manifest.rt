@@ -1,5 +1,6 @@
 // The manifest on the disk: each commit makes its changes whole or not at all, also across a crash.
-ghost use Rattle.std.specs.Prelude.{◌≡◌, ◌≢◌, ◌⊎◌, ◌==◌, ◌≤◌, ◌<◌, ◌+◌, [], ◌∷◌, List, ℕ, filter, length, IfOk, IfErr, OnOk, OnErr, IsErrOf, IsTrue, true, false, Ok, Err};
+ghost use Rattle.std.specs.Prelude.{◌≡◌, ◌≢◌, ◌⊎◌, ◌==◌, ◌≤◌, ◌<◌, ◌+◌, [], ◌∷◌, List, ℕ, filter, length, IfOk, IfErr};
+ghost use Rattle.std.specs.Prelude.{OnOk, OnErr, IsErrOf, IsTrue, true, false, Ok, Err};
 ghost use Rattle.std.specs.Int.{IsInRange};
 ghost use Rattle.disk_model.specs.Files.{Name, Rose};
 ghost use Rattle.disk_model.specs.Past.{Passes};
@@ -10,11 +11,13 @@ ghost use Rattle.gate_journal.specs.Journal.{IsSettledWith, is_of_commit, OnlyRe
 ghost use Rattle.gate_journal.specs.Kept.{Says, SaysEither};
 ghost use Rattle.partition_names.specs.declared.granularity.Granularity.{Granularity as GranularityValue};
 ghost use Rattle.store_manifest.specs.declared.entry.Entry.{Entry as EntryValue};
-ghost use Rattle.store_manifest.specs.declared.error.ManifestErr.TheVariants.{Disk as OfDisk, BadJournal, BadBatch, GranularityDiffers};
+ghost use Rattle.store_manifest.specs.declared.error.ManifestErr.TheVariants.{Disk as OfDisk, BadJournal, BadBatch};
+ghost use Rattle.store_manifest.specs.declared.error.ManifestErr.TheVariants.{GranularityDiffers};
 ghost use Rattle.store_manifest.specs.Batches.{config, batch_of, whole, Configured, Folds, IsBadBatch};
 ghost use Rattle.store_manifest.specs.Entries.{all_changed, AllCanFollow, AreEntries};
 ghost use Rattle.store_manifest.specs.Listing.{entries_of, AreLists};
-ghost use Rattle.store_manifest.specs.Manifest.{manifest_name, CommitsEntries, IsKept, IsUnsure, IsLong, Lists, StaysOrBegins, limit_of};
+ghost use Rattle.store_manifest.specs.Manifest.{manifest_name, CommitsEntries, IsKept, IsUnsure, IsLong, Lists};
+ghost use Rattle.store_manifest.specs.Manifest.{StaysOrBegins, limit_of};
 
 use crate::folding::{Folded, Folding};
 use crate::listing::Listing;
@@ -28,8 +31,8 @@ use partition_names::Granularity;
 use std::alloc::{AllocError, Global};
 use std::marker::Model;
 
-/// Which partition files a store lists, and how much of each. Contracts see the state of its journal, its granularity, its entries
-/// in the order of series and time, and the entries that the last commit was to make.
+/// Which partition files a store lists, and how much of each. Contracts see the state of its journal, its granularity,
+/// its entries in the order of series and time, and the entries that the last commit was to make.
 #[derive(Drop)]
 pub struct Manifest {
     journal: Journal,
@@ -44,13 +47,19 @@ impl Model for Manifest {
 
     ghost Value = { ManifestState };
 
-    ghost view = { λ m. record { journal = m.journal; granularity = m.granularity; entries = entries_of m.listing.lists.listed.entries; next = next_of m.listing } };
+    ghost view = { λ m. record {
+      journal = m.journal;
+      granularity = m.granularity;
+      entries = entries_of m.listing.lists.listed.entries;
+      next = next_of m.listing;
+    } };
 
     ghost invariant = { λ m. IsListing m.listing };
 }
 
 impl Manifest {
-    /// The manifest of a store, from 1 to 3. Where its journal has no batch, one that says the granularity is committed.
+    /// The manifest of a store, from 1 to 3. Where its journal has no batch, one that says
+    /// the granularity is committed.
     pub fn load<D: Disk>(
         alloc: Global,
         disk: &mut D,
@@ -60,22 +69,32 @@ impl Manifest {
         requires store { IsInRange 1 3 store }
         requires unopened { IsTrue D.tells → (n : Name) → IsOwn (manifest_name store) n → D.opened disk.old n ≡ 0 }
 
-        ensures kept { IsTrue D.tells → IfOk result (λ m. IsKept m (D.files disk.new) (D.opened disk.new) (D.past disk.new)) }
-        ensures entries { IsTrue D.tells → IfOk result (λ m. Lists g m.entries (manifest_name store) (D.files disk.old)) }
+        ensures kept { IsTrue D.tells
+            → IfOk result (λ m. IsKept m (D.files disk.new) (D.opened disk.new) (D.past disk.new)) }
+        ensures entries { IsTrue D.tells
+            → IfOk result (λ m. Lists g m.entries (manifest_name store) (D.files disk.old)) }
         ensures are { IfOk result (λ m. AreEntries g m.entries) }
-        ensures manifest { IfOk result (λ m. (m.journal.name ≡ manifest_name store) × (m.granularity ≡ g) × (m.journal.sound ≡ true)) }
+        ensures manifest { IfOk result (λ m.
+            (m.journal.name ≡ manifest_name store) × (m.granularity ≡ g) × (m.journal.sound ≡ true)) }
 
         ensures bad_journal { IsTrue D.tells → (file : Name) (at : ℕ) → result ≡ Err (BadJournal file at)
             → IsBadOf (manifest_name store) (D.files disk.old) file at }
         ensures bad_batch { IsTrue D.tells → (number : ℕ) → result ≡ Err (BadBatch number)
             → (bs : List (List ℕ)) × HasBatchesOf (manifest_name store) (D.files disk.old) bs × IsBadBatch bs number }
-        ensures differs { IsTrue D.tells → (kept asked : GranularityValue) → result ≡ Err (GranularityDiffers kept asked)
-            → (asked ≡ g) × (kept ≢ g) × (entries : List EntryValue) × Says (Configured kept) entries (manifest_name store) (D.files disk.old) }
+        ensures differs { IsTrue D.tells → (kept asked : GranularityValue)
+            → result ≡ Err (GranularityDiffers kept asked)
+            → (asked ≡ g) × (kept ≢ g) × (entries : List EntryValue)
+            × Says (Configured kept) entries (manifest_name store) (D.files disk.old) }
 
-        // What reads give of the manifest's files, and what a crash at any moment leaves of them, holds the batches that it held before, or it held none and lists nothing still; every other name has what it had.
-        ensures reads { IsTrue D.tells → AtOwn (manifest_name store) (StaysOrBegins g (manifest_name store)) (D.files disk.old) (D.files disk.new) }
-        ensures any_moment { IsTrue D.tells → Passes (AtOwn (manifest_name store) (StaysOrBegins g (manifest_name store))) (D.past disk.old) (D.past disk.new) }
-        ensures opened { IsTrue D.tells → (n : Name) → (IsOwn (manifest_name store) n → ⊥) → D.opened disk.new n ≡ D.opened disk.old n }
+        // What reads give of the manifest's files, and what a crash at any moment leaves of them, holds the batches
+        // that it held before, or it held none and lists nothing still; every other name has what it had.
+        ensures reads { IsTrue D.tells → AtOwn (manifest_name store) (StaysOrBegins g (manifest_name store))
+            (D.files disk.old) (D.files disk.new) }
+        ensures any_moment { IsTrue D.tells
+            → Passes (AtOwn (manifest_name store) (StaysOrBegins g (manifest_name store)))
+            (D.past disk.old) (D.past disk.new) }
+        ensures opened { IsTrue D.tells → (n : Name) → (IsOwn (manifest_name store) n → ⊥)
+            → D.opened disk.new n ≡ D.opened disk.old n }
         ensures unopened { IsTrue D.tells → (n : Name) → IsOwn (manifest_name store) n → D.opened disk.new n ≡ 0 }
         ensures faults { D.faults disk.old ≤ D.faults disk.new }
         ensures cause { result ≡ Err (OfDisk Fault) → Rose (D.faults disk.old) (D.faults disk.new) }
@@ -131,39 +150,51 @@ impl Manifest {
         self.listing.all()
     }
 
-    /// Makes all the changes, one after another, or none of them. Each is made in place, and costs the entries behind it in its series.
-    /// With no change it leaves the disk alone. Where the journal is long for the entries, it is begun anew first with a batch that lists
-    /// them: where it has at least as many bytes as four such batches, and at least 1,048,576, and that batch at most 1,073,741,824.
+    /// Makes all the changes, one after another, or none of them. Each is made in place, and costs the entries behind
+    /// it in its series. With no change it leaves the disk alone. Where the journal is long for the entries, it is
+    /// begun anew first with a batch that lists them: where it has at least as many bytes as four such batches, and at
+    /// least 1,048,576, and that batch at most 1,073,741,824.
     ///
-    /// After `Fault` the manifest isn't sound: it is reviewed, or loaded again. After `Memory` it lists what it listed; its journal may
-    /// have begun anew where it was long, and nothing was done where it wasn't.
+    /// After `Fault` the manifest isn't sound: it is reviewed, or loaded again. After `Memory` it lists what it listed;
+    /// its journal may have begun anew where it was long, and nothing was done where it wasn't.
     pub fn commit<D: Disk>(&mut self, disk: &mut D, changes: &[Change]) -> Result<(), DiskErr>
         requires sound { IsTrue self.old.journal.sound }
         requires follow { AllCanFollow self.old.granularity self.old.entries changes.now }
         requires few { length (batch_of changes.now) ≤ GREATEST_BATCH }
         requires kept { IsTrue D.tells → IsKept self.old (D.files disk.old) (D.opened disk.old) (D.past disk.old) }
 
-        // A crash at any moment leaves the entries from before it or those with all the changes, and of every name that isn't the manifest's what it might have left before.
-        ensures commits { IsTrue D.tells → CommitsEntries Folds (all_changed self.old.entries changes.now) result self.old self.new (standing D.Disk disk.old)
-            (standing D.Disk disk.new) }
+        // A crash at any moment leaves the entries from before it or those with all the changes, and of every name that
+        // isn't the manifest's what it might have left before.
+        ensures commits { IsTrue D.tells
+            → CommitsEntries Folds (all_changed self.old.entries changes.now) result self.old self.new
+            (standing D.Disk disk.old) (standing D.Disk disk.new) }
         ensures entries { OnOk result (self.new.entries ≡ all_changed self.old.entries changes.now) }
-        ensures state { (self.new.granularity ≡ self.old.granularity) × (self.new.journal.name ≡ self.old.journal.name) }
+        ensures state { (self.new.granularity ≡ self.old.granularity)
+            × (self.new.journal.name ≡ self.old.journal.name) }
         ensures nothing { changes.now ≡ [] → (result ≡ Ok tt) × (disk.new ≡ disk.old) }
 
-        // Where the closed gate stands afterwards, which tells exactly where the journal was begun anew: it doesn't grow for good.
-        ensures begun { let size = length (whole self.old.granularity self.old.entries) in changes.now ≢ [] → IsLong (self.old.journal.current.place + 1) size
+        // Where the closed gate stands afterwards, which tells exactly where the journal was begun anew:
+        // it doesn't grow for good.
+        ensures begun { let size = length (whole self.old.granularity self.old.entries) in
+            changes.now ≢ [] → IsLong (self.old.journal.current.place + 1) size
             → OnOk result (self.new.journal.current.place ≡ (size + 5) + (5 + length (batch_of changes.now))) }
-        ensures grown { let size = length (whole self.old.granularity self.old.entries) in changes.now ≢ []
-            → (IsLong (self.old.journal.current.place + 1) size → ⊥)
-            → OnOk result (self.new.journal.current.place ≡ self.old.journal.current.place + (5 + length (batch_of changes.now))) }
-        ensures short { let size = length (whole self.old.granularity self.old.entries) in changes.now ≢ [] → size ≤ GREATEST_BATCH
+        ensures grown { let size = length (whole self.old.granularity self.old.entries) in
+            changes.now ≢ [] → (IsLong (self.old.journal.current.place + 1) size → ⊥)
+            → OnOk result
+            (self.new.journal.current.place ≡ self.old.journal.current.place + (5 + length (batch_of changes.now))) }
+        ensures short { let size = length (whole self.old.granularity self.old.entries) in
+            changes.now ≢ [] → size ≤ GREATEST_BATCH
             → OnOk result (self.new.journal.current.place + 1 < limit_of size + length (batch_of changes.now) + 5) }
 
         ensures sound { OnOk result (self.new.journal.sound ≡ true) }
-        ensures doubtful { IsErrOf result DiskErr.Fault → (self.new.entries ≡ self.old.entries) × (self.new.next ≡ all_changed self.old.entries changes.now) }
-        ensures fault { IsErrOf result DiskErr.Fault → (self.new.journal.sound ≡ false) × Rose (D.faults disk.old) (D.faults disk.new) }
-        ensures memory { IsErrOf result DiskErr.Memory → (self.new.journal.sound ≡ true) × (self.new.entries ≡ self.old.entries) }
-        ensures untouched { let size = length (whole self.old.granularity self.old.entries) in IsErrOf result DiskErr.Memory
+        ensures doubtful { IsErrOf result DiskErr.Fault
+            → (self.new.entries ≡ self.old.entries) × (self.new.next ≡ all_changed self.old.entries changes.now) }
+        ensures fault { IsErrOf result DiskErr.Fault
+            → (self.new.journal.sound ≡ false) × Rose (D.faults disk.old) (D.faults disk.new) }
+        ensures memory { IsErrOf result DiskErr.Memory
+            → (self.new.journal.sound ≡ true) × (self.new.entries ≡ self.old.entries) }
+        ensures untouched { let size = length (whole self.old.granularity self.old.entries) in
+            IsErrOf result DiskErr.Memory
             → (IsLong (self.old.journal.current.place + 1) size → ⊥)
             → (self.new.journal ≡ self.old.journal) × (disk.new ≡ disk.old) }
         ensures faults { D.faults disk.old ≤ D.faults disk.new }
@@ -176,30 +207,42 @@ impl Manifest {
         self.add(disk, changes)
     }
 
-    /// After a commit that failed: takes its changes in where the journal has them. The manifest is sound afterwards. After an error it
-    /// lists what it listed, and can be reviewed again. It takes no memory of its own, since the commit took it: `Memory` is the disk's.
+    /// After a commit that failed: takes its changes in where the journal has them. The manifest is sound afterwards.
+    /// After an error it lists what it listed, and can be reviewed again. It takes no memory of its own, since the
+    /// commit took it: `Memory` is the disk's.
     pub fn review<D: Disk>(&mut self, disk: &mut D) -> Result<(), DiskErr>
         requires unsound { self.old.journal.sound ≡ false }
         requires doubt { IsTrue D.tells → IsUnsure self.old (D.files disk.old) (D.opened disk.old) (D.past disk.old) }
 
-        ensures kept { IsTrue D.tells → OnOk result (IsKept self.new (D.files disk.new) (D.opened disk.new) (D.past disk.new)) }
+        ensures kept { IsTrue D.tells
+            → OnOk result (IsKept self.new (D.files disk.new) (D.opened disk.new) (D.past disk.new)) }
         ensures entries { OnOk result ((self.new.entries ≡ self.old.entries) ⊎ (self.new.entries ≡ self.old.next)) }
         ensures sound { OnOk result (self.new.journal.sound ≡ true) }
-        ensures state { (self.new.granularity ≡ self.old.granularity) × (self.new.journal.name ≡ self.old.journal.name) }
-        ensures still { OnErr result ((self.new.journal.sound ≡ false) × (self.new.entries ≡ self.old.entries) × (self.new.next ≡ self.old.next)) }
+        ensures state { (self.new.granularity ≡ self.old.granularity)
+            × (self.new.journal.name ≡ self.old.journal.name) }
+        ensures still { OnErr result ((self.new.journal.sound ≡ false) × (self.new.entries ≡ self.old.entries)
+            × (self.new.next ≡ self.old.next)) }
 
-        // A crash at any moment leaves the entries from before the commit or those that it was to make, and of every name that isn't the manifest's what it might have left before.
-        ensures doubtful { IsTrue D.tells → OnErr result (IsUnsure self.new (D.files disk.new) (D.opened disk.new) (D.past disk.new)) }
+        // A crash at any moment leaves the entries from before the commit or those that it was to make, and of every
+        // name that isn't the manifest's what it might have left before.
+        ensures doubtful { IsTrue D.tells
+            → OnErr result (IsUnsure self.new (D.files disk.new) (D.opened disk.new) (D.past disk.new)) }
         ensures any_moment { IsTrue D.tells → Passes (AtOwn self.old.journal.name
-            (SaysEither (Configured self.old.granularity) self.old.entries self.old.next self.old.journal.name)) (D.past disk.old) (D.past disk.new) }
-        ensures elsewhere { IsTrue D.tells → (n : Name) → (IsOwn self.old.journal.name n → ⊥) → D.files disk.new n ≡ D.files disk.old n }
-        ensures opened { IsTrue D.tells → (n : Name) → (IsOwn self.old.journal.name n → ⊥) → D.opened disk.new n ≡ D.opened disk.old n }
+            (SaysEither (Configured self.old.granularity) self.old.entries self.old.next self.old.journal.name))
+            (D.past disk.old) (D.past disk.new) }
+        ensures elsewhere { IsTrue D.tells → (n : Name) → (IsOwn self.old.journal.name n → ⊥)
+            → D.files disk.new n ≡ D.files disk.old n }
+        ensures opened { IsTrue D.tells → (n : Name) → (IsOwn self.old.journal.name n → ⊥)
+            → D.opened disk.new n ≡ D.opened disk.old n }
 
-        // After a commit it changes no file and no image of a crash, and after an error the manifest is as before. After a journal that was to begin anew it changes only the file that it removes.
+        // After a commit it changes no file and no image of a crash, and after an error the manifest is as before.
+        // After a journal that was to begin anew it changes only the file that it removes.
         ensures one_file { IsTrue D.tells → OnlyRemoves self.old.journal (D.files disk.old) (D.files disk.new)
             × Passes (OnlyRemoves self.old.journal) (D.past disk.old) (D.past disk.new) }
         ensures quiet { IsTrue D.tells → is_of_commit self.old.journal.pending ≡ true
-            → (D.files disk.new ≡ D.files disk.old) × Passes (λ a b. b ≡ a) (D.past disk.old) (D.past disk.new) × (D.opened disk.new ≡ D.opened disk.old) }
+            → (D.files disk.new ≡ D.files disk.old)
+            × Passes (λ a b. b ≡ a) (D.past disk.old) (D.past disk.new)
+            × (D.opened disk.new ≡ D.opened disk.old) }
         ensures unchanged { is_of_commit self.old.journal.pending ≡ true → OnErr result (self.new ≡ self.old) }
 
         ensures faults { D.faults disk.old ≤ D.faults disk.new }
@@ -216,18 +259,23 @@ impl Manifest {
     fn shorten<D: Disk>(&mut self, disk: &mut D) -> Result<(), DiskErr>
         requires sound { IsTrue self.old.journal.sound }
         requires kept { IsTrue D.tells → IsKept self.old (D.files disk.old) (D.opened disk.old) (D.past disk.old) }
-        ensures commits { IsTrue D.tells → CommitsEntries Configured self.old.entries result self.old self.new (standing D.Disk disk.old)
-            (standing D.Disk disk.new) }
-        ensures state { (self.new.granularity ≡ self.old.granularity) × (self.new.journal.name ≡ self.old.journal.name) × (self.new.entries ≡ self.old.entries)
+        ensures commits { IsTrue D.tells → CommitsEntries Configured self.old.entries result self.old self.new
+            (standing D.Disk disk.old) (standing D.Disk disk.new) }
+        ensures state { (self.new.granularity ≡ self.old.granularity)
+            × (self.new.journal.name ≡ self.old.journal.name)
+            × (self.new.entries ≡ self.old.entries)
             × (self.new.next ≡ self.old.next) }
-        ensures begun { let size = length (whole self.old.granularity self.old.entries) in IsLong (self.old.journal.current.place + 1) size
-            → OnOk result (self.new.journal.current.place ≡ size + 5) }
-        ensures grown { let size = length (whole self.old.granularity self.old.entries) in (IsLong (self.old.journal.current.place + 1) size → ⊥)
+        ensures begun { let size = length (whole self.old.granularity self.old.entries) in
+            IsLong (self.old.journal.current.place + 1) size → OnOk result (self.new.journal.current.place ≡ size + 5) }
+        ensures grown { let size = length (whole self.old.granularity self.old.entries) in
+            (IsLong (self.old.journal.current.place + 1) size → ⊥)
             → OnOk result (self.new.journal.current.place ≡ self.old.journal.current.place) }
-        ensures untouched { let size = length (whole self.old.granularity self.old.entries) in (IsLong (self.old.journal.current.place + 1) size → ⊥)
+        ensures untouched { let size = length (whole self.old.granularity self.old.entries) in
+            (IsLong (self.old.journal.current.place + 1) size → ⊥)
             → (result ≡ Ok tt) × (self.new.journal ≡ self.old.journal) × (disk.new ≡ disk.old) }
         ensures sound { (IsErrOf result DiskErr.Fault → ⊥) → self.new.journal.sound ≡ true }
-        ensures fault { IsErrOf result DiskErr.Fault → (self.new.journal.sound ≡ false) × Rose (D.faults disk.old) (D.faults disk.new) }
+        ensures fault { IsErrOf result DiskErr.Fault
+            → (self.new.journal.sound ≡ false) × Rose (D.faults disk.old) (D.faults disk.new) }
         ensures faults { D.faults disk.old ≤ D.faults disk.new }
     {
         if !is_long(self.journal.len(), self.listing.all()) {
@@ -245,14 +293,17 @@ impl Manifest {
         requires follow { AllCanFollow self.old.granularity self.old.entries changes.now }
         requires few { length (batch_of changes.now) ≤ GREATEST_BATCH }
         requires kept { IsTrue D.tells → IsKept self.old (D.files disk.old) (D.opened disk.old) (D.past disk.old) }
-        ensures commits { IsTrue D.tells → CommitsEntries Configured self.old.next result self.old self.new (standing D.Disk disk.old)
-            (standing D.Disk disk.new) }
+        ensures commits { IsTrue D.tells → CommitsEntries Configured self.old.next result self.old self.new
+            (standing D.Disk disk.old) (standing D.Disk disk.new) }
         ensures entries { OnOk result (self.new.entries ≡ self.old.next) }
-        ensures state { (self.new.granularity ≡ self.old.granularity) × (self.new.journal.name ≡ self.old.journal.name) }
-        ensures placed { OnOk result (self.new.journal.current.place ≡ self.old.journal.current.place + (5 + length (batch_of changes.now))) }
+        ensures state { (self.new.granularity ≡ self.old.granularity)
+            × (self.new.journal.name ≡ self.old.journal.name) }
+        ensures placed { OnOk result
+            (self.new.journal.current.place ≡ self.old.journal.current.place + (5 + length (batch_of changes.now))) }
         ensures sound { OnOk result (self.new.journal.sound ≡ true) }
         ensures doubtful { OnErr result ((self.new.entries ≡ self.old.entries) × (self.new.next ≡ self.old.next)) }
-        ensures fault { IsErrOf result DiskErr.Fault → (self.new.journal.sound ≡ false) × Rose (D.faults disk.old) (D.faults disk.new) }
+        ensures fault { IsErrOf result DiskErr.Fault
+            → (self.new.journal.sound ≡ false) × Rose (D.faults disk.old) (D.faults disk.new) }
         ensures memory { IsErrOf result DiskErr.Memory → (self.new.journal ≡ self.old.journal) × (disk.new ≡ disk.old) }
         ensures faults { D.faults disk.old ≤ D.faults disk.new }
     {
@@ -268,7 +319,12 @@ impl Manifest {
 
     fn of(journal: Journal, granularity: Granularity, listing: Listing, alloc: Global) -> Manifest
         requires { IsListing listing }
-        ensures { result ≡ record { journal = journal; granularity = granularity; entries = entries_of listing.lists.listed.entries; next = next_of listing } }
+        ensures { result ≡ record {
+          journal = journal;
+          granularity = granularity;
+          entries = entries_of listing.lists.listed.entries;
+          next = next_of listing;
+        } }
     {
         Manifest {
             journal,
@@ -287,12 +343,17 @@ fn configure<D: Disk>(
     g: Granularity,
 ) -> Result<Manifest, DiskErr>
     requires sound { IsTrue journal.sound }
-    requires settled { IsTrue D.tells → IsSettledWith journal (D.files disk.old) (D.opened disk.old) (D.past disk.old) [] }
-    ensures kept { IsTrue D.tells → IfOk result (λ m. IsKept m (D.files disk.new) (D.opened disk.new) (D.past disk.new)) }
+    requires settled { IsTrue D.tells
+        → IsSettledWith journal (D.files disk.old) (D.opened disk.old) (D.past disk.old) [] }
+    ensures kept { IsTrue D.tells
+        → IfOk result (λ m. IsKept m (D.files disk.new) (D.opened disk.new) (D.past disk.new)) }
     ensures are { IfOk result (λ m. AreEntries g m.entries) }
-    ensures manifest { IfOk result (λ m. (m.journal.name ≡ journal.name) × (m.granularity ≡ g) × (m.journal.sound ≡ true) × (m.entries ≡ [])) }
-    ensures any_moment { IsTrue D.tells → Passes (AtOwn journal.name (HasOneOf journal.name [] (config g ∷ []))) (D.past disk.old) (D.past disk.new) }
-    ensures elsewhere { IsTrue D.tells → (n : Name) → (IsOwn journal.name n → ⊥) → D.files disk.new n ≡ D.files disk.old n }
+    ensures manifest { IfOk result (λ m.
+        (m.journal.name ≡ journal.name) × (m.granularity ≡ g) × (m.journal.sound ≡ true) × (m.entries ≡ [])) }
+    ensures any_moment { IsTrue D.tells
+        → Passes (AtOwn journal.name (HasOneOf journal.name [] (config g ∷ []))) (D.past disk.old) (D.past disk.new) }
+    ensures elsewhere { IsTrue D.tells → (n : Name) → (IsOwn journal.name n → ⊥)
+        → D.files disk.new n ≡ D.files disk.old n }
     ensures opened { IsTrue D.tells → D.opened disk.new ≡ D.opened disk.old }
     ensures faults { D.faults disk.old ≤ D.faults disk.new }
     ensures cause { IsErrOf result DiskErr.Fault → Rose (D.faults disk.old) (D.faults disk.new) }
@@ -315,7 +376,8 @@ fn opened(
     asked: Granularity,
 ) -> Result<Manifest, ManifestErr>
     requires { AreLists lists.listed.entries }
-    ensures good { IfOk result (λ m. (m.journal ≡ journal) × (m.granularity ≡ asked) × (kept ≡ asked) × (m.entries ≡ entries_of lists.listed.entries)) }
+    ensures good { IfOk result (λ m. (m.journal ≡ journal) × (m.granularity ≡ asked) × (kept ≡ asked)
+        × (m.entries ≡ entries_of lists.listed.entries)) }
     ensures differs { IfErr result (λ e. (e ≡ GranularityDiffers kept asked) × (kept ≢ asked)) }
 {
     if kept != asked {

@@ -1,4 +1,5 @@
-// The entries of one series, in order, and a change among them. Its place is found by bisection, and what stands behind it moves.
+// The entries of one series, in order, and a change among them. Its place is found by bisection, and
+// what stands behind it moves.
 ghost use Rattle.std.specs.Prelude.{◌≡◌, ◌≤◌, ◌<◌, ◌+◌, ℕ, true, false, nat_lt, length, IfOk, IfErr, is_ok};
 ghost use Rattle.std.specs.List.Sorted.{IsPartitionPoint};
 ghost use Rattle.store_manifest.specs.Entries.{place, place_of, is_listed, put, changed};
@@ -21,7 +22,8 @@ pub(crate) fn find(entries: &[Entry], series: u32, start: u64) -> Result<usize, 
     Ok(at)
 }
 
-/// Whether the partition of one of a series' entries begins at this moment. The entries are those of one series, in order.
+/// Whether the partition of one of a series' entries begins at this moment. The entries are
+/// those of one series, in order.
 pub fn begins_at(entries: &[Entry], start: u64) -> bool
     ensures { (series : ℕ) → OfSeries series entries.now → result ≡ is_listed entries.now (series, start) }
 {
@@ -35,7 +37,9 @@ pub fn begins_at(entries: &[Entry], start: u64) -> bool
 // How many begin before this moment.
 fn front(entries: &[Entry], start: u64) -> usize
     ensures within { result ≤ length entries.now }
-    ensures point { (series : ℕ) → OfSeries series entries.now → IsPartitionPoint (λ e. nat_lt e.part.start start ≡ true) (λ e. nat_lt e.part.start start ≡ false) entries.now result }
+    ensures point { (series : ℕ) → OfSeries series entries.now
+        → IsPartitionPoint (λ e. nat_lt e.part.start start ≡ true)
+        (λ e. nat_lt e.part.start start ≡ false) entries.now result }
 {
     entries.partition_point(|entry| entry.part.start < start)
 }

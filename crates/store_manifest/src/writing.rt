@@ -55,7 +55,8 @@ fn put_place(out: &mut Vec<u8>, series: u32, start: u64) -> Result<(), AllocErro
 }
 
 fn put_samples(out: &mut Vec<u8>, first: u64, last: u64, count: u64) -> Result<(), AllocError>
-    ensures { OnOk result (out.new.items ≡ out.old.items ++ (to_le_bytes w64 first ++ (to_le_bytes w64 last ++ to_le_bytes w64 count))) }
+    ensures { OnOk result
+        (out.new.items ≡ out.old.items ++ (to_le_bytes w64 first ++ (to_le_bytes w64 last ++ to_le_bytes w64 count))) }
 {
     out.extend_from_slice(&first.to_le_bytes())?;
     out.extend_from_slice(&last.to_le_bytes())?;

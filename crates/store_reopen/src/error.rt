@@ -12,10 +12,10 @@ use std::alloc::{AllocError, AllocFailed};
 pub enum ReopenErr<D: Disk> {
     /// The disk failed, which it has counted.
     DiskFault(D),
-    /// This file is the first that is wrong. Of a file of a journal `at` is the place of the open gate behind which something is
-    /// cut off or of the first batch that means nothing or isn't the next generation, and 0 where a later generation's file is
-    /// absent or shorter than two bytes; of a manifest it is 0 where an entry is of no row; of a listed file it is its length,
-    /// 0 where it is absent.
+    /// This file is the first that is wrong. Of a file of a journal `at` is the place of the open gate behind which
+    /// something is cut off or of the first batch that means nothing or isn't the next generation, and 0 where a later
+    /// generation's file is absent or shorter than two bytes; of a manifest it is 0 where an entry is of no row; of a
+    /// listed file it is its length, 0 where it is absent.
     Damaged {
         disk: D,
         name: FileName,

@@ -1,5 +1,6 @@
 // The listed files: whether each is of a row, there, and long enough.
-ghost use Rattle.std.specs.Prelude.{◌≡◌, ◌≢◌, ◌≤◌, ◌<◌, ◌+◌, ℕ, List, All, Contains, true, false, IfErr, IfOk, IfSome, OnOk, IsErrOf, IsTrue, None, Err, length};
+ghost use Rattle.std.specs.Prelude.{◌≡◌, ◌≢◌, ◌≤◌, ◌<◌, ◌+◌, ℕ, List, All, Contains, true, false, IfErr, IfOk, IfSome};
+ghost use Rattle.std.specs.Prelude.{OnOk, IsErrOf, IsTrue, None, Err, length};
 ghost use Rattle.disk_model.specs.Files.{Name, Files, Rose, HasFile};
 ghost use Rattle.disk_model.specs.Past.{Passes};
 ghost use Rattle.disk_model.specs.declared.disk.DiskErr.TheVariants.{Fault};
@@ -24,7 +25,9 @@ use store_manifest::{Entry, Manifest, manifest_file};
 pub(crate) fn check_rows(alloc: Global, rows: &[Row], manifests: &[Manifest]) -> Result<(), Refusal>
     requires three { length manifests.now ≡ 3 }
     ensures of_rows { OnOk result (AtEach manifests.now (λ i m. All (HasRow rows.now) m.entries)) }
-    ensures told { (gs : List Granularity) (seen : Files) → length gs ≡ 3 → AreSaid gs seen rows.now (lists_of manifests.now) → IfErr result (IsTold gs seen) }
+    ensures told { (gs : List Granularity) (seen : Files) → length gs ≡ 3
+        → AreSaid gs seen rows.now (lists_of manifests.now)
+        → IfErr result (IsTold gs seen) }
     ensures no_fault { result ≢ Err (OfDisk Fault) }
 {
     for place in 0..STORES {
@@ -45,8 +48,8 @@ fn have_rows(rows: &[Row], manifest: &Manifest) -> bool
     manifest.all().all(|entry| (entry.series as usize) < count)
 }
 
-// Looks, store by store and in the order of each list, whether each listed file is there and long enough. Tells the first that isn't. It
-// reads nothing but lengths.
+// Looks, store by store and in the order of each list, whether each listed file is there and long enough. Tells the
+// first that isn't. It reads nothing but lengths.
 pub(crate) fn check_files<D: Disk>(
     alloc: Global,
     disk: &mut D,
@@ -55,9 +58,12 @@ pub(crate) fn check_files<D: Disk>(
 ) -> Result<(), Refusal>
     requires three { length manifests.now ≡ 3 }
     requires of_rows { AtEach manifests.now (λ i m. All (HasRow rows.now) m.entries) }
-    ensures there { IsTrue D.tells → OnOk result (AtEach manifests.now (λ i m. All (IsThere i (D.files disk.old) rows.now) m.entries)) }
-    ensures told { IsTrue D.tells → (gs : List Granularity) (seen : Files) → length gs ≡ 3 → AreSaid gs seen rows.now (lists_of manifests.now)
-        → ((n : Name) → n.0 ≢ 0 → D.files disk.old n ≡ seen n) → IfErr result (IsTold gs seen) }
+    ensures there { IsTrue D.tells
+        → OnOk result (AtEach manifests.now (λ i m. All (IsThere i (D.files disk.old) rows.now) m.entries)) }
+    ensures told { IsTrue D.tells → (gs : List Granularity) (seen : Files) → length gs ≡ 3
+        → AreSaid gs seen rows.now (lists_of manifests.now)
+        → ((n : Name) → n.0 ≢ 0 → D.files disk.old n ≡ seen n)
+        → IfErr result (IsTold gs seen) }
     ensures same { IsTrue D.tells → D.files disk.new ≡ D.files disk.old }
     ensures any_moment { IsTrue D.tells → Passes (λ a b. b ≡ a) (D.past disk.old) (D.past disk.new) }
     ensures opened { IsTrue D.tells → D.opened disk.new ≡ D.opened disk.old }
@@ -80,7 +86,8 @@ fn check_store<D: Disk>(
 ) -> Result<(), Refusal>
     requires place { place < 3 }
     requires of_rows { All (HasRow rows.now) manifest.now.entries }
-    ensures there { IsTrue D.tells → OnOk result (All (IsThere place (D.files disk.old) rows.now) manifest.now.entries) }
+    ensures there { IsTrue D.tells
+        → OnOk result (All (IsThere place (D.files disk.old) rows.now) manifest.now.entries) }
     ensures told { IsTrue D.tells → IfErr result (IsToldShort place (D.files disk.old) rows.now manifest.now.entries) }
     ensures same { IsTrue D.tells → D.files disk.new ≡ D.files disk.old }
     ensures any_moment { IsTrue D.tells → Passes (λ a b. b ≡ a) (D.past disk.old) (D.past disk.new) }
@@ -115,7 +122,8 @@ fn set_name(name: &mut FileName, store: u8, rows: &[Row], entry: &Entry) -> Resu
 
 // Where a file ends that is absent or shorter than this.
 fn shortfall<D: Disk>(disk: &mut D, name: &FileName, len: u64) -> Result<Option<u64>, DiskErr>
-    ensures long { IsTrue D.tells → IfOk result (λ r. r ≡ None → HasFile (D.files disk.old) name.now (λ b. len ≤ length b)) }
+    ensures long { IsTrue D.tells
+        → IfOk result (λ r. r ≡ None → HasFile (D.files disk.old) name.now (λ b. len ≤ length b)) }
     ensures short { IsTrue D.tells → IfOk result (λ r. IfSome r (λ at. EndsEarly len at (D.files disk.old name.now))) }
     ensures same { IsTrue D.tells → D.files disk.new ≡ D.files disk.old }
     ensures any_moment { IsTrue D.tells → Passes (λ a b. b ≡ a) (D.past disk.old) (D.past disk.new) }

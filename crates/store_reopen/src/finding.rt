@@ -1,5 +1,6 @@
 // The files of the stores that no manifest lists, and which of them may be listed.
-ghost use Rattle.std.specs.Prelude.{◌≡◌, ◌≤◌, ◌<◌, ◌+◌, ◌++◌, ◌↔◌, ℕ, List, All, IfOk, IfSome, IsErrOf, IsTrue, OnOk, Some, length, slice_get};
+ghost use Rattle.std.specs.Prelude.{◌≡◌, ◌≤◌, ◌<◌, ◌+◌, ◌++◌, ◌↔◌, ℕ, List, All, IfOk, IfSome, IsErrOf, IsTrue, OnOk};
+ghost use Rattle.std.specs.Prelude.{Some, length, slice_get};
 ghost use Rattle.disk_model.specs.Files.{Name, Files, Rose};
 ghost use Rattle.found_files.specs.Reading.{OnlyReads};
 ghost use Rattle.pv_catalog.specs.Rows.{AreRows};
@@ -46,7 +47,8 @@ pub(crate) fn find_unlisted<D: Disk>(
     requires rows { AreRows catalogue.now.rows }
     requires entries { AtEach manifests.now (λ i m. AreEntries m.granularity m.entries) }
     requires of_rows { AtEach manifests.now (λ i m. All (HasRow catalogue.now.rows) m.entries) }
-    ensures found { IsTrue D.tells → IfOk result (λ v. AreUnlistedOf (D.files disk.old) catalogue.now.rows manifests.now v.items) }
+    ensures found { IsTrue D.tells
+        → IfOk result (λ v. AreUnlistedOf (D.files disk.old) catalogue.now.rows manifests.now v.items) }
     ensures shape { IfOk result (λ v. All (IsOfPlace manifests.now) v.items) }
     ensures read { OnlyReads D.Disk disk.old disk.new }
     ensures cause { IsErrOf result DiskErr.Fault → Rose (D.faults disk.old) (D.faults disk.new) }
@@ -73,8 +75,10 @@ fn find_in<D: Disk>(
     requires of_rows { All (HasRow catalogue.now.rows) manifest.now.entries }
     ensures found { IsTrue D.tells
         → OnOk result ((xs : List UnlistedValue) × (unlisted.new.items ≡ unlisted.old.items ++ xs)
-        × AreUnlisted manifest.now.granularity (D.files disk.old) ((place + 1, catalogue.now.rows), manifest.now.entries) place xs) }
-    ensures shape { (ms : List ManifestState) → slice_get ms place ≡ Some manifest.now → All (IsOfPlace ms) unlisted.old.items
+        × AreUnlisted manifest.now.granularity (D.files disk.old)
+        ((place + 1, catalogue.now.rows), manifest.now.entries) place xs) }
+    ensures shape { (ms : List ManifestState) → slice_get ms place ≡ Some manifest.now
+        → All (IsOfPlace ms) unlisted.old.items
         → OnOk result (All (IsOfPlace ms) unlisted.new.items) }
     ensures read { OnlyReads D.Disk disk.old disk.new }
     ensures cause { IsErrOf result DiskErr.Fault → Rose (D.faults disk.old) (D.faults disk.new) }
@@ -107,8 +111,10 @@ fn look_at<D: Disk>(
     requires of_rows { All (HasRow catalogue.now.rows) manifest.now.entries }
     ensures found { IsTrue D.tells → All (λ (n : Name). n.0 ≡ place + 1) names.now
         → OnOk result ((xs : List UnlistedValue) × (unlisted.new.items ≡ unlisted.old.items ++ xs)
-        × Finds manifest.now.granularity (D.files disk.old) ((place + 1, catalogue.now.rows), manifest.now.entries) place names.now xs) }
-    ensures shape { (ms : List ManifestState) → slice_get ms place ≡ Some manifest.now → All (IsOfPlace ms) unlisted.old.items
+        × Finds manifest.now.granularity (D.files disk.old)
+        ((place + 1, catalogue.now.rows), manifest.now.entries) place names.now xs) }
+    ensures shape { (ms : List ManifestState) → slice_get ms place ≡ Some manifest.now
+        → All (IsOfPlace ms) unlisted.old.items
         → OnOk result (All (IsOfPlace ms) unlisted.new.items) }
     ensures read { OnlyReads D.Disk disk.old disk.new }
     ensures cause { IsErrOf result DiskErr.Fault → Rose (D.faults disk.old) (D.faults disk.new) }
@@ -137,7 +143,8 @@ fn is_unlisted(
     requires rows { AreRows catalogue.now.rows }
     requires entries { AreEntries manifest.now.granularity manifest.now.entries }
     requires of_rows { All (HasRow catalogue.now.rows) manifest.now.entries }
-    ensures { (place : ℕ) → file.now.0 ≡ place + 1 → IfOk result (λ b. IsTrue b ↔ IsUnlisted ((place + 1, catalogue.now.rows), manifest.now.entries) file.now) }
+    ensures { (place : ℕ) → file.now.0 ≡ place + 1
+        → IfOk result (λ b. IsTrue b ↔ IsUnlisted ((place + 1, catalogue.now.rows), manifest.now.entries) file.now) }
 {
     let path = file.path.as_slice();
     match own_file(alloc, catalogue, manifest.granularity(), path)? {

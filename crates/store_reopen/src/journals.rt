@@ -1,5 +1,6 @@
 // The loads of the journals, and where a bad batch stands.
-ghost use Rattle.std.specs.Prelude.{◌≡◌, ◌≤◌, ◌<◌, ◌+◌, ℕ, List, length, take, slice_get, true, Some, IfOk, IfErr, IsOk, OnOk, IsErrOf, IsTrue, Err};
+ghost use Rattle.std.specs.Prelude.{◌≡◌, ◌≤◌, ◌<◌, ◌+◌, ℕ, List, length, take, slice_get, true, Some, IfOk, IfErr};
+ghost use Rattle.std.specs.Prelude.{IsOk, OnOk, IsErrOf, IsTrue, Err};
 ghost use Rattle.disk_model.specs.Files.{Name, Files, Rose};
 ghost use Rattle.disk_model.specs.Past.{Passes};
 ghost use Rattle.disk_model.specs.declared.disk.DiskErr.TheVariants.{Fault};
@@ -36,12 +37,15 @@ pub(crate) const STORES: u8 = 3;
 // Loads the catalogue, or tells where it is bad.
 pub(crate) fn load_catalogue<D: Disk>(alloc: Global, disk: &mut D) -> Result<Catalogue, Refusal>
     requires unopened { IsTrue D.tells → NoneOpened catalogue_name (D.opened disk.old) }
-    ensures stored { IsTrue D.tells → IfOk result (λ c. IsStored c (D.files disk.new) (D.opened disk.new) (D.past disk.new)) }
+    ensures stored { IsTrue D.tells
+        → IfOk result (λ c. IsStored c (D.files disk.new) (D.opened disk.new) (D.past disk.new)) }
     ensures rows { IsTrue D.tells → IfOk result (λ c. Says IsCatalogue c.rows catalogue_name (D.files disk.old)) }
     ensures journal { IfOk result (λ c. (c.journal.name ≡ catalogue_name) × (c.journal.sound ≡ true)) }
     ensures told { IsTrue D.tells → (gs : List GranularityValue) → IfErr result (IsTold gs (D.files disk.old)) }
-    ensures others { IsTrue D.tells → (n : Name) → (IsOwn catalogue_name n → ⊥) → D.files disk.new n ≡ D.files disk.old n }
-    ensures keeps { IsTrue D.tells → (gs : List GranularityValue) → KeepsSaid gs (D.files disk.old) (D.opened disk.old) (D.past disk.old) (D.files disk.new) (D.opened disk.new) (D.past disk.new) }
+    ensures others { IsTrue D.tells → (n : Name) → (IsOwn catalogue_name n → ⊥)
+        → D.files disk.new n ≡ D.files disk.old n }
+    ensures keeps { IsTrue D.tells → (gs : List GranularityValue) → KeepsSaid gs (D.files disk.old) (D.opened disk.old)
+        (D.past disk.old) (D.files disk.new) (D.opened disk.new) (D.past disk.new) }
     ensures faults { D.faults disk.old ≤ D.faults disk.new }
     ensures cause { result ≡ Err (OfDisk Fault) → Rose (D.faults disk.old) (D.faults disk.new) }
 {
@@ -66,19 +70,25 @@ pub(crate) fn load_manifests<D: Disk>(
     config: &Config,
 ) -> Result<Vec<Manifest>, Refusal>
     requires unopened { IsTrue D.tells → (i : ℕ) → i < 3 → NoneOpened (manifest_name (i + 1)) (D.opened disk.old) }
-    ensures kept { IsTrue D.tells → IfOk result (λ ms. AtEach ms.items (λ i m. IsKept m (D.files disk.new) (D.opened disk.new) (D.past disk.new))) }
-    ensures said { IsTrue D.tells → IfOk result (λ ms. AtEach ms.items (λ i m. Says (Folds m.granularity) m.entries (manifest_name (i + 1)) (D.files disk.old))) }
+    ensures kept { IsTrue D.tells → IfOk result (λ ms.
+        AtEach ms.items (λ i m. IsKept m (D.files disk.new) (D.opened disk.new) (D.past disk.new))) }
+    ensures said { IsTrue D.tells → IfOk result (λ ms.
+        AtEach ms.items (λ i m. Says (Folds m.granularity) m.entries (manifest_name (i + 1)) (D.files disk.old))) }
     ensures three { IfOk result (λ ms. length ms.items ≡ 3) }
     ensures names { IfOk result (λ ms. AtEach ms.items (λ i m. m.journal.name ≡ manifest_name (i + 1))) }
     ensures sound { IfOk result (λ ms. AtEach ms.items (λ i m. m.journal.sound ≡ true)) }
-    ensures granularity { IfOk result (λ ms. AtEach ms.items (λ i m. slice_get (stores_of config.now) i ≡ Some m.granularity)) }
+    ensures granularity { IfOk result (λ ms.
+        AtEach ms.items (λ i m. slice_get (stores_of config.now) i ≡ Some m.granularity)) }
     ensures nested { IsOk result → AllNested (stores_of config.now) }
     ensures are { IfOk result (λ ms. AtEach ms.items (λ i m. AreEntries m.granularity m.entries)) }
     ensures told { IsTrue D.tells → (seen : Files) (rows : List Row) → Says IsCatalogue rows catalogue_name seen
-        → ((i : ℕ) (n : Name) → i < 3 → IsOwn (manifest_name (i + 1)) n → D.files disk.old n ≡ seen n) → IfErr result (IsTold (stores_of config.now) seen) }
-    ensures catalogue { IsTrue D.tells → (c : CatalogueState) → c.journal.name ≡ catalogue_name → IsStored c (D.files disk.old) (D.opened disk.old) (D.past disk.old)
+        → ((i : ℕ) (n : Name) → i < 3 → IsOwn (manifest_name (i + 1)) n → D.files disk.old n ≡ seen n)
+        → IfErr result (IsTold (stores_of config.now) seen) }
+    ensures catalogue { IsTrue D.tells → (c : CatalogueState) → c.journal.name ≡ catalogue_name
+        → IsStored c (D.files disk.old) (D.opened disk.old) (D.past disk.old)
         → OnOk result (IsStored c (D.files disk.new) (D.opened disk.new) (D.past disk.new)) }
-    ensures keeps { IsTrue D.tells → KeepsSaid (stores_of config.now) (D.files disk.old) (D.opened disk.old) (D.past disk.old) (D.files disk.new) (D.opened disk.new) (D.past disk.new) }
+    ensures keeps { IsTrue D.tells → KeepsSaid (stores_of config.now) (D.files disk.old) (D.opened disk.old)
+        (D.past disk.old) (D.files disk.new) (D.opened disk.new) (D.past disk.new) }
     ensures faults { D.faults disk.old ≤ D.faults disk.new }
     ensures cause { result ≡ Err (OfDisk Fault) → Rose (D.faults disk.old) (D.faults disk.new) }
 {
@@ -90,8 +100,8 @@ pub(crate) fn load_manifests<D: Disk>(
     Ok(manifests)
 }
 
-// Loads the manifest of the store at this place, or tells where it is bad. Where it has no batch, one that says the granularity is
-// committed.
+// Loads the manifest of the store at this place, or tells where it is bad. Where it has no batch, one that says
+// the granularity is committed.
 fn load_manifest<D: Disk>(
     alloc: Global,
     disk: &mut D,
@@ -100,19 +110,29 @@ fn load_manifest<D: Disk>(
 ) -> Result<Manifest, Refusal>
     requires place { place < 3 }
     requires unopened { IsTrue D.tells → NoneOpened (manifest_name (place + 1)) (D.opened disk.old) }
-    ensures kept { IsTrue D.tells → IfOk result (λ m. IsKept m (D.files disk.new) (D.opened disk.new) (D.past disk.new)) }
-    ensures entries { IsTrue D.tells → IfOk result (λ m. Lists m.granularity m.entries (manifest_name (place + 1)) (D.files disk.old)) }
+    ensures kept { IsTrue D.tells
+        → IfOk result (λ m. IsKept m (D.files disk.new) (D.opened disk.new) (D.past disk.new)) }
+    ensures entries { IsTrue D.tells
+        → IfOk result (λ m. Lists m.granularity m.entries (manifest_name (place + 1)) (D.files disk.old)) }
     ensures are { IfOk result (λ m. AreEntries m.granularity m.entries) }
     ensures nested { IsOk result → (i : ℕ) → i < 2 → i + 1 ≡ place → AreNested i (stores_of config.now) }
-    ensures manifest { IfOk result (λ m. (m.journal.name ≡ manifest_name (place + 1)) × (m.journal.sound ≡ true) × (slice_get (stores_of config.now) place ≡ Some m.granularity)) }
-    ensures told { IsTrue D.tells → (seen : Files) (rows : List Row) (lists : Listings) → Says IsCatalogue rows catalogue_name seen → AreSaidBelow place (stores_of config.now) seen lists
-        → ((n : Name) → IsOwn (manifest_name (place + 1)) n → D.files disk.old n ≡ seen n) → IfErr result (IsTold (stores_of config.now) seen) }
-    ensures others { IsTrue D.tells → (n : Name) → (IsOwn (manifest_name (place + 1)) n → ⊥) → OnOk result (D.files disk.new n ≡ D.files disk.old n) }
-    ensures catalogue { IsTrue D.tells → (c : CatalogueState) → c.journal.name ≡ catalogue_name → IsStored c (D.files disk.old) (D.opened disk.old) (D.past disk.old)
+    ensures manifest { IfOk result (λ m. (m.journal.name ≡ manifest_name (place + 1)) × (m.journal.sound ≡ true)
+        × (slice_get (stores_of config.now) place ≡ Some m.granularity)) }
+    ensures told { IsTrue D.tells → (seen : Files) (rows : List Row) (lists : Listings)
+        → Says IsCatalogue rows catalogue_name seen
+        → AreSaidBelow place (stores_of config.now) seen lists
+        → ((n : Name) → IsOwn (manifest_name (place + 1)) n → D.files disk.old n ≡ seen n)
+        → IfErr result (IsTold (stores_of config.now) seen) }
+    ensures others { IsTrue D.tells → (n : Name) → (IsOwn (manifest_name (place + 1)) n → ⊥)
+        → OnOk result (D.files disk.new n ≡ D.files disk.old n) }
+    ensures catalogue { IsTrue D.tells → (c : CatalogueState) → c.journal.name ≡ catalogue_name
+        → IsStored c (D.files disk.old) (D.opened disk.old) (D.past disk.old)
         → OnOk result (IsStored c (D.files disk.new) (D.opened disk.new) (D.past disk.new)) }
-    ensures earlier { IsTrue D.tells → (i : ℕ) (m : ManifestState) → i < place → m.journal.name ≡ manifest_name (i + 1) → IsKept m (D.files disk.old) (D.opened disk.old) (D.past disk.old)
+    ensures earlier { IsTrue D.tells → (i : ℕ) (m : ManifestState) → i < place → m.journal.name ≡ manifest_name (i + 1)
+        → IsKept m (D.files disk.old) (D.opened disk.old) (D.past disk.old)
         → OnOk result (IsKept m (D.files disk.new) (D.opened disk.new) (D.past disk.new)) }
-    ensures keeps { IsTrue D.tells → KeepsSaid (stores_of config.now) (D.files disk.old) (D.opened disk.old) (D.past disk.old) (D.files disk.new) (D.opened disk.new) (D.past disk.new) }
+    ensures keeps { IsTrue D.tells → KeepsSaid (stores_of config.now) (D.files disk.old) (D.opened disk.old)
+        (D.past disk.old) (D.files disk.new) (D.opened disk.new) (D.past disk.new) }
     ensures faults { D.faults disk.old ≤ D.faults disk.new }
     ensures cause { result ≡ Err (OfDisk Fault) → Rose (D.faults disk.old) (D.faults disk.new) }
 {
@@ -134,7 +154,8 @@ fn load_manifest<D: Disk>(
     }
 }
 
-// The file of a journal's current generation, and the place of a batch's open gate in it. It loads the journal once more.
+// The file of a journal's current generation, and the place of a batch's open gate in it. It
+// loads the journal once more.
 fn gate_of<D: Disk>(
     alloc: Global,
     disk: &mut D,
@@ -144,7 +165,8 @@ fn gate_of<D: Disk>(
     requires unopened { IsTrue D.tells → NoneOpened name.now (D.opened disk.old) }
     ensures gate { IsTrue D.tells → IfOk result (λ r. IsGate name.now (D.files disk.old) number r.0 r.1) }
     ensures kept { IsTrue D.tells → AtOwn name.now (KeepsBatches name.now) (D.files disk.old) (D.files disk.new) }
-    ensures any_moment { IsTrue D.tells → Passes (AtOwn name.now (KeepsBatches name.now)) (D.past disk.old) (D.past disk.new) }
+    ensures any_moment { IsTrue D.tells
+        → Passes (AtOwn name.now (KeepsBatches name.now)) (D.past disk.old) (D.past disk.new) }
     ensures opened { IsTrue D.tells → (n : Name) → (IsOwn name.now n → ⊥) → D.opened disk.new n ≡ D.opened disk.old n }
     ensures unopened { IsTrue D.tells → NoneOpened name.now (D.opened disk.new) }
     ensures faults { D.faults disk.old ≤ D.faults disk.new }

@@ -1,6 +1,7 @@
 // The opening of a disk, from its journals to its listed files.
 ghost use Rattle.std.specs.FinMap as map;
-ghost use Rattle.std.specs.Prelude.{◌≡◌, ◌≢◌, ◌≤◌, ◌<◌, ◌+◌, [], ℕ, List, All, IfOk, IfErr, IsOk, IsSome, IsTrue, None, OnOk, Err, length, ◌↔◌};
+ghost use Rattle.std.specs.Prelude.{◌≡◌, ◌≢◌, ◌≤◌, ◌<◌, ◌+◌, [], ℕ, List, All, IfOk, IfErr, IsOk, IsSome, IsTrue, None};
+ghost use Rattle.std.specs.Prelude.{OnOk, Err, length, ◌↔◌};
 ghost use Rattle.disk_model.specs.Files.{Name, Rose};
 ghost use Rattle.disk_model.specs.Past.{Passes};
 ghost use Rattle.disk_model.specs.declared.disk.DiskErr.TheVariants.{Fault};
@@ -13,7 +14,8 @@ ghost use Rattle.tier_store.specs.Change.{Has};
 ghost use Rattle.tier_store.specs.Pinned.{seen_all};
 ghost use Rattle.store_reopen.specs.OneJournal.{NoneOpened};
 ghost use Rattle.store_reopen.specs.Verdict.{AreSaid, IsThere, IsWhole, IsDamaged, Differs};
-ghost use Rattle.store_reopen.specs.Reopen.{IsUnopened, OpensEither, HasLoaded, HasRead, IsReady, IsSwept, LeavesSite, Reopens, Sweeps, loaded, stores_of, lists_of, disk_of};
+ghost use Rattle.store_reopen.specs.Reopen.{IsUnopened, OpensEither, HasLoaded, HasRead, IsReady, IsSwept, LeavesSite};
+ghost use Rattle.store_reopen.specs.Reopen.{Reopens, Sweeps, loaded, stores_of, lists_of, disk_of};
 ghost use Rattle.store_reopen.specs.Loading.{KeepsSaid};
 ghost use Rattle.store_reopen.specs.Refusal.{IsTold};
 ghost use Rattle.store_reopen.specs.Strays.{HaveNoStray, IsStrayBelow, adoption_name};
@@ -33,17 +35,19 @@ use std::alloc::Global;
 use store_manifest::Manifest;
 use tier_store::TierStore;
 
-/// Opens a disk as three stores, in the configured granularities, and removes strays. What the disk's image holds is what the stores hold,
-/// with no pin and nothing in limbo, and they keep the settings. It needs that no journal of the disk was opened, and no listed file beyond
-/// its listed length.
+/// Opens a disk as three stores, in the configured granularities, and removes strays. What the disk's image holds is
+/// what the stores hold, with no pin and nothing in limbo, and they keep the settings. It needs that no journal of the
+/// disk was opened, and no listed file beyond its listed length.
 ///
-/// The first that is wrong is told, in this order: the catalogue; the manifests of stores 1 to 3, each with its granularity; an entry of
-/// no row; the listed files, store by store and in the order of series and time. Of files it looks only at lengths. `DiskFault` comes only
-/// where the disk's count of faults rose in the call; `Memory` alone may come at any time.
+/// The first that is wrong is told, in this order: the catalogue; the manifests of stores 1 to 3, each with its
+/// granularity; an entry of no row; the listed files, store by store and in the order of series and time. Of files
+/// it looks only at lengths. `DiskFault` comes only where the disk's count of faults rose in the call; `Memory`
+/// alone may come at any time.
 ///
-/// Strays are removed once all that is listed was found, each with a sync. At `Ok` none is left: a file of stores 1 to 3 that is named as
-/// that of a row and of a partition of its store is listed there. Every other file stays. After `DiskFault` and `Memory` some may be left.
-/// While store 0 has a file `adopt`, an adoption isn't finished: no file counts as a stray then, and none is removed.
+/// Strays are removed once all that is listed was found, each with a sync. At `Ok` none is left: a file of stores 1 to
+/// 3 that is named as that of a row and of a partition of its store is listed there. Every other file stays. After
+/// `DiskFault` and `Memory` some may be left. While store 0 has a file `adopt`, an adoption isn't finished: no file
+/// counts as a stray then, and none is removed.
 pub fn reopen<D: Disk>(
     alloc: Global,
     disk: D,
@@ -51,25 +55,33 @@ pub fn reopen<D: Disk>(
 ) -> Result<TierStore<D>, ReopenErr<D>>
     requires unopened { IsTrue D.tells → IsUnopened (D.files disk) (D.opened disk) }
 
-    // What reads give is held from then on, if each image holds that or one thing more; and each disk that opens has rows and lists files.
-    ensures stands { IsTrue D.tells → (before after : Stores) → OpensEither (stores_of config.now) (D.past disk) before after
+    // What reads give is held from then on, if each image holds that or one thing more; and each disk that opens
+    // has rows and lists files.
+    ensures stands { IsTrue D.tells → (before after : Stores)
+        → OpensEither (stores_of config.now) (D.past disk) before after
         → IfOk result (λ s. HasRead D.Disk (stores_of config.now) disk s before after) }
     ensures has { IfOk result (λ s. (held : Stores) × Has D.tells (seen D.Disk s) held) }
-    ensures said { IsTrue D.tells → IfOk result (λ s. let now = seen D.Disk s in AreSaid (stores_of config.now) (D.files disk) now.catalogue.rows (lists_of now.manifests)) }
-    ensures ready { IfOk result (λ s. let now = seen D.Disk s in IsReady (stores_of config.now) now.catalogue now.manifests) }
+    ensures said { IsTrue D.tells → IfOk result (λ s. let now = seen D.Disk s in
+        AreSaid (stores_of config.now) (D.files disk) now.catalogue.rows (lists_of now.manifests)) }
+    ensures ready { IfOk result (λ s. let now = seen D.Disk s in
+        IsReady (stores_of config.now) now.catalogue now.manifests) }
     ensures fresh { IfOk result (λ s. (s.limbo.items ≡ []) × (s.pinned ≡ map.empty)) }
     ensures settings { IfOk result (λ s. s.config ≡ config.now) }
 
     ensures whole { IsTrue D.tells → IsOk result → IsWhole (stores_of config.now) (D.files disk) }
-    ensures damaged { IsTrue D.tells → (d : D) (name : Name) (at : ℕ) → result ≡ Err (Damaged d name at) → IsDamaged (stores_of config.now) (D.files disk) name at }
-    ensures differs { IsTrue D.tells → (d : D) (kept asked : GranularityValue) → result ≡ Err (GranularityDiffers d kept asked)
+    ensures damaged { IsTrue D.tells → (d : D) (name : Name) (at : ℕ) → result ≡ Err (Damaged d name at)
+        → IsDamaged (stores_of config.now) (D.files disk) name at }
+    ensures differs { IsTrue D.tells → (d : D) (kept asked : GranularityValue)
+        → result ≡ Err (GranularityDiffers d kept asked)
         → Differs (stores_of config.now) (D.files disk) kept asked }
 
-    // No stray is left, where no adoption is unfinished. A crash at any moment leaves what the image held, and the disk can be opened again.
-    // Of store 0 the file `adopt` stays as it is, and so does every other one that is no journal's. Journals keep their batches, also where the image
-    // is refused.
-    ensures swept { IsTrue D.tells → IfOk result (λ s. IsSwept (stores_of config.now) (D.files disk) (D.files s.disk) (D.past s.disk)) }
-    ensures tidy { IsTrue D.tells → D.files disk adoption_name ≡ None → IfOk result (λ s. HaveNoStray (seen_all D.Disk s)) }
+    // No stray is left, where no adoption is unfinished. A crash at any moment leaves what the image held, and the disk
+    // can be opened again. Of store 0 the file `adopt` stays as it is, and so does every other one that is no
+    // journal's. Journals keep their batches, also where the image is refused.
+    ensures swept { IsTrue D.tells
+        → IfOk result (λ s. IsSwept (stores_of config.now) (D.files disk) (D.files s.disk) (D.past s.disk)) }
+    ensures tidy { IsTrue D.tells → D.files disk adoption_name ≡ None
+        → IfOk result (λ s. HaveNoStray (seen_all D.Disk s)) }
     ensures sweeps { IsTrue D.tells → Sweeps D.Disk (stores_of config.now) disk (disk_of result) }
     ensures site { IsTrue D.tells → LeavesSite D.Disk (stores_of config.now) disk (disk_of result) }
     ensures faults { D.faults disk ≤ D.faults (disk_of result) }
@@ -98,21 +110,26 @@ pub fn open_to_read<D: Disk>(
     requires unopened { IsTrue D.tells → IsUnopened (D.files disk) (D.opened disk) }
 
     // The first nine clauses and the last three are those of `reopen`.
-    ensures stands { IsTrue D.tells → (before after : Stores) → OpensEither (stores_of config.now) (D.past disk) before after
+    ensures stands { IsTrue D.tells → (before after : Stores)
+        → OpensEither (stores_of config.now) (D.past disk) before after
         → IfOk result (λ s. HasRead D.Disk (stores_of config.now) disk s before after) }
     ensures has { IfOk result (λ s. (held : Stores) × Has D.tells (seen D.Disk s) held) }
-    ensures said { IsTrue D.tells → IfOk result (λ s. let now = seen D.Disk s in AreSaid (stores_of config.now) (D.files disk) now.catalogue.rows (lists_of now.manifests)) }
-    ensures ready { IfOk result (λ s. let now = seen D.Disk s in IsReady (stores_of config.now) now.catalogue now.manifests) }
+    ensures said { IsTrue D.tells → IfOk result (λ s. let now = seen D.Disk s in
+        AreSaid (stores_of config.now) (D.files disk) now.catalogue.rows (lists_of now.manifests)) }
+    ensures ready { IfOk result (λ s. let now = seen D.Disk s in
+        IsReady (stores_of config.now) now.catalogue now.manifests) }
     ensures fresh { IfOk result (λ s. (s.limbo.items ≡ []) × (s.pinned ≡ map.empty)) }
     ensures settings { IfOk result (λ s. s.config ≡ config.now) }
 
     ensures whole { IsTrue D.tells → IsOk result → IsWhole (stores_of config.now) (D.files disk) }
-    ensures damaged { IsTrue D.tells → (d : D) (name : Name) (at : ℕ) → result ≡ Err (Damaged d name at) → IsDamaged (stores_of config.now) (D.files disk) name at }
-    ensures differs { IsTrue D.tells → (d : D) (kept asked : GranularityValue) → result ≡ Err (GranularityDiffers d kept asked)
+    ensures damaged { IsTrue D.tells → (d : D) (name : Name) (at : ℕ) → result ≡ Err (Damaged d name at)
+        → IsDamaged (stores_of config.now) (D.files disk) name at }
+    ensures differs { IsTrue D.tells → (d : D) (kept asked : GranularityValue)
+        → result ≡ Err (GranularityDiffers d kept asked)
         → Differs (stores_of config.now) (D.files disk) kept asked }
 
-    // A crash at any moment leaves what the image held, and the disk can be opened again. The file `adopt` and all others of store 0 that are
-    // no journals' stay, and journals keep their batches.
+    // A crash at any moment leaves what the image held, and the disk can be opened again. The file `adopt` and all
+    // others of store 0 that are no journals' stay, and journals keep their batches.
     ensures reopens { IsTrue D.tells → Reopens D.Disk (stores_of config.now) disk (disk_of result) }
     ensures site { IsTrue D.tells → LeavesSite D.Disk (stores_of config.now) disk (disk_of result) }
     ensures faults { D.faults disk ≤ D.faults (disk_of result) }
@@ -139,15 +156,19 @@ fn open_stores<D: Disk>(
     config: &Config,
 ) -> Result<(Catalogue, Vec<Manifest>), Refusal>
     requires unopened { IsTrue D.tells → IsUnopened (D.files disk.old) (D.opened disk.old) }
-    ensures stands { IsTrue D.tells → (before after : Stores) → OpensEither (stores_of config.now) (D.past disk.old) before after
+    ensures stands { IsTrue D.tells → (before after : Stores)
+        → OpensEither (stores_of config.now) (D.past disk.old) before after
         → IfOk result (λ r. HasLoaded D.Disk (stores_of config.now) disk.old r.0 r.1.items disk.new before after) }
     ensures has { IfOk result (λ r. (held : Stores) × Has D.tells (loaded D.Disk r.0 r.1.items disk.new) held) }
-    ensures said { IsTrue D.tells → IfOk result (λ r. AreSaid (stores_of config.now) (D.files disk.old) r.0.rows (lists_of r.1.items)) }
+    ensures said { IsTrue D.tells
+        → IfOk result (λ r. AreSaid (stores_of config.now) (D.files disk.old) r.0.rows (lists_of r.1.items)) }
     ensures whole { IsTrue D.tells → IsOk result → IsWhole (stores_of config.now) (D.files disk.old) }
     ensures ready { IfOk result (λ r. IsReady (stores_of config.now) r.0 r.1.items) }
     ensures told { IsTrue D.tells → IfErr result (IsTold (stores_of config.now) (D.files disk.old)) }
-    ensures swept { IsTrue D.tells → OnOk result (IsSwept (stores_of config.now) (D.files disk.old) (D.files disk.new) (D.past disk.new)) }
-    ensures gone { IsTrue D.tells → D.files disk.old adoption_name ≡ None → IfOk result (λ r. (n : Name) → IsStrayBelow 3 r.0.rows r.1.items n → D.files disk.new n ≡ None) }
+    ensures swept { IsTrue D.tells
+        → OnOk result (IsSwept (stores_of config.now) (D.files disk.old) (D.files disk.new) (D.past disk.new)) }
+    ensures gone { IsTrue D.tells → D.files disk.old adoption_name ≡ None
+        → IfOk result (λ r. (n : Name) → IsStrayBelow 3 r.0.rows r.1.items n → D.files disk.new n ≡ None) }
     ensures sweeps { IsTrue D.tells → Sweeps D.Disk (stores_of config.now) disk.old disk.new }
     ensures site { IsTrue D.tells → LeavesSite D.Disk (stores_of config.now) disk.old disk.new }
     ensures faults { D.faults disk.old ≤ D.faults disk.new }
@@ -157,7 +178,8 @@ fn open_stores<D: Disk>(
     load_and_sweep(alloc, disk, config, unfinished)
 }
 
-// Loads the journals, looks whether all that they list is there, and removes strays, but not while an adoption is unfinished.
+// Loads the journals, looks whether all that they list is there, and removes strays, but not while
+// an adoption is unfinished.
 fn load_and_sweep<D: Disk>(
     alloc: Global,
     disk: &mut D,
@@ -166,15 +188,19 @@ fn load_and_sweep<D: Disk>(
 ) -> Result<(Catalogue, Vec<Manifest>), Refusal>
     requires unopened { IsTrue D.tells → IsUnopened (D.files disk.old) (D.opened disk.old) }
     requires says { IsTrue D.tells → IsTrue unfinished ↔ IsSome (D.files disk.old adoption_name) }
-    ensures stands { IsTrue D.tells → (before after : Stores) → OpensEither (stores_of config.now) (D.past disk.old) before after
+    ensures stands { IsTrue D.tells → (before after : Stores)
+        → OpensEither (stores_of config.now) (D.past disk.old) before after
         → IfOk result (λ r. HasLoaded D.Disk (stores_of config.now) disk.old r.0 r.1.items disk.new before after) }
     ensures has { IfOk result (λ r. (held : Stores) × Has D.tells (loaded D.Disk r.0 r.1.items disk.new) held) }
-    ensures said { IsTrue D.tells → IfOk result (λ r. AreSaid (stores_of config.now) (D.files disk.old) r.0.rows (lists_of r.1.items)) }
+    ensures said { IsTrue D.tells
+        → IfOk result (λ r. AreSaid (stores_of config.now) (D.files disk.old) r.0.rows (lists_of r.1.items)) }
     ensures whole { IsTrue D.tells → IsOk result → IsWhole (stores_of config.now) (D.files disk.old) }
     ensures ready { IfOk result (λ r. IsReady (stores_of config.now) r.0 r.1.items) }
     ensures told { IsTrue D.tells → IfErr result (IsTold (stores_of config.now) (D.files disk.old)) }
-    ensures swept { IsTrue D.tells → OnOk result (IsSwept (stores_of config.now) (D.files disk.old) (D.files disk.new) (D.past disk.new)) }
-    ensures gone { IsTrue D.tells → D.files disk.old adoption_name ≡ None → IfOk result (λ r. (n : Name) → IsStrayBelow 3 r.0.rows r.1.items n → D.files disk.new n ≡ None) }
+    ensures swept { IsTrue D.tells
+        → OnOk result (IsSwept (stores_of config.now) (D.files disk.old) (D.files disk.new) (D.past disk.new)) }
+    ensures gone { IsTrue D.tells → D.files disk.old adoption_name ≡ None
+        → IfOk result (λ r. (n : Name) → IsStrayBelow 3 r.0.rows r.1.items n → D.files disk.new n ≡ None) }
     ensures sweeps { IsTrue D.tells → Sweeps D.Disk (stores_of config.now) disk.old disk.new }
     ensures site { IsTrue D.tells → LeavesSite D.Disk (stores_of config.now) disk.old disk.new }
     ensures faults { D.faults disk.old ≤ D.faults disk.new }
@@ -191,16 +217,22 @@ pub(crate) fn load_stores<D: Disk>(
     disk: &mut D,
     config: &Config,
 ) -> Result<(Catalogue, Vec<Manifest>), Refusal>
-    requires unopened { IsTrue D.tells → NoneOpened catalogue_name (D.opened disk.old) × ((i : ℕ) → i < 3 → NoneOpened (manifest_name (i + 1)) (D.opened disk.old)) }
-    ensures stored { IsTrue D.tells → IfOk result (λ r. IsStored r.0 (D.files disk.new) (D.opened disk.new) (D.past disk.new)) }
-    ensures kept { IsTrue D.tells → IfOk result (λ r. AtEach r.1.items (λ i m. IsKept m (D.files disk.new) (D.opened disk.new) (D.past disk.new))) }
-    ensures said { IsTrue D.tells → IfOk result (λ r. AreSaid (stores_of config.now) (D.files disk.old) r.0.rows (lists_of r.1.items)) }
-    ensures there { IsTrue D.tells → IfOk result (λ r. AtEach r.1.items (λ i m. All (IsThere i (D.files disk.old) r.0.rows) m.entries)) }
+    requires unopened { IsTrue D.tells → NoneOpened catalogue_name (D.opened disk.old)
+        × ((i : ℕ) → i < 3 → NoneOpened (manifest_name (i + 1)) (D.opened disk.old)) }
+    ensures stored { IsTrue D.tells
+        → IfOk result (λ r. IsStored r.0 (D.files disk.new) (D.opened disk.new) (D.past disk.new)) }
+    ensures kept { IsTrue D.tells → IfOk result (λ r.
+        AtEach r.1.items (λ i m. IsKept m (D.files disk.new) (D.opened disk.new) (D.past disk.new))) }
+    ensures said { IsTrue D.tells
+        → IfOk result (λ r. AreSaid (stores_of config.now) (D.files disk.old) r.0.rows (lists_of r.1.items)) }
+    ensures there { IsTrue D.tells
+        → IfOk result (λ r. AtEach r.1.items (λ i m. All (IsThere i (D.files disk.old) r.0.rows) m.entries)) }
     ensures ready { IfOk result (λ r. IsReady (stores_of config.now) r.0 r.1.items) }
     ensures name { IfOk result (λ r. r.0.journal.name ≡ catalogue_name) }
     ensures names { IfOk result (λ r. AtEach r.1.items (λ i m. m.journal.name ≡ manifest_name (i + 1))) }
     ensures told { IsTrue D.tells → IfErr result (IsTold (stores_of config.now) (D.files disk.old)) }
-    ensures keeps { IsTrue D.tells → KeepsSaid (stores_of config.now) (D.files disk.old) (D.opened disk.old) (D.past disk.old) (D.files disk.new) (D.opened disk.new) (D.past disk.new) }
+    ensures keeps { IsTrue D.tells → KeepsSaid (stores_of config.now) (D.files disk.old) (D.opened disk.old)
+        (D.past disk.old) (D.files disk.new) (D.opened disk.new) (D.past disk.new) }
     ensures faults { D.faults disk.old ≤ D.faults disk.new }
     ensures cause { result ≡ Err (OfDisk Fault) → Rose (D.faults disk.old) (D.faults disk.new) }
 {

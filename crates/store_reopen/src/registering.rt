@@ -1,5 +1,6 @@
 // The rows that variables get by their files.
-ghost use Rattle.std.specs.Prelude.{◌≡◌, ◌≤◌, ◌↔◌, ◌∷◌, ◌++◌, [], ℕ, List, IfOk, IsErrOf, IsTrue, OnErr, OnOk, Some, false, length, true};
+ghost use Rattle.std.specs.Prelude.{◌≡◌, ◌≤◌, ◌↔◌, ◌∷◌, ◌++◌, [], ℕ, List, IfOk, IsErrOf, IsTrue, OnErr, OnOk, Some};
+ghost use Rattle.std.specs.Prelude.{false, length, true};
 ghost use Rattle.disk_model.specs.Files.{Rose};
 ghost use Rattle.partition_names.specs.declared.granularity.Granularity.{Granularity as GranularityValue};
 ghost use Rattle.pv_catalog.specs.Catalogue.{registered};
@@ -33,14 +34,19 @@ pub(crate) fn register_all<D: Disk>(
     unlisted: &[Unlisted],
 ) -> Result<(), DiskErr>
     requires sound { IsTrue catalogue.old.journal.sound }
-    requires has { IsTrue D.tells → (ms : List ManifestState) × (held : Stores) × Has D.tells (loaded D.Disk catalogue.old ms disk.old) held }
-    ensures goes { IsTrue D.tells → (ms : List ManifestState) → ((held : Stores) × Has D.tells (loaded D.Disk catalogue.old ms disk.old) held)
-        → OnOk result (Goes D.Disk (λ whole. GetRows whole catalogue.old.rows [] unlisted.now) (λ whole steps. steps ≡ [])
-        catalogue.old ms disk.old catalogue.new ms disk.new) }
-    ensures stops { IsTrue D.tells → (ms : List ManifestState) → ((held : Stores) × Has D.tells (loaded D.Disk catalogue.old ms disk.old) held)
-        → OnErr result (Stops D.Disk (λ whole. GetRows whole catalogue.old.rows [] unlisted.now) catalogue.old ms disk.old catalogue.new ms disk.new) }
+    requires has { IsTrue D.tells
+        → (ms : List ManifestState) × (held : Stores) × Has D.tells (loaded D.Disk catalogue.old ms disk.old) held }
+    ensures goes { IsTrue D.tells → (ms : List ManifestState)
+        → ((held : Stores) × Has D.tells (loaded D.Disk catalogue.old ms disk.old) held)
+        → OnOk result (Goes D.Disk (λ whole. GetRows whole catalogue.old.rows [] unlisted.now)
+        (λ whole steps. steps ≡ []) catalogue.old ms disk.old catalogue.new ms disk.new) }
+    ensures stops { IsTrue D.tells → (ms : List ManifestState)
+        → ((held : Stores) × Has D.tells (loaded D.Disk catalogue.old ms disk.old) held)
+        → OnErr result (Stops D.Disk (λ whole. GetRows whole catalogue.old.rows [] unlisted.now) catalogue.old ms
+        disk.old catalogue.new ms disk.new) }
     ensures more { OnOk result (length catalogue.old.rows ≤ length catalogue.new.rows) }
-    ensures ready { (gs : List GranularityValue) (ms : List ManifestState) → IsReady gs catalogue.old ms → OnOk result (IsReady gs catalogue.new ms) }
+    ensures ready { (gs : List GranularityValue) (ms : List ManifestState) → IsReady gs catalogue.old ms
+        → OnOk result (IsReady gs catalogue.new ms) }
     ensures spares { IsTrue D.tells → ChangesJournals D.Disk disk.old disk.new }
     ensures faults { D.faults disk.old ≤ D.faults disk.new }
     ensures cause { IsErrOf result DiskErr.Fault → Rose (D.faults disk.old) (D.faults disk.new) }
@@ -64,17 +70,22 @@ fn register<D: Disk>(
     candidate: &Candidate,
 ) -> Result<(), DiskErr>
     requires sound { IsTrue catalogue.old.journal.sound }
-    requires has { IsTrue D.tells → (ms : List ManifestState) × (held : Stores) × Has D.tells (loaded D.Disk catalogue.old ms disk.old) held }
-    ensures goes { IsTrue D.tells → (ms : List ManifestState) → ((held : Stores) × Has D.tells (loaded D.Disk catalogue.old ms disk.old) held)
+    requires has { IsTrue D.tells
+        → (ms : List ManifestState) × (held : Stores) × Has D.tells (loaded D.Disk catalogue.old ms disk.old) held }
+    ensures goes { IsTrue D.tells → (ms : List ManifestState)
+        → ((held : Stores) × Has D.tells (loaded D.Disk catalogue.old ms disk.old) held)
         → (x : UnlistedValue) (xs : List UnlistedValue) → x.candidate ≡ Some candidate.now
-        → OnOk result (Goes D.Disk (λ whole. GetRows whole catalogue.old.rows long.old.items (x ∷ xs))
-        (λ whole. GetRows whole catalogue.new.rows long.new.items xs) catalogue.old ms disk.old catalogue.new ms disk.new) }
-    ensures stops { IsTrue D.tells → (ms : List ManifestState) → ((held : Stores) × Has D.tells (loaded D.Disk catalogue.old ms disk.old) held)
+        → OnOk result (Goes D.Disk (λ whole. GetRows whole catalogue.old.rows long.old.items (x ∷ xs)) (λ whole.
+        GetRows whole catalogue.new.rows long.new.items xs) catalogue.old ms disk.old catalogue.new ms disk.new) }
+    ensures stops { IsTrue D.tells → (ms : List ManifestState)
+        → ((held : Stores) × Has D.tells (loaded D.Disk catalogue.old ms disk.old) held)
         → (x : UnlistedValue) (xs : List UnlistedValue) → x.candidate ≡ Some candidate.now
-        → OnErr result (Stops D.Disk (λ whole. GetRows whole catalogue.old.rows long.old.items (x ∷ xs)) catalogue.old ms disk.old catalogue.new ms disk.new) }
+        → OnErr result (Stops D.Disk (λ whole. GetRows whole catalogue.old.rows long.old.items (x ∷ xs)) catalogue.old
+        ms disk.old catalogue.new ms disk.new) }
     ensures sound { OnOk result (IsTrue catalogue.new.journal.sound) }
     ensures more { OnOk result (length catalogue.old.rows ≤ length catalogue.new.rows) }
-    ensures ready { (gs : List GranularityValue) (ms : List ManifestState) → IsReady gs catalogue.old ms → OnOk result (IsReady gs catalogue.new ms) }
+    ensures ready { (gs : List GranularityValue) (ms : List ManifestState) → IsReady gs catalogue.old ms
+        → OnOk result (IsReady gs catalogue.new ms) }
     ensures spares { IsTrue D.tells → ChangesJournals D.Disk disk.old disk.new }
     ensures faults { D.faults disk.old ≤ D.faults disk.new }
     ensures cause { IsErrOf result DiskErr.Fault → Rose (D.faults disk.old) (D.faults disk.new) }
@@ -102,17 +113,22 @@ fn register_first<D: Disk>(
     requires sound { IsTrue catalogue.old.journal.sound }
     requires named { IsName candidate.now.name }
     requires free { IsFree catalogue.old.rows candidate.now }
-    requires has { IsTrue D.tells → (ms : List ManifestState) × (held : Stores) × Has D.tells (loaded D.Disk catalogue.old ms disk.old) held }
-    ensures rows { OnOk result (catalogue.new.rows ≡ catalogue.old.rows ++ registered catalogue.old.rows candidate.now.name (about_of candidate.now) ∷ []) }
-    ensures makes { IsTrue D.tells → (ms : List ManifestState) → ((held : Stores) × Has D.tells (loaded D.Disk catalogue.old ms disk.old) held)
-        → OnOk result (MakesSteps true D.tells (NewRow candidate.now.name (about_of candidate.now) ∷ []) (loaded D.Disk catalogue.old ms disk.old)
-        (loaded D.Disk catalogue.new ms disk.new)) }
-    ensures stops { IsTrue D.tells → (ms : List ManifestState) → ((held : Stores) × Has D.tells (loaded D.Disk catalogue.old ms disk.old) held)
-        → OnErr result (MakesSteps false D.tells (NewRow candidate.now.name (about_of candidate.now) ∷ []) (loaded D.Disk catalogue.old ms disk.old)
-        (loaded D.Disk catalogue.new ms disk.new)) }
+    requires has { IsTrue D.tells
+        → (ms : List ManifestState) × (held : Stores) × Has D.tells (loaded D.Disk catalogue.old ms disk.old) held }
+    ensures rows { OnOk result (catalogue.new.rows
+        ≡ catalogue.old.rows ++ registered catalogue.old.rows candidate.now.name (about_of candidate.now) ∷ []) }
+    ensures makes { IsTrue D.tells → (ms : List ManifestState)
+        → ((held : Stores) × Has D.tells (loaded D.Disk catalogue.old ms disk.old) held)
+        → OnOk result (MakesSteps true D.tells (NewRow candidate.now.name (about_of candidate.now) ∷ [])
+        (loaded D.Disk catalogue.old ms disk.old) (loaded D.Disk catalogue.new ms disk.new)) }
+    ensures stops { IsTrue D.tells → (ms : List ManifestState)
+        → ((held : Stores) × Has D.tells (loaded D.Disk catalogue.old ms disk.old) held)
+        → OnErr result (MakesSteps false D.tells (NewRow candidate.now.name (about_of candidate.now) ∷ [])
+        (loaded D.Disk catalogue.old ms disk.old) (loaded D.Disk catalogue.new ms disk.new)) }
     ensures sound { OnOk result (IsTrue catalogue.new.journal.sound) }
     ensures more { OnOk result (length catalogue.old.rows ≤ length catalogue.new.rows) }
-    ensures ready { (gs : List GranularityValue) (ms : List ManifestState) → IsReady gs catalogue.old ms → OnOk result (IsReady gs catalogue.new ms) }
+    ensures ready { (gs : List GranularityValue) (ms : List ManifestState) → IsReady gs catalogue.old ms
+        → OnOk result (IsReady gs catalogue.new ms) }
     ensures spares { IsTrue D.tells → ChangesJournals D.Disk disk.old disk.new }
     ensures faults { D.faults disk.old ≤ D.faults disk.new }
     ensures cause { IsErrOf result DiskErr.Fault → Rose (D.faults disk.old) (D.faults disk.new) }

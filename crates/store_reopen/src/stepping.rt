@@ -1,5 +1,6 @@
 // The steps of an adoption: each is one commit, of the catalogue or of a manifest.
-ghost use Rattle.std.specs.Prelude.{◌≡◌, ◌≤◌, ◌<◌, ◌++◌, ◌∷◌, [], ℕ, true, All, Err, IfErr, IsErrOf, IsTrue, List, OnOk, Some, length, map, slice_get};
+ghost use Rattle.std.specs.Prelude.{◌≡◌, ◌≤◌, ◌<◌, ◌++◌, ◌∷◌, [], ℕ, true, All, Err, IfErr, IsErrOf, IsTrue, List};
+ghost use Rattle.std.specs.Prelude.{OnOk, Some, length, map, slice_get};
 ghost use Rattle.disk_model.specs.Files.{Rose};
 ghost use Rattle.disk_model.specs.declared.disk.DiskErr.TheVariants.{Fault};
 ghost use Rattle.durable_write.specs.Ends.{end_of_disk, end_of_register};
@@ -35,15 +36,19 @@ pub(crate) fn add_row<D: Disk>(
 ) -> Result<u32, RegisterErr>
     requires sound { IsTrue catalogue.old.journal.sound }
     requires named { IsName name.now }
-    requires has { IsTrue D.tells → (ms : List ManifestState) × (held : Stores) × Has D.tells (loaded D.Disk catalogue.old ms disk.old) held }
-    ensures rows { OnOk result (catalogue.new.rows ≡ catalogue.old.rows ++ registered catalogue.old.rows name.now about.now ∷ []) }
+    requires has { IsTrue D.tells
+        → (ms : List ManifestState) × (held : Stores) × Has D.tells (loaded D.Disk catalogue.old ms disk.old) held }
+    ensures rows { OnOk result
+        (catalogue.new.rows ≡ catalogue.old.rows ++ registered catalogue.old.rows name.now about.now ∷ []) }
     ensures sound { OnOk result (IsTrue catalogue.new.journal.sound) }
-    ensures ready { (gs : List Granularity) (ms : List ManifestState) → IsReady gs catalogue.old ms → OnOk result (IsReady gs catalogue.new ms) }
+    ensures ready { (gs : List Granularity) (ms : List ManifestState) → IsReady gs catalogue.old ms
+        → OnOk result (IsReady gs catalogue.new ms) }
     ensures refusal { IfErr result (IsRefusal catalogue.old.rows name.now) }
     ensures unchanged { IfErr result (λ e. IsOfRows e → (catalogue.new ≡ catalogue.old) × (disk.new ≡ disk.old)) }
-    ensures changes { (ms : List ManifestState) → ((held : Stores) × Has D.tells (loaded D.Disk catalogue.old ms disk.old) held)
-        → Changes D.tells (registering name.now about.now) (loaded D.Disk catalogue.old ms disk.old)
-        (loaded D.Disk catalogue.new ms disk.new) (end_of_register result) }
+    ensures changes { (ms : List ManifestState)
+        → ((held : Stores) × Has D.tells (loaded D.Disk catalogue.old ms disk.old) held)
+        → Changes D.tells (registering name.now about.now)
+        (loaded D.Disk catalogue.old ms disk.old) (loaded D.Disk catalogue.new ms disk.new) (end_of_register result) }
     ensures spares { IsTrue D.tells → ChangesJournals D.Disk disk.old disk.new }
     ensures faults { D.faults disk.old ≤ D.faults disk.new }
     ensures cause { result ≡ Err (RegisterDisk Fault) → Rose (D.faults disk.old) (D.faults disk.new) }
@@ -62,15 +67,22 @@ pub(crate) fn add_files<D: Disk>(
     requires within { place < length manifests.old.items }
     requires few { length changes.now ≤ 18_600_000 }
     requires sound { (m : ManifestState) → slice_get manifests.old.items place ≡ Some m → m.journal.sound ≡ true }
-    requires follow { (m : ManifestState) → slice_get manifests.old.items place ≡ Some m → AllCanFollow m.granularity m.entries changes.now }
-    requires has { IsTrue D.tells → (held : Stores) × Has D.tells (loaded D.Disk catalogue.now manifests.old.items disk.old) held }
-    requires can { IsTrue D.tells → (files : List Filed) × ((held : Stores) → Has D.tells (loaded D.Disk catalogue.now manifests.old.items disk.old) held
-        → CanList place D.tells (loaded D.Disk catalogue.now manifests.old.items disk.old) changes.now held (put_all (list_at place held) files)) }
-    ensures ready { (gs : List Granularity) (entries : List Entry) → IsReady gs catalogue.now manifests.old.items → changes.now ≡ map set_entry entries
+    requires follow { (m : ManifestState) → slice_get manifests.old.items place ≡ Some m
+        → AllCanFollow m.granularity m.entries changes.now }
+    requires has { IsTrue D.tells
+        → (held : Stores) × Has D.tells (loaded D.Disk catalogue.now manifests.old.items disk.old) held }
+    requires can { IsTrue D.tells → (files : List Filed)
+        × ((held : Stores) → Has D.tells (loaded D.Disk catalogue.now manifests.old.items disk.old) held
+        → CanList place D.tells (loaded D.Disk catalogue.now manifests.old.items disk.old) changes.now held
+        (put_all (list_at place held) files)) }
+    ensures ready { (gs : List Granularity) (entries : List Entry) → IsReady gs catalogue.now manifests.old.items
+        → changes.now ≡ map set_entry entries
         → All (HasRow catalogue.now.rows) entries
         → OnOk result (IsReady gs catalogue.now manifests.new.items) }
-    ensures changes { (files : List Filed) → ((held : Stores) → Has D.tells (loaded D.Disk catalogue.now manifests.old.items disk.old) held
-        → CanList place D.tells (loaded D.Disk catalogue.now manifests.old.items disk.old) changes.now held (put_all (list_at place held) files))
+    ensures changes { (files : List Filed)
+        → ((held : Stores) → Has D.tells (loaded D.Disk catalogue.now manifests.old.items disk.old) held
+        → CanList place D.tells (loaded D.Disk catalogue.now manifests.old.items disk.old) changes.now held
+        (put_all (list_at place held) files))
         → Changes D.tells (publishing place files) (loaded D.Disk catalogue.now manifests.old.items disk.old)
         (loaded D.Disk catalogue.now manifests.new.items disk.new) (end_of_disk result) }
     ensures spares { IsTrue D.tells → ChangesJournals D.Disk disk.old disk.new }

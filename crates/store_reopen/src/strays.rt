@@ -26,7 +26,9 @@ pub(crate) fn is_stray(
     requires rows { AreRows catalogue.now.rows }
     requires entries { AreEntries manifest.now.granularity manifest.now.entries }
     requires of_rows { All (HasRow catalogue.now.rows) manifest.now.entries }
-    ensures { (place : ℕ) → name.now.0 ≡ place + 1 → IfOk result (λ b. IsTrue b ↔ IsStrayOf place manifest.now.granularity catalogue.now.rows manifest.now.entries name.now) }
+    ensures { (place : ℕ) → name.now.0 ≡ place + 1
+        → IfOk result (λ b. IsTrue b
+        ↔ IsStrayOf place manifest.now.granularity catalogue.now.rows manifest.now.entries name.now) }
 {
     let path = name.path.as_slice();
     match own_file(alloc, catalogue, manifest.granularity(), path)? {
@@ -44,7 +46,8 @@ pub(crate) fn own_file(
 ) -> Result<Option<(u32, Part)>, AllocError>
     requires rows { AreRows catalogue.now.rows }
     ensures found { IfOk result (λ r. IfSome r (λ p. IsFileOf granularity catalogue.now.rows path.now p.0 p.1)) }
-    ensures only { (series : ℕ) (part : PartValue) → IsFileOf granularity catalogue.now.rows path.now series part → IfOk result (λ r. r ≡ Some (series, part)) }
+    ensures only { (series : ℕ) (part : PartValue) → IsFileOf granularity catalogue.now.rows path.now series part
+        → IfOk result (λ r. r ≡ Some (series, part)) }
 {
     let Some((end, part)) = part_in(granularity, path) else {
         return Ok(None);
@@ -65,7 +68,8 @@ pub(crate) fn own_file(
 fn row_of_key(alloc: Global, catalogue: &Catalogue, key: &[u8]) -> Result<Option<u32>, AllocError>
     requires rows { AreRows catalogue.now.rows }
     ensures within { IfOk result (λ r. IfSome r (λ i. i < length catalogue.now.rows)) }
-    ensures only { (i : ℕ) (row : RowValue) → slice_get catalogue.now.rows i ≡ Some row → key_of row.name ≡ key.now → IfOk result (λ r. r ≡ Some i) }
+    ensures only { (i : ℕ) (row : RowValue) → slice_get catalogue.now.rows i ≡ Some row
+        → key_of row.name ≡ key.now → IfOk result (λ r. r ≡ Some i) }
 {
     match PvName::new(alloc, key) {
         Ok(name) => Ok(row_of(catalogue, &name)),

@@ -26,8 +26,11 @@ pub(crate) fn sweep_finished<D: Disk>(
     requires rows { AreRows catalogue.now.rows }
     requires entries { AtEach manifests.now (λ i m. AreEntries m.granularity m.entries) }
     requires of_rows { AtEach manifests.now (λ i m. All (HasRow catalogue.now.rows) m.entries) }
-    ensures removes { IsTrue D.tells → Removes D.Disk (IsStrayBelow 3 catalogue.now.rows manifests.now) disk.old disk.new }
-    ensures gone { IsTrue D.tells → unfinished ≡ false → OnOk result (AreGone (IsStrayBelow 3 catalogue.now.rows manifests.now) (D.files disk.old) (D.files disk.new) (D.past disk.new)) }
+    ensures removes { IsTrue D.tells
+        → Removes D.Disk (IsStrayBelow 3 catalogue.now.rows manifests.now) disk.old disk.new }
+    ensures gone { IsTrue D.tells → unfinished ≡ false
+        → OnOk result (AreGone (IsStrayBelow 3 catalogue.now.rows manifests.now)
+        (D.files disk.old) (D.files disk.new) (D.past disk.new)) }
     ensures left { IsTrue unfinished → disk.new ≡ disk.old }
     ensures faults { D.faults disk.old ≤ D.faults disk.new }
     ensures cause { IsErrOf result DiskErr.Fault → Rose (D.faults disk.old) (D.faults disk.new) }
@@ -49,8 +52,10 @@ fn sweep_stores<D: Disk>(
     requires rows { AreRows catalogue.now.rows }
     requires entries { AtEach manifests.now (λ i m. AreEntries m.granularity m.entries) }
     requires of_rows { AtEach manifests.now (λ i m. All (HasRow catalogue.now.rows) m.entries) }
-    ensures removes { IsTrue D.tells → Removes D.Disk (IsStrayBelow 3 catalogue.now.rows manifests.now) disk.old disk.new }
-    ensures gone { IsTrue D.tells → OnOk result (AreGone (IsStrayBelow 3 catalogue.now.rows manifests.now) (D.files disk.old) (D.files disk.new) (D.past disk.new)) }
+    ensures removes { IsTrue D.tells
+        → Removes D.Disk (IsStrayBelow 3 catalogue.now.rows manifests.now) disk.old disk.new }
+    ensures gone { IsTrue D.tells → OnOk result (AreGone (IsStrayBelow 3 catalogue.now.rows manifests.now)
+        (D.files disk.old) (D.files disk.new) (D.past disk.new)) }
     ensures faults { D.faults disk.old ≤ D.faults disk.new }
     ensures cause { IsErrOf result DiskErr.Fault → Rose (D.faults disk.old) (D.faults disk.new) }
 {
@@ -78,8 +83,11 @@ fn sweep_store<D: Disk>(
     requires rows { AreRows catalogue.now.rows }
     requires entries { AreEntries manifest.now.granularity manifest.now.entries }
     requires of_rows { All (HasRow catalogue.now.rows) manifest.now.entries }
-    ensures removes { IsTrue D.tells → Removes D.Disk (IsStrayOf place manifest.now.granularity catalogue.now.rows manifest.now.entries) disk.old disk.new }
-    ensures gone { IsTrue D.tells → OnOk result (AreGone (IsStrayOf place manifest.now.granularity catalogue.now.rows manifest.now.entries) (D.files disk.old) (D.files disk.new) (D.past disk.new)) }
+    ensures removes { IsTrue D.tells → Removes D.Disk
+        (IsStrayOf place manifest.now.granularity catalogue.now.rows manifest.now.entries) disk.old disk.new }
+    ensures gone { IsTrue D.tells
+        → OnOk result (AreGone (IsStrayOf place manifest.now.granularity catalogue.now.rows manifest.now.entries)
+        (D.files disk.old) (D.files disk.new) (D.past disk.new)) }
     ensures faults { D.faults disk.old ≤ D.faults disk.new }
     ensures cause { IsErrOf result DiskErr.Fault → Rose (D.faults disk.old) (D.faults disk.new) }
 {
@@ -99,9 +107,11 @@ fn remove_strays<D: Disk>(
     requires entries { AreEntries manifest.now.granularity manifest.now.entries }
     requires of_rows { All (HasRow catalogue.now.rows) manifest.now.entries }
     ensures removes { IsTrue D.tells → (place : ℕ) → All (λ (n : Name). n.0 ≡ place + 1) names.now
-        → Removes D.Disk (IsStrayOf place manifest.now.granularity catalogue.now.rows manifest.now.entries) disk.old disk.new }
+        → Removes D.Disk
+        (IsStrayOf place manifest.now.granularity catalogue.now.rows manifest.now.entries) disk.old disk.new }
     ensures gone { IsTrue D.tells → (place : ℕ) → All (λ (n : Name). n.0 ≡ place + 1) names.now
-        → OnOk result (All (IsGoneIf (IsStrayOf place manifest.now.granularity catalogue.now.rows manifest.now.entries) (D.files disk.new) (D.past disk.new)) names.now) }
+        → OnOk result (All (IsGoneIf (IsStrayOf place manifest.now.granularity catalogue.now.rows manifest.now.entries)
+        (D.files disk.new) (D.past disk.new)) names.now) }
     ensures faults { D.faults disk.old ≤ D.faults disk.new }
     ensures cause { IsErrOf result DiskErr.Fault → Rose (D.faults disk.old) (D.faults disk.new) }
 {

@@ -1,5 +1,6 @@
 // Which row takes which file that no manifest lists.
-ghost use Rattle.std.specs.Prelude.{◌≡◌, ◌≤◌, ◌<◌, ◌+◌, ◌*◌, ◌↔◌, ℕ, List, All, IfOk, IfSome, IsTrue, OnOk, Some, length, slice_get};
+ghost use Rattle.std.specs.Prelude.{◌≡◌, ◌≤◌, ◌<◌, ◌+◌, ◌*◌, ◌↔◌, ℕ, List, All, IfOk, IfSome, IsTrue, OnOk, Some};
+ghost use Rattle.std.specs.Prelude.{length, slice_get};
 ghost use Rattle.pv_catalog.specs.declared.row.Row.{Row as RowValue};
 ghost use Rattle.store_manifest.specs.Manifest.{ManifestState};
 ghost use Rattle.store_reopen.specs.Adoption.{IsSingle};
@@ -26,7 +27,8 @@ pub(crate) fn by_turn(
     requires three { length manifests.now ≡ 3 }
     requires places { All (IsOfPlace manifests.now) unlisted.items }
     ensures count { IfOk result (λ v. length v.items ≡ 3 * length catalogue.now.rows) }
-    ensures takes { IfOk result (λ v. AtEachTurn (λ turn taken. TakesOf manifests.now catalogue.now.rows turn unlisted.items taken) (turns_of v.items)) }
+    ensures takes { IfOk result (λ v. AtEachTurn
+        (λ turn taken. TakesOf manifests.now catalogue.now.rows turn unlisted.items taken) (turns_of v.items)) }
     ensures fewer { IfOk result (λ v. length (all_taken (turns_of v.items)) ≤ length unlisted.items) }
 {
     let mut turns = empty_turns(alloc, 3 * catalogue.rows().len())?;
@@ -60,9 +62,12 @@ fn take(
     requires three { length manifests.now ≡ 3 }
     requires place { IsOfPlace manifests.now one }
     ensures count { OnOk result (length turns.new.items ≡ length turns.old.items) }
-    ensures one_more { OnOk result (length (all_taken (turns_of turns.new.items)) ≤ length (all_taken (turns_of turns.old.items)) + 1) }
-    ensures takes { OnOk result ((turn : ℕ) (old new : List TakenValue) → slice_get (turns_of turns.old.items) turn ≡ Some old
-        → slice_get (turns_of turns.new.items) turn ≡ Some new → TakesIn manifests.now catalogue.now.rows turn one old new) }
+    ensures one_more { OnOk result
+        (length (all_taken (turns_of turns.new.items)) ≤ length (all_taken (turns_of turns.old.items)) + 1) }
+    ensures takes { OnOk result
+        ((turn : ℕ) (old new : List TakenValue) → slice_get (turns_of turns.old.items) turn ≡ Some old
+        → slice_get (turns_of turns.new.items) turn ≡ Some new
+        → TakesIn manifests.now catalogue.now.rows turn one old new) }
 {
     let Unlisted {
         place,
@@ -88,8 +93,10 @@ fn turn_of(
 ) -> Option<usize>
     requires place { place < length manifests.now }
     requires three { length manifests.now ≡ 3 }
-    ensures takes { IfSome result (λ turn. (turn < 3 * length catalogue.now.rows) × IsOfTurn manifests.now catalogue.now.rows turn place candidate.now) }
-    ensures only { (turn : ℕ) → IsOfTurn manifests.now catalogue.now.rows turn place candidate.now → result ≡ Some turn }
+    ensures takes { IfSome result (λ turn. (turn < 3 * length catalogue.now.rows)
+        × IsOfTurn manifests.now catalogue.now.rows turn place candidate.now) }
+    ensures only { (turn : ℕ) → IsOfTurn manifests.now catalogue.now.rows turn place candidate.now
+        → result ≡ Some turn }
 {
     let row = catalogue.find(candidate.name.bytes())?;
     let found = &catalogue.rows()[row as usize];

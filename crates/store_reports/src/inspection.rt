@@ -1,5 +1,6 @@
 // One line for each listed file.
-ghost use Rattle.std.specs.Prelude.{◌≡◌, ◌≤◌, ◌⊎◌, ◌-◌, ℕ, Bool, List, None, Option, [], ◌∷◌, ◌++◌, slice_get, IfOk, IsTrue};
+ghost use Rattle.std.specs.Prelude.{◌≡◌, ◌≤◌, ◌⊎◌, ◌-◌, ℕ, Bool, List, None, Option, [], ◌∷◌, ◌++◌, slice_get, IfOk};
+ghost use Rattle.std.specs.Prelude.{IsTrue};
 ghost use Rattle.edge_io.specs.Stream.{Rose, AppendsFront};
 ghost use Rattle.disk_model.specs.Files.{Files};
 ghost use Rattle.pv_catalog.specs.declared.row.Row.{Row as RowValue};
@@ -58,21 +59,25 @@ impl<R: ReadAt> From<PutErr> for CheckErr<R> {
     }
 }
 
-/// Reads every listed file up to its listed length, and writes one line for each: those of store 1, of store 2 and of store 3, each in the
-/// order of rows and time. The line is `STORE PATH ok COUNT`, or `STORE PATH damaged AT` with the place of the first line that fails, which
-/// is the listed length where the file has no sample. It goes on past damage, and answers the first damaged file, or `None` where all are
-/// good. It stops at its first fault. It needs that no change stands in doubt.
+/// Reads every listed file up to its listed length, and writes one line for each: those of store 1, of store 2 and of
+/// store 3, each in the order of rows and time. The line is `STORE PATH ok COUNT`, or `STORE PATH damaged AT` with the
+/// place of the first line that fails, which is the listed length where the file has no sample. It goes on past
+/// damage, and answers the first damaged file, or `None` where all are good. It stops at its first fault. It needs
+/// that no change stands in doubt.
 pub fn check<D: Disk, K: Sink>(
     alloc: Global,
     store: &mut TierStore<D>,
     sink: &mut K,
 ) -> Result<Option<Damage>, CheckErr<D::Reader>>
     requires { (held : Stores) × Has D.tells (seen D.Disk store.old) held }
-    ensures checks { Checks D.tells store.old.catalogue.rows (D.files store.old.disk) (files_listed store.old.manifests.items) (K.written sink.old) (K.written sink.new) result }
+    ensures checks { Checks D.tells store.old.catalogue.rows (D.files store.old.disk)
+        (files_listed store.old.manifests.items) (K.written sink.old) (K.written sink.new) result }
 
     // Where what is held stands, no file is damaged.
-    ensures stands { (held : Stores) → Has D.tells (seen D.Disk store.old) held → IsTrue held.stands → IsTrue D.tells → IfOk result (λ damage. damage ≡ None) }
-    ensures leaves { Leaves D.Disk store.old store.new D.Reader.faults (K.write_faults sink.old) (K.write_faults sink.new) result }
+    ensures stands { (held : Stores) → Has D.tells (seen D.Disk store.old) held → IsTrue held.stands → IsTrue D.tells
+        → IfOk result (λ damage. damage ≡ None) }
+    ensures leaves { Leaves D.Disk store.old store.new D.Reader.faults
+        (K.write_faults sink.old) (K.write_faults sink.new) result }
 {
     let mut report = Report::new(alloc);
     let told = check_stores(alloc, store, &mut report, sink);
@@ -88,9 +93,12 @@ fn check_stores<D: Disk, K: Sink>(
 ) -> Result<(), CheckErr<D::Reader>>
     requires { (held : Stores) × Has D.tells (seen D.Disk store.old) held }
     ensures told { (rows : List RowValue) (files : Files) → Shows D.tells (seen D.Disk store.old) rows files
-        → (a : Option (List ℕ)) → AreTold D.tells rows files [] a (K.written sink.old) report.old.buffer report.old.first
-        → Tells D.tells rows files (files_listed store.old.manifests.items) a (K.written sink.new) report.new.buffer report.new.first result }
-    ensures leaves { Leaves D.Disk store.old store.new D.Reader.faults (K.write_faults sink.old) (K.write_faults sink.new) result }
+        → (a : Option (List ℕ))
+        → AreTold D.tells rows files [] a (K.written sink.old) report.old.buffer report.old.first
+        → Tells D.tells rows files (files_listed store.old.manifests.items) a
+        (K.written sink.new) report.new.buffer report.new.first result }
+    ensures leaves { Leaves D.Disk store.old store.new D.Reader.faults
+        (K.write_faults sink.old) (K.write_faults sink.new) result }
 {
     check_rows(alloc, store, 1, report, sink)?;
     check_rows(alloc, store, 2, report, sink)?;
@@ -109,9 +117,12 @@ fn check_rows<D: Disk, K: Sink>(
     requires last { number ≤ 3 }
     requires has { (held : Stores) × Has D.tells (seen D.Disk store.old) held }
     ensures told { (rows : List RowValue) (files : Files) → Shows D.tells (seen D.Disk store.old) rows files
-        → (before : List Listed) (a : Option (List ℕ)) → AreTold D.tells rows files before a (K.written sink.old) report.old.buffer report.old.first
-        → Tells D.tells rows files (before ++ files_at number store.old.manifests.items) a (K.written sink.new) report.new.buffer report.new.first result }
-    ensures leaves { Leaves D.Disk store.old store.new D.Reader.faults (K.write_faults sink.old) (K.write_faults sink.new) result }
+        → (before : List Listed) (a : Option (List ℕ))
+        → AreTold D.tells rows files before a (K.written sink.old) report.old.buffer report.old.first
+        → Tells D.tells rows files (before ++ files_at number store.old.manifests.items) a
+        (K.written sink.new) report.new.buffer report.new.first result }
+    ensures leaves { Leaves D.Disk store.old store.new D.Reader.faults
+        (K.write_faults sink.old) (K.write_faults sink.new) result }
 {
     let rows = store.catalogue().rows().len() as u32;
     for row in 0..rows {
@@ -133,9 +144,13 @@ fn check_row<D: Disk, K: Sink>(
     requires last { number ≤ 3 }
     requires has { (held : Stores) × Has D.tells (seen D.Disk store.old) held }
     ensures told { (rows : List RowValue) (files : Files) → Shows D.tells (seen D.Disk store.old) rows files
-        → (before : List Listed) (a : Option (List ℕ)) → AreTold D.tells rows files before a (K.written sink.old) report.old.buffer report.old.first
-        → Tells D.tells rows files (before ++ listed number (entries_of row (slice_get store.old.manifests.items (number - 1)))) a (K.written sink.new) report.new.buffer report.new.first result }
-    ensures leaves { Leaves D.Disk store.old store.new D.Reader.faults (K.write_faults sink.old) (K.write_faults sink.new) result }
+        → (before : List Listed) (a : Option (List ℕ))
+        → AreTold D.tells rows files before a (K.written sink.old) report.old.buffer report.old.first
+        → Tells D.tells rows files
+        (before ++ listed number (entries_of row (slice_get store.old.manifests.items (number - 1)))) a
+        (K.written sink.new) report.new.buffer report.new.first result }
+    ensures leaves { Leaves D.Disk store.old store.new D.Reader.faults
+        (K.write_faults sink.old) (K.write_faults sink.new) result }
 {
     let count = store.manifest(number).entries(row).len();
     for at in 0..count {
@@ -158,9 +173,12 @@ fn check_entry<D: Disk, K: Sink>(
     requires listed { IsListedIn store.old.manifests.items number entry.now }
     requires has { (held : Stores) × Has D.tells (seen D.Disk store.old) held }
     ensures told { (rows : List RowValue) (files : Files) → Shows D.tells (seen D.Disk store.old) rows files
-        → (before : List Listed) (a : Option (List ℕ)) → AreTold D.tells rows files before a (K.written sink.old) report.old.buffer report.old.first
-        → Tells D.tells rows files (before ++ record { store = number; entry = entry.now } ∷ []) a (K.written sink.new) report.new.buffer report.new.first result }
-    ensures leaves { Leaves D.Disk store.old store.new D.Reader.faults (K.write_faults sink.old) (K.write_faults sink.new) result }
+        → (before : List Listed) (a : Option (List ℕ))
+        → AreTold D.tells rows files before a (K.written sink.old) report.old.buffer report.old.first
+        → Tells D.tells rows files (before ++ record { store = number; entry = entry.now } ∷ []) a
+        (K.written sink.new) report.new.buffer report.new.first result }
+    ensures leaves { Leaves D.Disk store.old store.new D.Reader.faults
+        (K.write_faults sink.old) (K.write_faults sink.new) result }
 {
     let finding = find(alloc, store, number, entry)?;
     report.tell(
@@ -183,7 +201,8 @@ fn find<D: Disk>(
 ) -> Result<Finding, CheckErr<D::Reader>>
     requires listed { IsListedIn store.old.manifests.items number entry.now }
     requires has { (held : Stores) × Has D.tells (seen D.Disk store.old) held }
-    ensures found { IfOk result (λ finding. IsFound D.tells store.old.catalogue.rows (D.files store.old.disk) (record { file = record { store = number; entry = entry.now }; finding = finding })) }
+    ensures found { IfOk result (λ finding. IsFound D.tells store.old.catalogue.rows (D.files store.old.disk)
+        (record { file = record { store = number; entry = entry.now }; finding = finding })) }
     ensures leaves { (writes : ℕ) → Leaves D.Disk store.old store.new D.Reader.faults writes writes result }
 {
     let mut reader = store.open_listed(number, entry)?;
@@ -202,7 +221,8 @@ fn ended<R: ReadAt, K: Sink>(
     sink: &mut K,
 ) -> Result<Option<Damage>, CheckErr<R>>
     ensures checks { (tells : Bool) (rows : List RowValue) (files : Files) (listed : List Listed) (a : Option (List ℕ))
-        → Tells tells rows files listed a (K.written sink.old) report.buffer report.first told → Checks tells rows files listed a (K.written sink.new) result }
+        → Tells tells rows files listed a (K.written sink.old) report.buffer report.first told
+        → Checks tells rows files listed a (K.written sink.new) result }
     ensures faults { K.write_faults sink.old ≤ K.write_faults sink.new }
     ensures cause { EndsAs (K.write_faults sink.old) (K.write_faults sink.new) told result }
 {
@@ -222,7 +242,8 @@ fn stopped<R: ReadAt, K: Sink>(
     sink: &mut K,
 ) -> CheckErr<R>
     ensures went { (tells : Bool) (rows : List RowValue) (files : Files) (listed : List Listed) (a : Option (List ℕ))
-        → InspectsSome tells rows files listed (Remains err a (K.written sink.old) buffer.old) → InspectsSome tells rows files listed (AppendsFront a (K.written sink.new)) }
+        → InspectsSome tells rows files listed (Remains err a (K.written sink.old) buffer.old)
+        → InspectsSome tells rows files listed (AppendsFront a (K.written sink.new)) }
     ensures faults { K.write_faults sink.old ≤ K.write_faults sink.new }
     ensures cause { (result ≡ err) ⊎ ((result ≡ SinkFault) × Rose (K.write_faults sink.old) (K.write_faults sink.new)) }
 {

@@ -63,10 +63,15 @@ impl Report {
         sink: &mut K,
     ) -> Result<(), PutErr>
         requires { entry.now.series < length rows.now }
-        ensures line { OnOk result (Sends (K.written sink.old) (K.written sink.new) (self.old.buffer ++ file_line (file_of (number, rows.now) entry.now) finding) self.new.buffer) }
-        ensures first { OnOk result (self.new.first ≡ option_or self.old.first (damage_of (file_of (number, rows.now) entry.now) finding)) }
-        ensures memory { IsErrOf result PutErr.Memory → Sends (K.written sink.old) (K.written sink.new) self.old.buffer self.new.buffer }
-        ensures fault { IsErrOf result PutErr.SinkFault → AppendsFront (K.written sink.old) (K.written sink.new) (self.old.buffer ++ file_line (file_of (number, rows.now) entry.now) finding) }
+        ensures line { OnOk result (Sends (K.written sink.old) (K.written sink.new)
+            (self.old.buffer ++ file_line (file_of (number, rows.now) entry.now) finding) self.new.buffer) }
+        ensures first { OnOk result
+            (self.new.first ≡ option_or self.old.first (damage_of (file_of (number, rows.now) entry.now) finding)) }
+        ensures memory { IsErrOf result PutErr.Memory
+            → Sends (K.written sink.old) (K.written sink.new) self.old.buffer self.new.buffer }
+        ensures fault { IsErrOf result PutErr.SinkFault
+            → AppendsFront (K.written sink.old) (K.written sink.new)
+            (self.old.buffer ++ file_line (file_of (number, rows.now) entry.now) finding) }
         ensures faults { K.write_faults sink.old ≤ K.write_faults sink.new }
         ensures cause { IsErrOf result PutErr.SinkFault → Rose (K.write_faults sink.old) (K.write_faults sink.new) }
     {

@@ -5,7 +5,8 @@ ghost use Rattle.tier_store.specs.Stores.{Stores};
 ghost use Rattle.tier_store.specs.Seen.{seen};
 ghost use Rattle.tier_store.specs.Change.{Has};
 ghost use Rattle.store_reports.specs.Keeping.{KeepsStores};
-ghost use Rattle.store_reports.specs.Status.{EndsAs, Gathers, IsLine, Lines, Reports, Writes, end_of_status, row_line, state_name, status_of_disk, status_of_put, status_text};
+ghost use Rattle.store_reports.specs.Status.{EndsAs, Gathers, IsLine, Lines, Reports, Writes, end_of_status, row_line};
+ghost use Rattle.store_reports.specs.Status.{state_name, status_of_disk, status_of_put, status_text};
 ghost use Rattle.store_reports.specs.declared.summary.StatusErr.TheVariants.{SinkFault, OutOfMemory};
 
 use disk_model::{Disk, DiskErr};
@@ -58,12 +59,14 @@ impl From<AllocError> for StatusErr {
     }
 }
 
-/// Writes one line for each row, in the order of registration: `NAME TYPE STATE samples COUNT files F1 F2 F3`. COUNT is how many samples
-/// the three stores hold of the variable under all its names up to the row's, one that two of them list counted once; F1 to F3 are the
-/// numbers of the row's own files that they list. It needs that no change stands in doubt.
+/// Writes one line for each row, in the order of registration: `NAME TYPE STATE samples COUNT files F1 F2 F3`.
+/// COUNT is how many samples the three stores hold of the variable under all its names up to the row's, one that
+/// two of them list counted once; F1 to F3 are the numbers of the row's own files that they list. It needs that
+/// no change stands in doubt.
 ///
-/// A file is read only where samples that are read before it reach into it. So whatever somebody else has damaged, COUNT is what the entries
-/// say where each file begins behind those of the rows of earlier names, of the later stores, and of its own store before it.
+/// A file is read only where samples that are read before it reach into it. So whatever somebody else has damaged,
+/// COUNT is what the entries say where each file begins behind those of the rows of earlier names, of the later stores,
+/// and of its own store before it.
 ///
 /// It stops at its first fault. What was gathered goes out, and where that fails it is told.
 pub fn status<D: Disk, K: Sink>(
@@ -75,7 +78,8 @@ pub fn status<D: Disk, K: Sink>(
     ensures reports { Reports D.tells (seen D.Disk store.old) (K.written sink.old) (K.written sink.new) result }
 
     // Where what is held stands, the text is the one of what is held.
-    ensures held { (held : Stores) → Has D.tells (seen D.Disk store.old) held → IsTrue held.stands → IsTrue D.tells → Writes (K.written sink.old) (K.written sink.new) result (status_text held) }
+    ensures held { (held : Stores) → Has D.tells (seen D.Disk store.old) held → IsTrue held.stands → IsTrue D.tells
+        → Writes (K.written sink.old) (K.written sink.new) result (status_text held) }
     ensures stores { KeepsStores D.Disk store.old store.new (end_of_status result) }
     ensures faults { K.write_faults sink.old ≤ K.write_faults sink.new }
     ensures cause { IsErrOf result StatusErr.SinkFault → Rose (K.write_faults sink.old) (K.write_faults sink.new) }
@@ -93,7 +97,8 @@ fn write_rows<D: Disk, K: Sink>(
     sink: &mut K,
 ) -> Result<(), StatusErr>
     requires { (held : Stores) × Has D.tells (seen D.Disk store.old) held }
-    ensures told { buffer.old ≡ [] → Lines D.tells (seen D.Disk store.old) result (Gathers (K.written sink.old) (K.written sink.new) buffer.new result) }
+    ensures told { buffer.old ≡ [] → Lines D.tells (seen D.Disk store.old) result
+        (Gathers (K.written sink.old) (K.written sink.new) buffer.new result) }
     ensures stores { KeepsStores D.Disk store.old store.new (end_of_status result) }
     ensures faults { K.write_faults sink.old ≤ K.write_faults sink.new }
     ensures cause { IsErrOf result StatusErr.SinkFault → Rose (K.write_faults sink.old) (K.write_faults sink.new) }
@@ -181,7 +186,8 @@ fn ended<K: Sink>(
     mut buffer: SinkBuffer,
     sink: &mut K,
 ) -> Result<(), StatusErr>
-    ensures writes { (a : Option (List ℕ)) (text : List ℕ) → Gathers a (K.written sink.old) buffer told text → Writes a (K.written sink.new) result text }
+    ensures writes { (a : Option (List ℕ)) (text : List ℕ) → Gathers a (K.written sink.old) buffer told text
+        → Writes a (K.written sink.new) result text }
     ensures ends { EndsAs (K.write_faults sink.old) (K.write_faults sink.new) told result }
     ensures faults { K.write_faults sink.old ≤ K.write_faults sink.new }
 {
@@ -196,7 +202,8 @@ fn ended<K: Sink>(
 
 // What a status that stopped is told as, once what is gathered is written. After a failed write nothing more is.
 fn stopped<K: Sink>(err: StatusErr, buffer: &mut SinkBuffer, sink: &mut K) -> StatusErr
-    ensures went { (a : Option (List ℕ)) (text : List ℕ) → Gathers a (K.written sink.old) buffer.old (Err err) text → AppendsFront a (K.written sink.new) text }
+    ensures went { (a : Option (List ℕ)) (text : List ℕ) → Gathers a (K.written sink.old) buffer.old (Err err) text
+        → AppendsFront a (K.written sink.new) text }
     ensures faults { K.write_faults sink.old ≤ K.write_faults sink.new }
     ensures cause { (result ≡ err) ⊎ ((result ≡ SinkFault) × Rose (K.write_faults sink.old) (K.write_faults sink.new)) }
 {

@@ -1,5 +1,6 @@
 // The answer over the samples of a chunk, as they come.
-ghost use Rattle.std.specs.Prelude.{◌≡◌, ◌↔◌, ◌+◌, ◌-◌, ◌<◌, ◌≤◌, ◌++◌, ◌∷◌, [], List, OnOk, OnErr, IfOk, IfSome, IfNone, IsTrue, Some, None, true, length, take, drop, if◌then◌else◌};
+ghost use Rattle.std.specs.Prelude.{◌≡◌, ◌↔◌, ◌+◌, ◌-◌, ◌<◌, ◌≤◌, ◌++◌, ◌∷◌, [], List, OnOk, OnErr, IfOk, IfSome};
+ghost use Rattle.std.specs.Prelude.{IfNone, IsTrue, Some, None, true, length, take, drop, if◌then◌else◌};
 ghost use Rattle.std.specs.Io.{StartsWith};
 ghost use Rattle.series_model.specs.declared.sample.Sample.{Sample};
 ghost use Rattle.series_model.specs.declared.sample.Query.{Query};
@@ -73,7 +74,8 @@ impl Answer {
     /// Takes the next sample, and adds to `out` what is known of the answer by it. Where memory runs
     /// out, `out` stays.
     pub fn take(&mut self, t: u64, line: &[u8], out: &mut Vec<u8>) -> Result<(), AllocError>
-        ensures ok { OnOk result (Takes self.old self.new (record { t = t; line = line.now }) out.old.items out.new.items) }
+        ensures ok { OnOk result
+            (Takes self.old self.new (record { t = t; line = line.now }) out.old.items out.new.items) }
         ensures err { OnErr result (out.new.items ≡ out.old.items) }
         ensures query { self.new.query ≡ self.old.query }
     {
@@ -87,7 +89,8 @@ impl Answer {
 
     // The same, but where memory runs out a part may stand behind the old bytes.
     fn add(&mut self, t: u64, line: &[u8], out: &mut Vec<u8>) -> Result<(), AllocError>
-        ensures ok { OnOk result (Takes self.old self.new (record { t = t; line = line.now }) out.old.items out.new.items) }
+        ensures ok { OnOk result
+            (Takes self.old self.new (record { t = t; line = line.now }) out.old.items out.new.items) }
         ensures grows { StartsWith out.new.items out.old.items }
         ensures query { self.new.query ≡ self.old.query }
     {
@@ -139,7 +142,8 @@ impl Answer {
         out: &mut Vec<u8>,
     ) -> Result<&'a [u8], AllocError>
         requires { run.now.last < length text.now }
-        ensures ok { IfOk result (λ lines. (ys : List Sample) → IsFollowed self.old ys run.now.t run.now.last text.now → TakesAll self.old self.new ys out.old.items (out.new.items ++ lines.now)) }
+        ensures ok { IfOk result (λ lines. (ys : List Sample) → IsFollowed self.old ys run.now.t run.now.last text.now
+            → TakesAll self.old self.new ys out.old.items (out.new.items ++ lines.now)) }
         ensures err { OnErr result (out.new.items ≡ out.old.items) }
         ensures query { self.new.query ≡ self.old.query }
     {
@@ -188,7 +192,8 @@ impl Answer {
     // Gives what was held back at the first sample not earlier than the interval.
     fn reach(&mut self, t: u64, out: &mut Vec<u8>) -> Result<(), AllocError>
         ensures ok { OnOk result (self.new ≡ record self.old { last = Some t; reached = true }) }
-        ensures out { OnOk result (out.new.items ≡ out.old.items ++ (if self.old.reached then [] else self.old.earlier)) }
+        ensures out { OnOk result
+            (out.new.items ≡ out.old.items ++ (if self.old.reached then [] else self.old.earlier)) }
         ensures err { OnErr result (out.new.items ≡ out.old.items) }
         ensures query { self.new.query ≡ self.old.query }
     {
@@ -200,7 +205,8 @@ impl Answer {
 
     // Adds the line that is held back, if there is one.
     fn give_held(&self, out: &mut Vec<u8>) -> Result<(), AllocError>
-        ensures ok { OnOk result (out.new.items ≡ out.old.items ++ (if self.now.reached then [] else self.now.earlier)) }
+        ensures ok { OnOk result
+            (out.new.items ≡ out.old.items ++ (if self.now.reached then [] else self.now.earlier)) }
         ensures err { OnErr result (out.new.items ≡ out.old.items) }
     {
         if self.reached {
@@ -212,7 +218,8 @@ impl Answer {
     /// Adds to `out` what is known of the answer by the chunk's end. Where memory runs out, `out`
     /// stays.
     pub fn finish(&mut self, out: &mut Vec<u8>) -> Result<(), AllocError>
-        ensures ok { OnOk result ((xs : List Sample) → Covers self.old xs → Adds (lines_text (known self.old.query xs)) (lines_text (answer (taken xs) self.old.query)) out.old.items out.new.items) }
+        ensures ok { OnOk result ((xs : List Sample) → Covers self.old xs → Adds (lines_text (known self.old.query xs))
+            (lines_text (answer (taken xs) self.old.query)) out.old.items out.new.items) }
         ensures err { OnErr result (out.new.items ≡ out.old.items) }
         ensures query { self.new.query ≡ self.old.query }
         ensures same { self.new ≡ self.old }

@@ -79,7 +79,8 @@ pub fn extract<S: Source, K: Sink>(
 // Adds a header's line, behind an empty line where a chunk came before. Where memory runs out,
 // `out` stays.
 fn add_header(later: bool, line: &[u8], out: &mut Vec<u8>) -> Result<(), AllocError>
-    ensures ok { OnOk result (out.new.items ≡ out.old.items ++ ((if later then 10 ∷ [] else []) ++ (line.now ++ 10 ∷ []))) }
+    ensures ok { OnOk result
+        (out.new.items ≡ out.old.items ++ ((if later then 10 ∷ [] else []) ++ (line.now ++ 10 ∷ []))) }
     ensures err { OnErr result (out.new.items ≡ out.old.items) }
 {
     let before = out.len();
@@ -92,7 +93,8 @@ fn add_header(later: bool, line: &[u8], out: &mut Vec<u8>) -> Result<(), AllocEr
 
 // The same, but where memory runs out a part may stand behind the old bytes.
 fn add_header_lines(later: bool, line: &[u8], out: &mut Vec<u8>) -> Result<(), AllocError>
-    ensures ok { OnOk result (out.new.items ≡ out.old.items ++ ((if later then 10 ∷ [] else []) ++ (line.now ++ 10 ∷ []))) }
+    ensures ok { OnOk result
+        (out.new.items ≡ out.old.items ++ ((if later then 10 ∷ [] else []) ++ (line.now ++ 10 ∷ []))) }
     ensures grows { StartsWith out.new.items out.old.items }
 {
     if later {

@@ -28,8 +28,11 @@ pub(crate) fn run_on<K: Sink>(
     out: &mut Vec<u8>,
     sink: &mut K,
 ) -> Result<(), RunErr>
-    ensures ok { OnOk result ((total : List ℕ) × RunsOn reader.old reader.new answer.old answer.new out.old.items total × Sends (K.written sink.old) (K.written sink.new) total out.new.items) }
-    ensures fault { IsErrOf result RunErr.SinkFault → (total : List ℕ) × RunsOn reader.old reader.new answer.old answer.new out.old.items total × AppendsFront (K.written sink.old) (K.written sink.new) total }
+    ensures ok { OnOk result ((total : List ℕ) × RunsOn reader.old reader.new answer.old answer.new out.old.items total
+        × Sends (K.written sink.old) (K.written sink.new) total out.new.items) }
+    ensures fault { IsErrOf result RunErr.SinkFault
+        → (total : List ℕ) × RunsOn reader.old reader.new answer.old answer.new out.old.items total
+        × AppendsFront (K.written sink.old) (K.written sink.new) total }
     ensures memory { IsErrOf result RunErr.Memory → (out.new.items ≡ out.old.items) × (sink.new ≡ sink.old) }
     ensures faults { K.write_faults sink.old ≤ K.write_faults sink.new }
     ensures failed { IsErrOf result RunErr.SinkFault → Rose (K.write_faults sink.old) (K.write_faults sink.new) }
@@ -57,7 +60,8 @@ pub(crate) fn run_on<K: Sink>(
 
 // Gathers lines, or writes what was gathered and then them, where they are many or memory runs out.
 fn put_lines<K: Sink>(lines: &[u8], out: &mut Vec<u8>, sink: &mut K) -> Result<(), Failed>
-    ensures ok { OnOk result (Sends (K.written sink.old) (K.written sink.new) (out.old.items ++ lines.now) out.new.items) }
+    ensures ok { OnOk result
+        (Sends (K.written sink.old) (K.written sink.new) (out.old.items ++ lines.now) out.new.items) }
     ensures front { OnErr result (AppendsFront (K.written sink.old) (K.written sink.new) (out.old.items ++ lines.now)) }
     ensures faults { K.write_faults sink.old ≤ K.write_faults sink.new }
     ensures failed { OnErr result (Rose (K.write_faults sink.old) (K.write_faults sink.new)) }
@@ -73,7 +77,8 @@ fn put_lines<K: Sink>(lines: &[u8], out: &mut Vec<u8>, sink: &mut K) -> Result<(
 
 // Writes what was gathered, and then lines.
 fn write_lines<K: Sink>(lines: &[u8], out: &mut Vec<u8>, sink: &mut K) -> Result<(), Failed>
-    ensures ok { OnOk result (Sends (K.written sink.old) (K.written sink.new) (out.old.items ++ lines.now) out.new.items) }
+    ensures ok { OnOk result
+        (Sends (K.written sink.old) (K.written sink.new) (out.old.items ++ lines.now) out.new.items) }
     ensures front { OnErr result (AppendsFront (K.written sink.old) (K.written sink.new) (out.old.items ++ lines.now)) }
     ensures faults { K.write_faults sink.old ≤ K.write_faults sink.new }
     ensures failed { OnErr result (Rose (K.write_faults sink.old) (K.write_faults sink.new)) }

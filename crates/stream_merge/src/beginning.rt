@@ -1,5 +1,6 @@
 // Where in a piece the samples begin that count. It is found by search, so that those before aren't read.
-ghost use Rattle.std.specs.Prelude.{◌≡◌, ◌≤◌, ◌<◌, ◌+◌, ◌*◌, ◌^◌, ℕ, List, None, Err, OnOk, IsSome, IsTrue, length, take};
+ghost use Rattle.std.specs.Prelude.{◌≡◌, ◌≤◌, ◌<◌, ◌+◌, ◌*◌, ◌^◌, ℕ, List, None, Err, OnOk, IsSome, IsTrue, length};
+ghost use Rattle.std.specs.Prelude.{take};
 ghost use Rattle.disk_model.specs.Files.{Rose};
 ghost use Rattle.series_model.specs.declared.sample.Sample.{Sample};
 ghost use Rattle.payload_info.specs.declared.info.PayloadInfo.{PayloadInfo};
@@ -14,8 +15,8 @@ use series_model::Query;
 use std::alloc::Global;
 use std::sync::ledger::Ledger;
 
-// Behind the header's line, goes on where the samples begin that the query gets: at the last one that is earlier than the interval, and
-// behind those that aren't later than `last`.
+// Behind the header's line, goes on where the samples begin that the query gets: at the last one that is earlier than
+// the interval, and behind those that aren't later than `last`.
 pub(crate) fn skip<R: ReadAt, L: Ledger>(
     alloc: Global,
     walk: &mut FileWalk,
@@ -31,10 +32,14 @@ pub(crate) fn skip<R: ReadAt, L: Ledger>(
     requires going { walk.old.stop ≡ None }
     requires file { IsTrue R.tells → len ≤ length (R.bytes file.old) }
     ensures moves { MovesOn walk.old walk.new }
-    ensures at_line { IsTrue R.tells → IsAtLine walk.old.place walk.old (R.bytes file.old) → IsAtLine walk.old.place walk.new (R.bytes file.old) }
-    ensures begins { IsTrue R.tells → (head : List ℕ) (info : PayloadInfo) (samples : List Sample) → IsFile (take len (R.bytes file.old)) head info samples → walk.old.place ≡ length head + 1
+    ensures at_line { IsTrue R.tells → IsAtLine walk.old.place walk.old (R.bytes file.old)
+        → IsAtLine walk.old.place walk.new (R.bytes file.old) }
+    ensures begins { IsTrue R.tells → (head : List ℕ) (info : PayloadInfo) (samples : List Sample)
+        → IsFile (take len (R.bytes file.old)) head info samples
+        → walk.old.place ≡ length head + 1
         → OnOk result (BeginsWell (behind last) query head samples walk.new.place) }
-    ensures refused { IsTrue R.tells → (at : ℕ) → result ≡ Err (Damaged at) → (at ≡ 0) × HasNoHeader (take len (R.bytes file.old)) }
+    ensures refused { IsTrue R.tells → (at : ℕ) → result ≡ Err (Damaged at)
+        → (at ≡ 0) × HasNoHeader (take len (R.bytes file.old)) }
     ensures same { IsTrue R.tells → R.bytes file.new ≡ R.bytes file.old }
     ensures cause { result ≡ Err ReadFault → Rose (R.faults file.old) (R.faults file.new) }
     ensures counts { steps.old ≤ steps.new }
@@ -65,10 +70,14 @@ fn skip_earlier<R: ReadAt, L: Ledger>(
     requires within { walk.old.place ≤ len }
     requires file { IsTrue R.tells → len ≤ length (R.bytes file.old) }
     ensures moves { MovesOn walk.old walk.new }
-    ensures at_line { IsTrue R.tells → IsAtLine head_len walk.old (R.bytes file.old) → IsAtLine head_len walk.new (R.bytes file.old) }
-    ensures begins { IsTrue R.tells → (head : List ℕ) (info : PayloadInfo) (samples : List Sample) → IsFile (take len (R.bytes file.old)) head info samples → head_len ≡ length head + 1 → walk.old.place ≡ head_len
+    ensures at_line { IsTrue R.tells → IsAtLine head_len walk.old (R.bytes file.old)
+        → IsAtLine head_len walk.new (R.bytes file.old) }
+    ensures begins { IsTrue R.tells → (head : List ℕ) (info : PayloadInfo) (samples : List Sample)
+        → IsFile (take len (R.bytes file.old)) head info samples
+        → head_len ≡ length head + 1 → walk.old.place ≡ head_len
         → OnOk result (BeginsBefore from head samples walk.new.place) }
-    ensures refused { IsTrue R.tells → (at : ℕ) → result ≡ Err (Damaged at) → (at ≡ 0) × HasNoHeader (take len (R.bytes file.old)) }
+    ensures refused { IsTrue R.tells → (at : ℕ) → result ≡ Err (Damaged at)
+        → (at ≡ 0) × HasNoHeader (take len (R.bytes file.old)) }
     ensures same { IsTrue R.tells → R.bytes file.new ≡ R.bytes file.old }
     ensures faults { R.faults file.old ≤ R.faults file.new }
     ensures cause { result ≡ Err ReadFault → Rose (R.faults file.old) (R.faults file.new) }
@@ -99,10 +108,15 @@ fn skip_taken<R: ReadAt, L: Ledger>(
     requires within { walk.old.place ≤ len }
     requires file { IsTrue R.tells → len ≤ length (R.bytes file.old) }
     ensures moves { MovesOn walk.old walk.new }
-    ensures at_line { IsTrue R.tells → IsAtLine head_len walk.old (R.bytes file.old) → IsAtLine head_len walk.new (R.bytes file.old) }
-    ensures begins { IsTrue R.tells → (head : List ℕ) (info : PayloadInfo) (samples here : List Sample) → IsFile (take len (R.bytes file.old)) head info samples → head_len ≡ length head + 1 → Splits head samples here walk.old.place
+    ensures at_line { IsTrue R.tells → IsAtLine head_len walk.old (R.bytes file.old)
+        → IsAtLine head_len walk.new (R.bytes file.old) }
+    ensures begins { IsTrue R.tells → (head : List ℕ) (info : PayloadInfo) (samples here : List Sample)
+        → IsFile (take len (R.bytes file.old)) head info samples
+        → head_len ≡ length head + 1
+        → Splits head samples here walk.old.place
         → OnOk result (BeginsFrom (last + 1) head samples here walk.new.place) }
-    ensures refused { IsTrue R.tells → (at : ℕ) → result ≡ Err (Damaged at) → (at ≡ 0) × HasNoHeader (take len (R.bytes file.old)) }
+    ensures refused { IsTrue R.tells → (at : ℕ) → result ≡ Err (Damaged at)
+        → (at ≡ 0) × HasNoHeader (take len (R.bytes file.old)) }
     ensures same { IsTrue R.tells → R.bytes file.new ≡ R.bytes file.old }
     ensures cause { result ≡ Err ReadFault → Rose (R.faults file.old) (R.faults file.new) }
     ensures counts { steps.old ≤ steps.new }

@@ -11,13 +11,17 @@ ghost use Rattle.stream_merge.specs.Reading.{IsReadAs, IsBadFor};
 
 /// A piece that is a file of the type is read as its samples, and as no others; no line of it is bad.
 pub fn files_are_read()
-    ensures read { (ty : PayloadType) (bytes head : List ℕ) (info : PayloadInfo) (samples others : List Sample) → IsFile bytes head info samples → info.ty ≡ ty
+    ensures read { (ty : PayloadType) (bytes head : List ℕ) (info : PayloadInfo) (samples others : List Sample)
+        → IsFile bytes head info samples → info.ty ≡ ty
         → IsReadAs ty bytes others ↔ (others ≡ samples) }
-    ensures good { (ty : PayloadType) (bytes head : List ℕ) (info : PayloadInfo) (samples : List Sample) (at : ℕ) → IsFile bytes head info samples → info.ty ≡ ty → IsBadFor ty bytes at → ⊥ }
+    ensures good { (ty : PayloadType) (bytes head : List ℕ) (info : PayloadInfo) (samples : List Sample) (at : ℕ)
+        → IsFile bytes head info samples → info.ty ≡ ty → IsBadFor ty bytes at → ⊥ }
 {}
 
-/// Pieces may stay closed that stand before one which begins earlier than the interval, and later than all that they have.
+/// Pieces may stay closed that stand before one which begins earlier than the interval, and
+/// later than all that they have.
 pub fn pieces_that_may_stay_closed()
-    ensures { (closed opened : List Sample) (q : Query) (x : Sample) (xs : List Sample) → opened ≡ x ∷ xs → end_of (taken closed) ≤ x.t → x.t < q.from
+    ensures { (closed opened : List Sample) (q : Query) (x : Sample) (xs : List Sample) → opened ≡ x ∷ xs
+        → end_of (taken closed) ≤ x.t → x.t < q.from
         → answer (taken (closed ++ opened)) q ≡ answer (taken opened) q }
 {}

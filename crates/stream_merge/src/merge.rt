@@ -1,5 +1,6 @@
 //! The merge of pieces and a tail.
-ghost use Rattle.std.specs.Prelude.{◌≡◌, ◌≤◌, ◌<◌, ◌+◌, ◌↔◌, ◌∷◌, ◌++◌, [], ℕ, List, Option, Some, None, IfSome, IsSome, IsTrue, length};
+ghost use Rattle.std.specs.Prelude.{◌≡◌, ◌≤◌, ◌<◌, ◌+◌, ◌↔◌, ◌∷◌, ◌++◌, [], ℕ, List, Option, Some, None, IfSome};
+ghost use Rattle.std.specs.Prelude.{IsSome, IsTrue, length};
 ghost use Rattle.disk_model.specs.Files.{Name, Rose};
 ghost use Rattle.series_model.specs.declared.sample.Sample.{Sample as SampleValue};
 ghost use Rattle.series_model.specs.Series.{IsRising};
@@ -10,7 +11,8 @@ ghost use Rattle.pb_file.specs.Walk.{behind};
 ghost use Rattle.stream_merge.specs.Over.{over_all};
 ghost use Rattle.stream_merge.specs.Source.{open_pieces, HasFailed, OpensOn, IsGiven, Went, TakesFew};
 ghost use Rattle.stream_merge.specs.Reads.{GivesNext, HasGiven};
-ghost use Rattle.stream_merge.specs.Merging.{IsGoing, IsDue, IsEarly, Rest, HoldsNext, HoldsNextLong, GoesBehind, Answers, Gives, kept_of, line_from, remaining};
+ghost use Rattle.stream_merge.specs.Merging.{IsGoing, IsDue, IsEarly, Rest, HoldsNext, HoldsNextLong, GoesBehind};
+ghost use Rattle.stream_merge.specs.Merging.{Answers, Gives, kept_of, line_from, remaining};
 
 use crate::pieces::{Merged, Pieces};
 use crate::source::Source;
@@ -29,7 +31,8 @@ pub struct Merge<R: ReadAt> {
     source: Source<R>,
     // The moment of the last sample that was taken: of the others those count that are later.
     last: Option<u64>,
-    // A sample that was taken and not given yet: the last one earlier than the interval, until one that isn't comes; then that one.
+    // A sample that was taken and not given yet: the last one earlier than the interval, until one that
+    // isn't comes; then that one.
     kept: Option<u64>,
     kept_line: Vec<u8>,
 }
@@ -40,7 +43,8 @@ impl<R: ReadAt> Merge<R> {
         requires events { AreSamplesOf ty tail }
         ensures going { IsGoing R.tells R.bytes result }
         ensures ty { result.source.ty ≡ ty }
-        ensures whole { (ps : List NamedBytes) (lists : List (List SampleValue)) → AreReadAs ty ps lists → IsRising tail → Rest R.bytes result ps (answer (over_all lists tail) query) }
+        ensures whole { (ps : List NamedBytes) (lists : List (List SampleValue)) → AreReadAs ty ps lists → IsRising tail
+            → Rest R.bytes result ps (answer (over_all lists tail) query) }
         ensures over { (result.query ≡ query) × (result.source.tail.items ≡ tail) }
         ensures nothing { (left : ℕ) → HasGiven R.bytes result left [] [] }
         ensures none_open { result.source.piece ≡ None }
@@ -55,11 +59,12 @@ impl<R: ReadAt> Merge<R> {
         }
     }
 
-    /// Gives the next line of the answer, in place of what `line` had, or tells that there is none. After any answer but `Line` it isn't
-    /// called again.
+    /// Gives the next line of the answer, in place of what `line` had, or tells that there is none. After any answer
+    /// but `Line` it isn't called again.
     ///
-    /// Each call is given the pieces that are left of the same ones. `steps` counts the lines that are read: of files of the type at most 4,
-    /// and `4 * d + 8` for each piece that is opened, `d` being the number of binary digits of its length.
+    /// Each call is given the pieces that are left of the same ones. `steps` counts the lines that are read: of
+    /// files of the type at most 4, and `4 * d + 8` for each piece that is opened, `d` being the number of
+    /// binary digits of its length.
     pub fn next<P: Pieces<Reader = R>, L: Ledger>(
         &mut self,
         pieces: &mut P,
@@ -71,19 +76,34 @@ impl<R: ReadAt> Merge<R> {
         ensures going { (t : ℕ) → result ≡ Merged.Line t → IsGoing R.tells R.bytes self.new }
         ensures ty { self.new.source.ty ≡ self.old.source.ty }
         ensures same { (self.new.query ≡ self.old.query) × (self.new.source.tail ≡ self.old.source.tail) }
-        ensures lines { IsTrue R.tells → (ps : List NamedBytes) (xs : List SampleValue) → P.left pieces.old ps → Rest R.bytes self.old ps xs → Answers R.bytes (P.left pieces.new) self.new xs line.new.items result }
-        ensures reads { IsTrue R.tells → (ps : List NamedBytes) (given : List SampleValue) → HasGiven R.bytes self.old (P.count pieces.old) ps given → GivesNext R.bytes P.opened pieces.old ps pieces.new (P.count pieces.new) self.old.source.ty self.old.query self.old.source.tail.items given self.new line.new.items result }
-        ensures event { (t : ℕ) → result ≡ Merged.Line t → IsSampleOf self.old.source.ty (record { t = t; line = line.new.items }) }
+        ensures lines { IsTrue R.tells → (ps : List NamedBytes) (xs : List SampleValue) → P.left pieces.old ps
+            → Rest R.bytes self.old ps xs
+            → Answers R.bytes (P.left pieces.new) self.new xs line.new.items result }
+        ensures reads { IsTrue R.tells → (ps : List NamedBytes) (given : List SampleValue)
+            → HasGiven R.bytes self.old (P.count pieces.old) ps given
+            → GivesNext R.bytes P.opened pieces.old ps pieces.new (P.count pieces.new) self.old.source.ty self.old.query
+            self.old.source.tail.items given self.new line.new.items result }
+        ensures event { (t : ℕ) → result ≡ Merged.Line t
+            → IsSampleOf self.old.source.ty (record { t = t; line = line.new.items }) }
         ensures later { (t : ℕ) → result ≡ Merged.Line t → (line_from self.old ≤ t) × (t < line_from self.new) }
-        ensures opens { IsTrue R.tells → (ps : List NamedBytes) → P.left pieces.old ps → OpensOn R.bytes (P.left pieces.new) self.old.source.piece self.new.source.piece ps result }
-        ensures damaged { IsTrue R.tells → (ps : List NamedBytes) → P.left pieces.old ps → (name : Name) (at : ℕ) → result ≡ Merged.Damaged name at → IsDamaged self.old.source.ty (open_pieces R.bytes self.old.source.piece ++ ps) name at }
-        ensures failed { (failed : Option R) → result ≡ Merged.ReadFault failed → HasFailed R.faults self.old.source.piece (P.count pieces.new < P.count pieces.old) (Rose (P.faults pieces.old) (P.faults pieces.new)) failed }
+        ensures opens { IsTrue R.tells → (ps : List NamedBytes) → P.left pieces.old ps
+            → OpensOn R.bytes (P.left pieces.new) self.old.source.piece self.new.source.piece ps result }
+        ensures damaged { IsTrue R.tells → (ps : List NamedBytes) → P.left pieces.old ps → (name : Name) (at : ℕ)
+            → result ≡ Merged.Damaged name at
+            → IsDamaged self.old.source.ty (open_pieces R.bytes self.old.source.piece ++ ps) name at }
+        ensures failed { (failed : Option R) → result ≡ Merged.ReadFault failed
+            → HasFailed R.faults self.old.source.piece (P.count pieces.new < P.count pieces.old)
+            (Rose (P.faults pieces.old) (P.faults pieces.new)) failed }
         ensures spent { result ≡ Merged.Spent → P.is_spent pieces.new }
-        ensures went { Went R.tells R.bytes P.opened P.failed self.old.source.ty pieces.old self.old.source.piece result pieces.new self.new.source.piece }
+        ensures went { Went R.tells R.bytes P.opened P.failed self.old.source.ty pieces.old
+            self.old.source.piece result pieces.new self.new.source.piece }
         ensures faults { P.faults pieces.old ≤ P.faults pieces.new }
         ensures count { P.count pieces.new ≤ P.count pieces.old }
-        ensures smaller { (t : ℕ) → result ≡ Merged.Line t → remaining (P.count pieces.new) self.new < remaining (P.count pieces.old) self.old }
-        ensures steps { IsTrue R.tells → (ps : List NamedBytes) (xs : List SampleValue) → P.left pieces.old ps → Rest R.bytes self.old ps xs → TakesFew (P.left pieces.new) ps (steps.old + 4) steps.new }
+        ensures smaller { (t : ℕ) → result ≡ Merged.Line t
+            → remaining (P.count pieces.new) self.new < remaining (P.count pieces.old) self.old }
+        ensures steps { IsTrue R.tells → (ps : List NamedBytes) (xs : List SampleValue) → P.left pieces.old ps
+            → Rest R.bytes self.old ps xs
+            → TakesFew (P.left pieces.new) ps (steps.old + 4) steps.new }
     {
         if self.is_due() {
             return self.give_due(line);
@@ -105,7 +125,8 @@ impl<R: ReadAt> Merge<R> {
         }
     }
 
-    /// The next line of the answer and its moment, where both are in memory and nothing is held back. `pass` goes on behind it.
+    /// The next line of the answer and its moment, where both are in memory and nothing is held back.
+    /// `pass` goes on behind it.
     ///
     /// `work` is scratch space: what it held is lost.
     #[inline(always)]
@@ -123,8 +144,10 @@ impl<R: ReadAt> Merge<R> {
     pub fn pass<L: Ledger>(&mut self, t: u64, len: usize, steps: &mut Steps<L>)
         requires going { IsGoing R.tells R.bytes self.old }
         requires next { HoldsNextLong self.old t len }
-        ensures behind { (line : List ℕ) → HoldsNext self.old t line → len ≡ length line → GoesBehind R.tells R.bytes self.old t line self.new }
-        ensures reads { IsTrue R.tells → (line : List ℕ) → HoldsNext self.old t line → len ≡ length line → (left : ℕ) (ps : List NamedBytes) (given : List SampleValue) → HasGiven R.bytes self.old left ps given
+        ensures behind { (line : List ℕ) → HoldsNext self.old t line → len ≡ length line
+            → GoesBehind R.tells R.bytes self.old t line self.new }
+        ensures reads { IsTrue R.tells → (line : List ℕ) → HoldsNext self.old t line → len ≡ length line
+            → (left : ℕ) (ps : List NamedBytes) (given : List SampleValue) → HasGiven R.bytes self.old left ps given
             → HasGiven R.bytes self.new left ps (given ++ record { t = t; line = line } ∷ []) }
         ensures step { steps.new ≡ steps.old + 1 }
     {
@@ -156,11 +179,15 @@ impl<R: ReadAt> Merge<R> {
 
     // Gives what is kept, unless it is later than the interval.
     fn give_due(&mut self, line: &mut Vec<u8>) -> Merged<R>
-        ensures line { (t : ℕ) → result ≡ Merged.Line t → (kept_of self.old.kept self.old.kept_line.items ≡ record { t = t; line = line.new.items } ∷ []) × (t ≤ self.old.query.to) }
+        ensures line { (t : ℕ) → result ≡ Merged.Line t
+            → (kept_of self.old.kept self.old.kept_line.items ≡ record { t = t; line = line.new.items } ∷ [])
+            × (t ≤ self.old.query.to) }
         ensures end { (t : ℕ) → result ≡ Merged.End → self.old.kept ≡ Some t → self.old.query.to < t }
         ensures whole { IsGiven result }
         ensures none { self.new.kept ≡ None }
-        ensures rest { (self.new.query ≡ self.old.query) × (self.new.source ≡ self.old.source) × (self.new.last ≡ self.old.last) }
+        ensures rest { (self.new.query ≡ self.old.query)
+            × (self.new.source ≡ self.old.source)
+            × (self.new.last ≡ self.old.last) }
     {
         match self.give_kept(line) {
             Merged::Line { t } => self.within(t),
@@ -170,11 +197,14 @@ impl<R: ReadAt> Merge<R> {
 
     // Gives what is kept at the end, if anything is.
     fn give_kept(&mut self, line: &mut Vec<u8>) -> Merged<R>
-        ensures line { (t : ℕ) → result ≡ Merged.Line t → kept_of self.old.kept self.old.kept_line.items ≡ record { t = t; line = line.new.items } ∷ [] }
+        ensures line { (t : ℕ) → result ≡ Merged.Line t
+            → kept_of self.old.kept self.old.kept_line.items ≡ record { t = t; line = line.new.items } ∷ [] }
         ensures end { result ≡ Merged.End → kept_of self.old.kept self.old.kept_line.items ≡ [] }
         ensures whole { IsGiven result }
         ensures none { self.new.kept ≡ None }
-        ensures rest { (self.new.query ≡ self.old.query) × (self.new.source ≡ self.old.source) × (self.new.last ≡ self.old.last) }
+        ensures rest { (self.new.query ≡ self.old.query)
+            × (self.new.source ≡ self.old.source)
+            × (self.new.last ≡ self.old.last) }
     {
         let Some(t) = self.kept else {
             return Merged::End;
@@ -187,9 +217,12 @@ impl<R: ReadAt> Merge<R> {
     // Gives the sample that is kept, in whose place this one is then, or this one where none is.
     fn give(&mut self, t: u64, line: &mut Vec<u8>) -> Merged<R>
         ensures gives { Gives self.old.query.to self.old.kept t self.new.kept result }
-        ensures swapped { IsSome self.old.kept → (line.new.items ≡ self.old.kept_line.items) × (self.new.kept_line.items ≡ line.old.items) }
+        ensures swapped { IsSome self.old.kept
+            → (line.new.items ≡ self.old.kept_line.items) × (self.new.kept_line.items ≡ line.old.items) }
         ensures stays { self.old.kept ≡ None → line.new.items ≡ line.old.items }
-        ensures rest { (self.new.query ≡ self.old.query) × (self.new.source ≡ self.old.source) × (self.new.last ≡ self.old.last) }
+        ensures rest { (self.new.query ≡ self.old.query)
+            × (self.new.source ≡ self.old.source)
+            × (self.new.last ≡ self.old.last) }
     {
         match self.kept {
             Some(before) => {
@@ -205,7 +238,9 @@ impl<R: ReadAt> Merge<R> {
         ensures kept { kept_of self.new.kept self.new.kept_line.items ≡ record { t = t; line = line.old.items } ∷ [] }
         ensures some { self.new.kept ≡ Some t }
         ensures swapped { (line.new ≡ self.old.kept_line) × (self.new.kept_line ≡ line.old) }
-        ensures rest { (self.new.query ≡ self.old.query) × (self.new.source ≡ self.old.source) × (self.new.last ≡ self.old.last) }
+        ensures rest { (self.new.query ≡ self.old.query)
+            × (self.new.source ≡ self.old.source)
+            × (self.new.last ≡ self.old.last) }
     {
         self.kept = Some(t);
         mem::swap(line, &mut self.kept_line);

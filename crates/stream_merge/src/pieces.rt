@@ -8,7 +8,8 @@ use disk_model::{FileName, ReadAt};
 /// What the opening of the next piece came to.
 #[derive(Drop)]
 pub enum Opened<R: ReadAt> {
-    /// The piece is the first `len` bytes of the file of this name. The first `head_len` of them are its header's line and newline.
+    /// The piece is the first `len` bytes of the file of this name. The first `head_len` of them are its
+    /// header's line and newline.
     Piece {
         reader: R,
         name: FileName,
@@ -32,11 +33,11 @@ pub enum Merged<R: ReadAt> {
     Line { t: u64 },
     /// The answer is whole.
     End,
-    /// A read of this file failed, which it has counted. Where there is none, the opening of a piece failed, which the pieces have
-    /// counted.
+    /// A read of this file failed, which it has counted. Where there is none, the opening of a piece failed,
+    /// which the pieces have counted.
     ReadFault { failed: Option<R> },
-    /// The bytes of this piece are no file of the type: a bad line begins at this place. A header of another type is bad at 0. Lines that
-    /// are passed over aren't looked at.
+    /// The bytes of this piece are no file of the type: a bad line begins at this place. A header of another type is
+    /// bad at 0. Lines that are passed over aren't looked at.
     Damaged { name: FileName, at: u64 },
     /// The acts by which pieces are opened are spent.
     Spent,
@@ -72,7 +73,8 @@ pub trait Pieces {
     /// Opens the next piece. Its reader has no fault yet.
     fn open_next(&mut self) -> Opened<Self::Reader>
         requires may { may_open self.old }
-        ensures opens { IsTrue Self.Reader.tells → (ps : List NamedBytes) → left self.old ps → Opens Self.Reader.bytes (left self.new) ps result }
+        ensures opens { IsTrue Self.Reader.tells → (ps : List NamedBytes) → left self.old ps
+            → Opens Self.Reader.bytes (left self.new) ps result }
         ensures bytes { IsTrue Self.Reader.tells → HasBytes Self.Reader.bytes result }
         ensures fresh { HasNoFault Self.Reader.faults result }
         ensures count { Counts (count self.old) (count self.new) result }
@@ -86,10 +88,12 @@ pub trait Pieces {
     ghost none_opened: { (a : Self) → opened a [] a };
 
     /// What was opened first and what was opened then.
-    ghost opened_on: { (a b c : Self) (xs ys : List NamedBytes) → opened a xs b → opened b ys c → opened a (xs ++ ys) c };
+    ghost opened_on: { (a b c : Self) (xs ys : List NamedBytes) → opened a xs b → opened b ys c
+        → opened a (xs ++ ys) c };
 
     /// A failure behind what was opened.
-    ghost failed_on: { (a b c : Self) (xs : List NamedBytes) (why : Failure) → opened a xs b → failed b why c → failed a why c };
+    ghost failed_on: { (a b c : Self) (xs : List NamedBytes) (why : Failure) → opened a xs b → failed b why c
+        → failed a why c };
 
     /// As long as no opening fails the next piece may be opened.
     ghost goes_on: { (a b : Self) (xs : List NamedBytes) → may_open a → opened a xs b → may_open b };

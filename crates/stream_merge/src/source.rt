@@ -1,12 +1,15 @@
 //! The samples of pieces and of a tail, one after another.
-ghost use Rattle.std.specs.Prelude.{◌≡◌, ◌≢◌, ◌≤◌, ◌<◌, ◌+◌, ◌*◌, ◌^◌, ◌↔◌, ◌⊎◌, ◌∷◌, ◌++◌, [], ℕ, List, Option, Some, None, IfSome, IsSome, IsTrue, IfOk, IfErr, Err, length, take, drop};
+ghost use Rattle.std.specs.Prelude.{◌≡◌, ◌≢◌, ◌≤◌, ◌<◌, ◌+◌, ◌*◌, ◌^◌, ◌↔◌, ◌⊎◌, ◌∷◌, ◌++◌, [], ℕ, List, Option, Some};
+ghost use Rattle.std.specs.Prelude.{None, IfSome, IsSome, IsTrue, IfOk, IfErr, Err, length, take, drop};
 ghost use Rattle.disk_model.specs.Files.{Name, Rose};
 ghost use Rattle.series_model.specs.declared.sample.Sample.{Sample as SampleValue};
 ghost use Rattle.payload_info.specs.declared.info.PayloadInfo.{PayloadInfo as Info};
 ghost use Rattle.stream_merge.specs.declared.pieces.Merged.TheVariants as merged;
 ghost use Rattle.stream_merge.specs.Pieces.{NamedBytes};
 ghost use Rattle.stream_merge.specs.Reading.{IsSampleOf, AreSamplesOf, IsBadFor, IsReadAs, IsDamaged};
-ghost use Rattle.stream_merge.specs.Source.{IsReady, IsOpenAs, open_pieces, HasFailed, HasFailedNow, HasRisen, Grew, Coming, ReadsOpen, Pulls, OpensOn, Went, unread, unread_in, IsStop, ClosesAs, IsFailure, IsGiven, IsOfTail, HoldsIn, passed};
+ghost use Rattle.stream_merge.specs.Source.{IsReady, IsOpenAs, open_pieces, HasFailed, HasFailedNow, HasRisen, Grew};
+ghost use Rattle.stream_merge.specs.Source.{Coming, ReadsOpen, Pulls, OpensOn, Went, unread, unread_in, IsStop};
+ghost use Rattle.stream_merge.specs.Source.{ClosesAs, IsFailure, IsGiven, IsOfTail, HoldsIn, passed};
 ghost use Rattle.stream_merge.specs.Source.{BeginsAs};
 ghost use Rattle.stream_merge.specs.Beginning.{early_count, IsPlaced, IsAtLine, TellsAs};
 ghost use Rattle.stream_merge.specs.Reads.{HasRead, HasReadOpen, PullsNext, ReadsNext};
@@ -53,8 +56,8 @@ impl<R: ReadAt> Source<R> {
         }
     }
 
-    // Reads the next sample's line. `End` says that there is none. Of a piece that is opened those samples are left out that aren't later
-    // than `last`, and those before the last one that is earlier than the interval.
+    // Reads the next sample's line. `End` says that there is none. Of a piece that is opened those samples are left out
+    // that aren't later than `last`, and those before the last one that is earlier than the interval.
     pub(crate) fn pull<P: Pieces<Reader = R>, L: Ledger>(
         &mut self,
         pieces: &mut P,
@@ -68,20 +71,35 @@ impl<R: ReadAt> Source<R> {
         requires may { P.may_open pieces.old }
         ensures ready { IsGiven result → IsReady R.tells R.bytes self.new.ty self.new.piece }
         ensures same { (self.new.ty ≡ self.old.ty) × (self.new.tail ≡ self.old.tail) }
-        ensures lines { IsTrue R.tells → (ps : List NamedBytes) (xs : List SampleValue) → P.left pieces.old ps → (c : Coming R.bytes self.old ps xs) → IsPlaced (behind last) query.from c.here
-            → Pulls R.bytes (P.left pieces.new) (behind last) query ps xs (steps.old + early_count query.from c.here) self.new line.new.items steps.new result }
-        ensures reads { IsTrue R.tells → (ps : List NamedBytes) (read : List SampleValue) → HasRead R.bytes self.old (P.count pieces.old) ps read → PullsNext R.bytes P.opened pieces.old ps pieces.new (P.count pieces.new) read self.new line.new.items result }
-        ensures event { (t : ℕ) → result ≡ Merged.Line t → IsSampleOf self.old.ty (record { t = t; line = line.new.items }) }
-        ensures opens { IsTrue R.tells → (ps : List NamedBytes) → P.left pieces.old ps → OpensOn R.bytes (P.left pieces.new) self.old.piece self.new.piece ps result }
-        ensures damaged { IsTrue R.tells → (ps : List NamedBytes) → P.left pieces.old ps → (name : Name) (at : ℕ) → result ≡ Merged.Damaged name at → IsDamaged self.old.ty (open_pieces R.bytes self.old.piece ++ ps) name at }
-        ensures failed { (failed : Option R) → result ≡ Merged.ReadFault failed → HasFailed R.faults self.old.piece (P.count pieces.new < P.count pieces.old) (Rose (P.faults pieces.old) (P.faults pieces.new)) failed }
+        ensures lines { IsTrue R.tells → (ps : List NamedBytes) (xs : List SampleValue) → P.left pieces.old ps
+            → (c : Coming R.bytes self.old ps xs) → IsPlaced (behind last) query.from c.here
+            → Pulls R.bytes (P.left pieces.new) (behind last) query ps xs
+            (steps.old + early_count query.from c.here) self.new line.new.items steps.new result }
+        ensures reads { IsTrue R.tells → (ps : List NamedBytes) (read : List SampleValue)
+            → HasRead R.bytes self.old (P.count pieces.old) ps read
+            → PullsNext R.bytes P.opened pieces.old ps pieces.new
+            (P.count pieces.new) read self.new line.new.items result }
+        ensures event { (t : ℕ) → result ≡ Merged.Line t
+            → IsSampleOf self.old.ty (record { t = t; line = line.new.items }) }
+        ensures opens { IsTrue R.tells → (ps : List NamedBytes) → P.left pieces.old ps
+            → OpensOn R.bytes (P.left pieces.new) self.old.piece self.new.piece ps result }
+        ensures damaged { IsTrue R.tells → (ps : List NamedBytes) → P.left pieces.old ps → (name : Name) (at : ℕ)
+            → result ≡ Merged.Damaged name at
+            → IsDamaged self.old.ty (open_pieces R.bytes self.old.piece ++ ps) name at }
+        ensures failed { (failed : Option R) → result ≡ Merged.ReadFault failed
+            → HasFailed R.faults self.old.piece (P.count pieces.new < P.count pieces.old)
+            (Rose (P.faults pieces.old) (P.faults pieces.new)) failed }
         ensures spent { result ≡ Merged.Spent → P.is_spent pieces.new }
-        ensures went { Went R.tells R.bytes P.opened P.failed self.old.ty pieces.old self.old.piece result pieces.new self.new.piece }
+        ensures went { Went R.tells R.bytes P.opened P.failed self.old.ty pieces.old
+            self.old.piece result pieces.new self.new.piece }
         ensures faults { P.faults pieces.old ≤ P.faults pieces.new }
         ensures count { P.count pieces.new ≤ P.count pieces.old }
-        ensures grew { (t : ℕ) → result ≡ Merged.Line t → (P.count pieces.new < P.count pieces.old) ⊎ Grew R.faults self.old.piece self.new.piece }
-        ensures smaller { (t : ℕ) → result ≡ Merged.Line t → unread (P.count pieces.new) self.new < unread (P.count pieces.old) self.old }
-        ensures no_more { result ≡ Merged.End → unread (P.count pieces.new) self.new ≤ unread (P.count pieces.old) self.old }
+        ensures grew { (t : ℕ) → result ≡ Merged.Line t
+            → (P.count pieces.new < P.count pieces.old) ⊎ Grew R.faults self.old.piece self.new.piece }
+        ensures smaller { (t : ℕ) → result ≡ Merged.Line t
+            → unread (P.count pieces.new) self.new < unread (P.count pieces.old) self.old }
+        ensures no_more { result ≡ Merged.End
+            → unread (P.count pieces.new) self.new ≤ unread (P.count pieces.old) self.old }
     {
         'pieces: loop {
             match self.read_open(line, steps) {
@@ -145,12 +163,18 @@ impl<R: ReadAt> Source<R> {
         ensures closed { result ≡ Merged.End → self.new.piece ≡ None }
         ensures ends { self.old.piece ≡ None → result ≡ Merged.End }
         ensures same { self.new ≡ record self.old { piece = self.new.piece } }
-        ensures lines { IsTrue R.tells → (xs : List SampleValue) → IsOpenAs R.bytes self.old.piece xs → ReadsOpen R.bytes self.new.piece xs line.new.items result }
-        ensures reads { IsTrue R.tells → (read : List SampleValue) → HasReadOpen R.bytes self.old.ty self.old.piece read → ReadsNext R.bytes self.old.ty self.old.piece self.new.piece read line.new.items result }
-        ensures event { (t : ℕ) → result ≡ Merged.Line t → IsSampleOf self.old.ty (record { t = t; line = line.new.items }) }
-        ensures stays { IsTrue R.tells → (t : ℕ) → result ≡ Merged.Line t → open_pieces R.bytes self.new.piece ≡ open_pieces R.bytes self.old.piece }
-        ensures damaged { IsTrue R.tells → (name : Name) (at : ℕ) → result ≡ Merged.Damaged name at → IsDamaged self.old.ty (open_pieces R.bytes self.old.piece) name at }
-        ensures failed { (failed : Option R) → result ≡ Merged.ReadFault failed → HasRisen R.faults self.old.piece failed }
+        ensures lines { IsTrue R.tells → (xs : List SampleValue) → IsOpenAs R.bytes self.old.piece xs
+            → ReadsOpen R.bytes self.new.piece xs line.new.items result }
+        ensures reads { IsTrue R.tells → (read : List SampleValue) → HasReadOpen R.bytes self.old.ty self.old.piece read
+            → ReadsNext R.bytes self.old.ty self.old.piece self.new.piece read line.new.items result }
+        ensures event { (t : ℕ) → result ≡ Merged.Line t
+            → IsSampleOf self.old.ty (record { t = t; line = line.new.items }) }
+        ensures stays { IsTrue R.tells → (t : ℕ) → result ≡ Merged.Line t
+            → open_pieces R.bytes self.new.piece ≡ open_pieces R.bytes self.old.piece }
+        ensures damaged { IsTrue R.tells → (name : Name) (at : ℕ) → result ≡ Merged.Damaged name at
+            → IsDamaged self.old.ty (open_pieces R.bytes self.old.piece) name at }
+        ensures failed { (failed : Option R) → result ≡ Merged.ReadFault failed
+            → HasRisen R.faults self.old.piece failed }
         ensures never { result ≢ Merged.Spent }
         ensures grew { (t : ℕ) → result ≡ Merged.Line t → Grew R.faults self.old.piece self.new.piece }
         ensures smaller { (t : ℕ) → result ≡ Merged.Line t → unread_in self.new.piece < unread_in self.old.piece }
@@ -173,11 +197,14 @@ impl<R: ReadAt> Source<R> {
 
     // Reads the next line of the tail.
     fn read_tail(&mut self, line: &mut Vec<u8>) -> Merged<R>
-        ensures line { (t : ℕ) → result ≡ Merged.Line t → drop self.old.at self.old.tail.items ≡ record { t = t; line = line.new.items } ∷ drop self.new.at self.new.tail.items }
+        ensures line { (t : ℕ) → result ≡ Merged.Line t
+            → drop self.old.at self.old.tail.items
+            ≡ record { t = t; line = line.new.items } ∷ drop self.new.at self.new.tail.items }
         ensures end { result ≡ Merged.End → (drop self.old.at self.old.tail.items ≡ []) × (self.new ≡ self.old) }
         ensures same { self.new ≡ record self.old { at = self.new.at } }
         ensures whole { IsOfTail result }
-        ensures smaller { (t : ℕ) → result ≡ Merged.Line t → length (drop self.new.at self.new.tail.items) < length (drop self.old.at self.old.tail.items) }
+        ensures smaller { (t : ℕ) → result ≡ Merged.Line t
+            → length (drop self.new.at self.new.tail.items) < length (drop self.old.at self.old.tail.items) }
     {
         let Some(sample) = self.tail.get(self.at) else {
             return Merged::End;
@@ -192,8 +219,8 @@ impl<R: ReadAt> Source<R> {
     }
 }
 
-// Opens a piece where its samples begin to count: at the last one that is earlier than the interval, or behind those that aren't later
-// than the last one taken.
+// Opens a piece where its samples begin to count: at the last one that is earlier than the interval, or behind those
+// that aren't later than the last one taken.
 fn open_at<R: ReadAt, L: Ledger>(
     alloc: Global,
     ty: PayloadType,
@@ -207,11 +234,14 @@ fn open_at<R: ReadAt, L: Ledger>(
 ) -> Result<OpenPiece<R>, Merged<R>>
     requires bytes { IsTrue R.tells → len ≤ length (R.bytes reader) }
     ensures ready { IfOk result (λ p. IsReady R.tells R.bytes ty (Some p)) }
-    ensures pieces { IsTrue R.tells → IfOk result (λ p. open_pieces R.bytes (Some p) ≡ record { name = name; bytes = take len (R.bytes reader) } ∷ []) }
-    ensures lines { IsTrue R.tells → (xs : List SampleValue) → IsReadAs ty (take len (R.bytes reader)) xs → IfOk result (λ p. BeginsAs R.bytes (behind last) query p xs) }
+    ensures pieces { IsTrue R.tells → IfOk result (λ p.
+        open_pieces R.bytes (Some p) ≡ record { name = name; bytes = take len (R.bytes reader) } ∷ []) }
+    ensures lines { IsTrue R.tells → (xs : List SampleValue) → IsReadAs ty (take len (R.bytes reader)) xs
+        → IfOk result (λ p. BeginsAs R.bytes (behind last) query p xs) }
     ensures unread { IsTrue R.tells → IfOk result (λ p. HasReadOpen R.bytes ty (Some p) []) }
     ensures small { IfOk result (λ p. unread_in (Some p) < 2 ^ 64) }
-    ensures damaged { IsTrue R.tells → (found : Name) (at : ℕ) → result ≡ Err (merged.Damaged found at) → (found ≡ name) × IsBadFor ty (take len (R.bytes reader)) at }
+    ensures damaged { IsTrue R.tells → (found : Name) (at : ℕ) → result ≡ Err (merged.Damaged found at)
+        → (found ≡ name) × IsBadFor ty (take len (R.bytes reader)) at }
     ensures failed { (failed : Option R) → result ≡ Err (merged.ReadFault failed) → HasFailedNow R.faults failed }
     ensures failure { IfErr result IsFailure }
     ensures counts { steps.old ≤ steps.new }
@@ -245,12 +275,14 @@ fn begin<R: ReadAt, L: Ledger>(
 ) -> Result<OpenPiece<R>, Merged<R>>
     requires bytes { IsTrue R.tells → len ≤ length (R.bytes reader) }
     ensures ready { IfOk result (λ p. IsReady R.tells R.bytes ty (Some p)) }
-    ensures pieces { IsTrue R.tells → IfOk result (λ p. open_pieces R.bytes (Some p) ≡ record { name = name; bytes = take len (R.bytes reader) } ∷ []) }
+    ensures pieces { IsTrue R.tells → IfOk result (λ p.
+        open_pieces R.bytes (Some p) ≡ record { name = name; bytes = take len (R.bytes reader) } ∷ []) }
     ensures begun { IsTrue R.tells → IfOk result (λ p. IsAtLine p.walk.place p.walk (R.bytes reader)) }
     ensures same { IfOk result (λ p. (p.walk.len ≡ len) × (p.name ≡ name)) }
     ensures bytes { IsTrue R.tells → IfOk result (λ p. R.bytes p.reader ≡ R.bytes reader) }
     ensures small { IfOk result (λ p. unread_in (Some p) < 2 ^ 64) }
-    ensures damaged { IsTrue R.tells → (found : Name) (at : ℕ) → result ≡ Err (merged.Damaged found at) → (found ≡ name) × IsBadFor ty (take len (R.bytes reader)) at }
+    ensures damaged { IsTrue R.tells → (found : Name) (at : ℕ) → result ≡ Err (merged.Damaged found at)
+        → (found ≡ name) × IsBadFor ty (take len (R.bytes reader)) at }
     ensures failed { (failed : Option R) → result ≡ Err (merged.ReadFault failed) → HasFailedNow R.faults failed }
     ensures failure { IfErr result IsFailure }
     ensures counts { steps.old ≤ steps.new }

@@ -1,5 +1,6 @@
 // How many samples of a listed file are later than a moment: its lines are read in pieces, one after another.
-ghost use Rattle.std.specs.Prelude.{◌≡◌, ◌≤◌, ◌<◌, ◌+◌, ◌∷◌, ◌++◌, [], ℕ, List, Some, length, take, drop, IfOk, IfSome, IsErrOf, IsTrue};
+ghost use Rattle.std.specs.Prelude.{◌≡◌, ◌≤◌, ◌<◌, ◌+◌, ◌∷◌, ◌++◌, [], ℕ, List, Some, length, take, drop, IfOk, IfSome};
+ghost use Rattle.std.specs.Prelude.{IsErrOf, IsTrue};
 ghost use Rattle.arch_time.specs.YearTime.{IsSampleYear};
 ghost use Rattle.disk_model.specs.Files.{HasFile, Rose};
 ghost use Rattle.line_escape.specs.Unescaping.{HasNoNewline};
@@ -38,9 +39,11 @@ pub(crate) fn read<D: Disk>(
     len: usize,
 ) -> Result<Vec<u8>, DiskErr>
     requires { IsTrue D.tells → HasFile (D.files disk.old) name.now (λ b. at ≤ length b) }
-    ensures bytes { IsTrue D.tells → (b : List ℕ) → D.files disk.old name.now ≡ Some b → IfOk result (λ v. v.items ≡ take len (drop at b)) }
+    ensures bytes { IsTrue D.tells → (b : List ℕ) → D.files disk.old name.now ≡ Some b
+        → IfOk result (λ v. v.items ≡ take len (drop at b)) }
     ensures long { IfOk result (λ v. length v.items ≤ len) }
-    ensures reads { IsTrue D.tells → ReadsDisk (D.files disk.old) (D.files disk.new) (D.opened disk.old) (D.opened disk.new) (D.past disk.old) (D.past disk.new) }
+    ensures reads { IsTrue D.tells → ReadsDisk (D.files disk.old) (D.files disk.new)
+        (D.opened disk.old) (D.opened disk.new) (D.past disk.old) (D.past disk.new) }
     ensures faults { D.faults disk.old ≤ D.faults disk.new }
     ensures cause { IsErrOf result DiskErr.Fault → Rose (D.faults disk.old) (D.faults disk.new) }
 {
@@ -56,8 +59,10 @@ pub(crate) fn header_of(
     head: &[u8],
     work: &mut Vec<u8>,
 ) -> Result<Option<PayloadInfo>, AllocError>
-    ensures header { IfOk result (λ o. (line : List ℕ) (info : PayloadInfoValue) → head.now ≡ line ++ 10 ∷ [] → HasNoNewline line → IsHeaderLine line info → o ≡ Some info) }
-    ensures line { IfOk result (λ o. IfSome o (λ info. (line : List ℕ) × (head.now ≡ line ++ 10 ∷ []) × HasNoNewline line × IsHeaderLine line info)) }
+    ensures header { IfOk result (λ o. (line : List ℕ) (info : PayloadInfoValue) → head.now ≡ line ++ 10 ∷ []
+        → HasNoNewline line → IsHeaderLine line info → o ≡ Some info) }
+    ensures line { IfOk result (λ o. IfSome o (λ info. (line : List ℕ) × (head.now ≡ line ++ 10 ∷ [])
+        × HasNoNewline line × IsHeaderLine line info)) }
     ensures year { IfOk result (λ o. IfSome o (λ info. IsSampleYear info.year)) }
 {
     let end = line_len(head);
@@ -72,7 +77,8 @@ pub(crate) fn header_of(
     }
 }
 
-// Counts the samples later than a moment in the lines at the front of the bytes, up to the first that is no sample of this type and year.
+// Counts the samples later than a moment in the lines at the front of the bytes, up to the first that is no
+// sample of this type and year.
 fn count_lines(
     ty: PayloadType,
     year: &YearStart,
@@ -103,8 +109,8 @@ fn count_lines(
     Ok(counted)
 }
 
-// Counts the samples later than a moment in the lines between two places of a file. Where some of these are no lines of this type and
-// year, the count says nothing.
+// Counts the samples later than a moment in the lines between two places of a file. Where some of these are no lines of
+// this type and year, the count says nothing.
 fn count_between<D: Disk>(
     alloc: Global,
     disk: &mut D,
@@ -116,8 +122,11 @@ fn count_between<D: Disk>(
     last: u64,
 ) -> Result<u64, DiskErr>
     requires there { IsTrue D.tells → HasFile (D.files disk.old) name.now (λ b. end ≤ length b) }
-    ensures count { IsTrue D.tells → (samples : List Sample) → HasLines (D.files disk.old) name.now from end ty year.now.year samples → IfOk result (λ n. n ≡ length (since (last + 1) samples)) }
-    ensures reads { IsTrue D.tells → ReadsDisk (D.files disk.old) (D.files disk.new) (D.opened disk.old) (D.opened disk.new) (D.past disk.old) (D.past disk.new) }
+    ensures count { IsTrue D.tells → (samples : List Sample)
+        → HasLines (D.files disk.old) name.now from end ty year.now.year samples
+        → IfOk result (λ n. n ≡ length (since (last + 1) samples)) }
+    ensures reads { IsTrue D.tells → ReadsDisk (D.files disk.old) (D.files disk.new)
+        (D.opened disk.old) (D.opened disk.new) (D.past disk.old) (D.past disk.new) }
     ensures faults { D.faults disk.old ≤ D.faults disk.new }
     ensures cause { IsErrOf result DiskErr.Fault → Rose (D.faults disk.old) (D.faults disk.new) }
 {
@@ -141,7 +150,8 @@ fn count_between<D: Disk>(
     Ok(count)
 }
 
-// Counts the samples of a listed file that are later than a moment. Where the listed bytes are no file of samples, the count says nothing.
+// Counts the samples of a listed file that are later than a moment. Where the listed bytes are no file of
+// samples, the count says nothing.
 pub(crate) fn count_later<D: Disk>(
     alloc: Global,
     disk: &mut D,
@@ -150,9 +160,12 @@ pub(crate) fn count_later<D: Disk>(
     last: u64,
 ) -> Result<u64, DiskErr>
     requires there { IsTrue D.tells → HasFile (D.files disk.old) name.now (λ b. entry.now.len ≤ length b) }
-    ensures count { IsTrue D.tells → (head : List ℕ) (info : PayloadInfoValue) (samples : List Sample) → HasFile (D.files disk.old) name.now (λ b. IsFile (take entry.now.len b) head info samples) → entry.now.head_len ≡ length head + 1
+    ensures count { IsTrue D.tells → (head : List ℕ) (info : PayloadInfoValue) (samples : List Sample)
+        → HasFile (D.files disk.old) name.now (λ b. IsFile (take entry.now.len b) head info samples)
+        → entry.now.head_len ≡ length head + 1
         → IfOk result (λ n. n ≡ length (since (last + 1) samples)) }
-    ensures reads { IsTrue D.tells → ReadsDisk (D.files disk.old) (D.files disk.new) (D.opened disk.old) (D.opened disk.new) (D.past disk.old) (D.past disk.new) }
+    ensures reads { IsTrue D.tells → ReadsDisk (D.files disk.old) (D.files disk.new)
+        (D.opened disk.old) (D.opened disk.new) (D.past disk.old) (D.past disk.new) }
     ensures faults { D.faults disk.old ≤ D.faults disk.new }
     ensures cause { IsErrOf result DiskErr.Fault → Rose (D.faults disk.old) (D.faults disk.new) }
 {

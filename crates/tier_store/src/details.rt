@@ -36,18 +36,25 @@ fn own_entries(manifests: &[Manifest], i: usize, row: u32) -> &[Entry]
 }
 
 impl<D: Disk> TierStore<D> {
-    // Adds the samples that are held of a row itself to those before them, by its files in the order in which they are read.
+    // Adds the samples that are held of a row itself to those before them, by its files in the
+    // order in which they are read.
     fn tally_row(&mut self, row: u32, tally: Tally) -> Result<Tally, DiskErr>
         requires row { row < length self.old.catalogue.rows }
         requires three { length self.old.manifests.items ≡ 3 }
         requires has { (held : Stores) × Has D.tells (seen D.Disk self.old) held }
 
-        ensures tally { IsTrue D.tells → (held : Stores) (samples : List Sample) → Has D.tells (seen D.Disk self.old) held → IsTrue held.stands
-            → IsTally samples tally → IfOk result (IsTally (over samples (samples_in row held))) }
+        ensures tally { IsTrue D.tells → (held : Stores) (samples : List Sample)
+            → Has D.tells (seen D.Disk self.old) held → IsTrue held.stands → IsTally samples tally
+            → IfOk result (IsTally (over samples (samples_in row held))) }
         ensures listed { IfOk result (Adds tally (entries_in row self.old.manifests.items)) }
-        ensures ends { IfOk result (λ t. behind t.last ≡ end_of_files (behind tally.last) (entries_in row self.old.manifests.items)) }
-        ensures same { (self.new.catalogue ≡ self.old.catalogue) × (self.new.manifests ≡ self.old.manifests) × (self.new.pinned ≡ self.old.pinned) × (self.new.limbo ≡ self.old.limbo) }
-        ensures reads { IsTrue D.tells → ReadsDisk (D.files self.old.disk) (D.files self.new.disk) (D.opened self.old.disk) (D.opened self.new.disk) (D.past self.old.disk) (D.past self.new.disk) }
+        ensures ends { IfOk result (λ t.
+            behind t.last ≡ end_of_files (behind tally.last) (entries_in row self.old.manifests.items)) }
+        ensures same { (self.new.catalogue ≡ self.old.catalogue)
+            × (self.new.manifests ≡ self.old.manifests)
+            × (self.new.pinned ≡ self.old.pinned)
+            × (self.new.limbo ≡ self.old.limbo) }
+        ensures reads { IsTrue D.tells → ReadsDisk (D.files self.old.disk) (D.files self.new.disk)
+            (D.opened self.old.disk) (D.opened self.new.disk) (D.past self.old.disk) (D.past self.new.disk) }
         ensures faults { D.faults self.old.disk ≤ D.faults self.new.disk }
         ensures cause { IsErrOf result DiskErr.Fault → Rose (D.faults self.old.disk) (D.faults self.new.disk) }
     {
@@ -70,11 +77,12 @@ impl<D: Disk> TierStore<D> {
             → IfOk result (IsTally (whole_in row held)) }
         ensures listed { let entries = entries_of_line row self.old.catalogue.rows self.old.manifests.items in
             RiseFrom 0 entries → IfOk result (λ t. t.count ≡ listed_count entries) }
-        ensures ends { IfOk result (λ t. behind t.last ≡ end_of_files 0 (entries_of_line row self.old.catalogue.rows self.old.manifests.items)) }
+        ensures ends { IfOk result (λ t.
+            behind t.last ≡ end_of_files 0 (entries_of_line row self.old.catalogue.rows self.old.manifests.items)) }
         ensures same { (self.new.catalogue ≡ self.old.catalogue) × (self.new.manifests ≡ self.old.manifests)
             × (self.new.pinned ≡ self.old.pinned) × (self.new.limbo ≡ self.old.limbo) }
-        ensures reads { IsTrue D.tells → ReadsDisk (D.files self.old.disk) (D.files self.new.disk) (D.opened self.old.disk)
-            (D.opened self.new.disk) (D.past self.old.disk) (D.past self.new.disk) }
+        ensures reads { IsTrue D.tells → ReadsDisk (D.files self.old.disk) (D.files self.new.disk)
+            (D.opened self.old.disk) (D.opened self.new.disk) (D.past self.old.disk) (D.past self.new.disk) }
         ensures faults { D.faults self.old.disk ≤ D.faults self.new.disk }
         ensures cause { IsErrOf result DiskErr.Fault → Rose (D.faults self.old.disk) (D.faults self.new.disk) }
     {
@@ -86,15 +94,18 @@ impl<D: Disk> TierStore<D> {
         Ok(tally)
     }
 
-    /// How many samples the three stores hold of the whole of a row, which are those of the variable under all its names up to the row's. A
-    /// sample that two stores list counts once. And the moments of the first and of the last. It needs that no change stands in doubt.
+    /// How many samples the three stores hold of the whole of a row, which are those of the variable under all its
+    /// names up to the row's. A sample that two stores list counts once. And the moments of the first and of the last.
+    /// It needs that no change stands in doubt.
     ///
-    /// A file is read that the samples before it reach into, as the file of an earlier store while a move is half done; all others count by
-    /// their entries. Where by these each file of the rows begins behind those that are read before it, no file is read, and the number is
-    /// the one that they say. Else nothing is said of it where the disk doesn't tell its files, or somebody has damaged listed ones. The last
-    /// moment is always the latest one that the entries say.
+    /// A file is read that the samples before it reach into, as the file of an earlier store while a move is half
+    /// done; all others count by their entries. Where by these each file of the rows begins behind those that are
+    /// read before it, no file is read, and the number is the one that they say. Else nothing is said of it where
+    /// the disk doesn't tell its files, or somebody has damaged listed ones. The last moment is always the latest
+    /// one that the entries say.
     ///
-    /// `Fault` comes only where the disk's count of faults rose in the call. `Memory` comes also where no `u64` has the number.
+    /// `Fault` comes only where the disk's count of faults rose in the call. `Memory` comes also
+    /// where no `u64` has the number.
     pub fn tally(&mut self, row: u32) -> Result<Tally, DiskErr>
         requires row { row < length self.old.catalogue.rows }
         requires has { (held : Stores) × Has D.tells (seen D.Disk self.old) held }
@@ -103,9 +114,14 @@ impl<D: Disk> TierStore<D> {
             → IfOk result (IsTally (whole_in row held)) }
         ensures listed { let entries = entries_of_line row self.old.catalogue.rows self.old.manifests.items in
             RiseFrom 0 entries → IfOk result (λ t. t.count ≡ listed_count entries) }
-        ensures ends { IfOk result (λ t. behind t.last ≡ end_of_files 0 (entries_of_line row self.old.catalogue.rows self.old.manifests.items)) }
-        ensures kept { (held : Stores) → Has D.tells (seen D.Disk self.old) held → Has D.tells (seen D.Disk self.new) held }
-        ensures same { (self.new.catalogue ≡ self.old.catalogue) × (self.new.manifests ≡ self.old.manifests) × (self.new.pinned ≡ self.old.pinned) × (self.new.limbo ≡ self.old.limbo) }
+        ensures ends { IfOk result (λ t.
+            behind t.last ≡ end_of_files 0 (entries_of_line row self.old.catalogue.rows self.old.manifests.items)) }
+        ensures kept { (held : Stores) → Has D.tells (seen D.Disk self.old) held
+            → Has D.tells (seen D.Disk self.new) held }
+        ensures same { (self.new.catalogue ≡ self.old.catalogue)
+            × (self.new.manifests ≡ self.old.manifests)
+            × (self.new.pinned ≡ self.old.pinned)
+            × (self.new.limbo ≡ self.old.limbo) }
         ensures frame { Frame D.tells (seen_all D.Disk self.old) (seen_all D.Disk self.new) }
         ensures reads { OnlyReads D.tells (seen D.Disk self.old) (seen D.Disk self.new) (end_of_disk result) }
     {
@@ -122,15 +138,16 @@ impl<D: Disk> TierStore<D> {
         last_listed(last, own_entries(&self.manifests, 0, row))
     }
 
-    /// The moment of the last sample that the three stores hold of the whole of a row, or `None` where they hold none: always the latest one
-    /// that the entries say. It reads nothing and takes no memory, and may be asked while a change stands in doubt: it is then of what was
-    /// held before.
+    /// The moment of the last sample that the three stores hold of the whole of a row, or `None` where they hold none:
+    /// always the latest one that the entries say. It reads nothing and takes no memory, and may be asked while a
+    /// change stands in doubt: it is then of what was held before.
     pub fn last_of(&self, row: u32) -> Option<u64>
         requires row { row < length self.now.catalogue.rows }
         requires known { (held : Stores) × IsKnown self.now.catalogue self.now.manifests.items held }
         ensures last { (held : Stores) → IsKnown self.now.catalogue self.now.manifests.items held → IsTrue held.stands
             → result ≡ last_time (whole_in row held) }
-        ensures listed { behind result ≡ end_of_files 0 (entries_of_line row self.now.catalogue.rows self.now.manifests.items) }
+        ensures listed { behind result
+            ≡ end_of_files 0 (entries_of_line row self.now.catalogue.rows self.now.manifests.items) }
     {
         let rows = self.catalogue.rows();
         let mut last = None;
@@ -148,9 +165,14 @@ impl<D: Disk> TierStore<D> {
         requires three { length self.old.manifests.items ≡ 3 }
         requires has { (held : Stores) × Has D.tells (seen D.Disk self.old) held }
 
-        ensures described { (held : Stores) → Has D.tells (seen D.Disk self.old) held → IfOk result (IsDescribed D.tells held row tail.now) }
-        ensures same { (self.new.catalogue ≡ self.old.catalogue) × (self.new.manifests ≡ self.old.manifests) × (self.new.pinned ≡ self.old.pinned) × (self.new.limbo ≡ self.old.limbo) }
-        ensures reads { IsTrue D.tells → ReadsDisk (D.files self.old.disk) (D.files self.new.disk) (D.opened self.old.disk) (D.opened self.new.disk) (D.past self.old.disk) (D.past self.new.disk) }
+        ensures described { (held : Stores) → Has D.tells (seen D.Disk self.old) held
+            → IfOk result (IsDescribed D.tells held row tail.now) }
+        ensures same { (self.new.catalogue ≡ self.old.catalogue)
+            × (self.new.manifests ≡ self.old.manifests)
+            × (self.new.pinned ≡ self.old.pinned)
+            × (self.new.limbo ≡ self.old.limbo) }
+        ensures reads { IsTrue D.tells → ReadsDisk (D.files self.old.disk) (D.files self.new.disk)
+            (D.opened self.old.disk) (D.opened self.new.disk) (D.past self.old.disk) (D.past self.new.disk) }
         ensures faults { D.faults self.old.disk ≤ D.faults self.new.disk }
         ensures cause { IsErrOf result DiskErr.Fault → Rose (D.faults self.old.disk) (D.faults self.new.disk) }
     {
@@ -180,10 +202,16 @@ impl<D: Disk> TierStore<D> {
         requires three { length self.old.manifests.items ≡ 3 }
         requires has { (held : Stores) × Has D.tells (seen D.Disk self.old) held }
 
-        ensures says { (held : Stores) → Has D.tells (seen D.Disk self.old) held → IfOk result (λ a. SaysDescribed D.tells name.now tail.now a held) }
-        ensures unknown { HasNoName self.old.catalogue.rows name.now → (result ≡ Ok NoSuchVariable) × (self.new ≡ self.old) }
-        ensures same { (self.new.catalogue ≡ self.old.catalogue) × (self.new.manifests ≡ self.old.manifests) × (self.new.pinned ≡ self.old.pinned) × (self.new.limbo ≡ self.old.limbo) }
-        ensures reads { IsTrue D.tells → ReadsDisk (D.files self.old.disk) (D.files self.new.disk) (D.opened self.old.disk) (D.opened self.new.disk) (D.past self.old.disk) (D.past self.new.disk) }
+        ensures says { (held : Stores) → Has D.tells (seen D.Disk self.old) held
+            → IfOk result (λ a. SaysDescribed D.tells name.now tail.now a held) }
+        ensures unknown { HasNoName self.old.catalogue.rows name.now
+            → (result ≡ Ok NoSuchVariable) × (self.new ≡ self.old) }
+        ensures same { (self.new.catalogue ≡ self.old.catalogue)
+            × (self.new.manifests ≡ self.old.manifests)
+            × (self.new.pinned ≡ self.old.pinned)
+            × (self.new.limbo ≡ self.old.limbo) }
+        ensures reads { IsTrue D.tells → ReadsDisk (D.files self.old.disk) (D.files self.new.disk)
+            (D.opened self.old.disk) (D.opened self.new.disk) (D.past self.old.disk) (D.past self.new.disk) }
         ensures faults { D.faults self.old.disk ≤ D.faults self.new.disk }
         ensures cause { IsErrOf result DiskErr.Fault → Rose (D.faults self.old.disk) (D.faults self.new.disk) }
     {
@@ -194,24 +222,31 @@ impl<D: Disk> TierStore<D> {
         Ok(Answer::Described(details))
     }
 
-    /// Tells of a variable: its name, what else the catalogue has of it, its state, how many files each store lists of it under this name, how
-    /// many of its samples are durable and how many are accepted, those under earlier names too, and the moments of the first and the last of
-    /// these. `tail` stands for the accepted samples that no store lists yet; those of it count that are later than all that is durable. It
-    /// needs that nothing stands in doubt, as after `review`.
+    /// Tells of a variable: its name, what else the catalogue has of it, its state, how many files each store lists
+    /// of it under this name, how many of its samples are durable and how many are accepted, those under earlier
+    /// names too, and the moments of the first and the last of these. `tail` stands for the accepted samples that no
+    /// store lists yet; those of it count that are later than all that is durable. It needs that nothing stands in
+    /// doubt, as after `review`.
     ///
-    /// By the entries alone the samples that two stores list, as while a move is half done, would count twice; so a file is read that the
-    /// samples before it reach into. Where the disk doesn't tell its files, or somebody has damaged listed ones, nothing is said of the four
-    /// numbers.
+    /// By the entries alone the samples that two stores list, as while a move is half done, would count twice; so a
+    /// file is read that the samples before it reach into. Where the disk doesn't tell its files, or somebody has
+    /// damaged listed ones, nothing is said of the four numbers.
     ///
-    /// `NoSuchVariable` comes exactly where no row has the name. `DiskFault` comes only where the disk's count of faults rose in the call.
-    /// `Memory` comes also where no `u64` has a number of samples.
+    /// `NoSuchVariable` comes exactly where no row has the name. `DiskFault` comes only where the disk's count of
+    /// faults rose in the call. `Memory` comes also where no `u64` has a number of samples.
     pub fn details(&mut self, name: &[u8], tail: &Samples) -> Answer<D::Reader>
         requires has { (held : Stores) × Has D.tells (seen D.Disk self.old) held }
 
-        ensures says { (held : Stores) → Has D.tells (seen D.Disk self.old) held → ReadsOf (SaysDescribed D.tells name.now tail.now) (end_of_answer result) held }
-        ensures unknown { HasNoName self.old.catalogue.rows name.now → (result ≡ NoSuchVariable) × (self.new ≡ self.old) }
-        ensures kept { (held : Stores) → Has D.tells (seen D.Disk self.old) held → Has D.tells (seen D.Disk self.new) held }
-        ensures same { (self.new.catalogue ≡ self.old.catalogue) × (self.new.manifests ≡ self.old.manifests) × (self.new.pinned ≡ self.old.pinned) × (self.new.limbo ≡ self.old.limbo) }
+        ensures says { (held : Stores) → Has D.tells (seen D.Disk self.old) held
+            → ReadsOf (SaysDescribed D.tells name.now tail.now) (end_of_answer result) held }
+        ensures unknown { HasNoName self.old.catalogue.rows name.now
+            → (result ≡ NoSuchVariable) × (self.new ≡ self.old) }
+        ensures kept { (held : Stores) → Has D.tells (seen D.Disk self.old) held
+            → Has D.tells (seen D.Disk self.new) held }
+        ensures same { (self.new.catalogue ≡ self.old.catalogue)
+            × (self.new.manifests ≡ self.old.manifests)
+            × (self.new.pinned ≡ self.old.pinned)
+            × (self.new.limbo ≡ self.old.limbo) }
         ensures frame { Frame D.tells (seen_all D.Disk self.old) (seen_all D.Disk self.new) }
         ensures reads { OnlyReads D.tells (seen D.Disk self.old) (seen D.Disk self.new) (end_of_answer result) }
     {

@@ -30,11 +30,13 @@ use store_manifest::Entry;
 pub enum LaterLines {
     /// At this place, in bytes from the file's start; where there are none, at the file's listed length.
     At(u64),
-    /// It isn't known: at this place, in bytes from the file's start, no line of a sample begins, or the file has no header.
+    /// It isn't known: at this place, in bytes from the file's start, no line of a sample begins,
+    /// or the file has no header.
     Damaged(u64),
 }
 
-// Whole lines at the front of bytes that are not later than a moment: how many bytes they take, and whether a later one stands behind them.
+// Whole lines at the front of bytes that are not later than a moment: how many bytes they take, and whether a
+// later one stands behind them.
 #[derive(Clone, Copy)]
 struct Skipped {
     len: usize,
@@ -83,7 +85,8 @@ fn skip_lines(
     Ok(Skipped { len, found: false })
 }
 
-// The place of the first line of a sample later than a moment, between two places of a file; the second where there is none.
+// The place of the first line of a sample later than a moment, between two places of a file; the
+// second where there is none.
 fn next_between<D: Disk>(
     alloc: Global,
     disk: &mut D,
@@ -96,14 +99,15 @@ fn next_between<D: Disk>(
 ) -> Result<LaterLines, DiskErr>
     requires within { from ≤ end }
     requires there { IsTrue D.tells → HasFile (D.files disk.old) name.now (λ b. end ≤ length b) }
-    ensures next { IsTrue D.tells → (samples : List Sample) → HasLines (D.files disk.old) name.now from end ty year.now.year samples
+    ensures next { IsTrue D.tells → (samples : List Sample)
+        → HasLines (D.files disk.old) name.now from end ty year.now.year samples
         → IfOk result (IsNext samples (behind last) from) }
     ensures told { IsTrue D.tells → IfOk result (IsTold (D.files disk.old) name.now from end ty year.now.year) }
     ensures no_sooner { IfOk result (IsNoSooner from) }
     ensures within { IfOk result (IsUpTo end) }
     ensures behind { IfOk result (IsFrom from) }
-    ensures reads { IsTrue D.tells
-        → ReadsDisk (D.files disk.old) (D.files disk.new) (D.opened disk.old) (D.opened disk.new) (D.past disk.old) (D.past disk.new) }
+    ensures reads { IsTrue D.tells → ReadsDisk (D.files disk.old) (D.files disk.new)
+        (D.opened disk.old) (D.opened disk.new) (D.past disk.old) (D.past disk.new) }
     ensures faults { D.faults disk.old ≤ D.faults disk.new }
     ensures cause { IsErrOf result DiskErr.Fault → Rose (D.faults disk.old) (D.faults disk.new) }
 {
@@ -128,7 +132,8 @@ fn next_between<D: Disk>(
     Ok(LaterLines::At(end))
 }
 
-// The same of a listed file of this length, whose header's line takes so many bytes. Where it has no header, its first place is damaged.
+// The same of a listed file of this length, whose header's line takes so many bytes. Where it has no header,
+// its first place is damaged.
 fn find_next<D: Disk>(
     alloc: Global,
     disk: &mut D,
@@ -141,11 +146,12 @@ fn find_next<D: Disk>(
     ensures next { IsTrue D.tells → (head : List ℕ) (info : PayloadInfoValue) (samples : List Sample)
         → HasFile (D.files disk.old) name.now (λ b. IsFile (take len b) head info samples) → head_len ≡ length head + 1
         → IfOk result (IsNext samples (behind last) head_len) }
-    ensures told { IsTrue D.tells → IfOk result (λ later. HasFile (D.files disk.old) name.now (λ b. SaysFile head_len (take len b) later)) }
+    ensures told { IsTrue D.tells
+        → IfOk result (λ later. HasFile (D.files disk.old) name.now (λ b. SaysFile head_len (take len b) later)) }
     ensures within { IfOk result (IsUpTo len) }
     ensures behind { IfOk result (IsFrom head_len) }
-    ensures reads { IsTrue D.tells
-        → ReadsDisk (D.files disk.old) (D.files disk.new) (D.opened disk.old) (D.opened disk.new) (D.past disk.old) (D.past disk.new) }
+    ensures reads { IsTrue D.tells → ReadsDisk (D.files disk.old) (D.files disk.new)
+        (D.opened disk.old) (D.opened disk.new) (D.past disk.old) (D.past disk.new) }
     ensures faults { D.faults disk.old ≤ D.faults disk.new }
     ensures cause { IsErrOf result DiskErr.Fault → Rose (D.faults disk.old) (D.faults disk.new) }
 {
@@ -165,11 +171,12 @@ fn find_next<D: Disk>(
 }
 
 impl<D: Disk> TierStore<D> {
-    /// Finds the place in a file that a store lists, from 1 to 3, where the lines of samples begin that are later than the moment `after`,
-    /// in nanoseconds since 1970-01-01T00:00:00Z; without a moment, those of all samples. It is where a move of the file goes on behind
-    /// what the next store has. It needs that no change stands in doubt. `Damaged` comes only where what is held doesn't stand, or the
-    /// disk doesn't tell its files. It tells 0 where the file doesn't begin with its header's line; otherwise lines of samples stand up to
-    /// the place that it tells, and none begins there.
+    /// Finds the place in a file that a store lists, from 1 to 3, where the lines of samples begin that are later
+    /// than the moment `after`, in nanoseconds since 1970-01-01T00:00:00Z; without a moment, those of all samples.
+    /// It is where a move of the file goes on behind what the next store has. It needs that no change stands in
+    /// doubt. `Damaged` comes only where what is held doesn't stand, or the disk doesn't tell its files. It tells 0
+    /// where the file doesn't begin with its header's line; otherwise lines of samples stand up to the place that it
+    /// tells, and none begins there.
     ///
     /// `Fault` comes only where the disk's count of faults rose in the call.
     pub fn find_later(
@@ -182,8 +189,8 @@ impl<D: Disk> TierStore<D> {
         requires has { (held : Stores) × Has D.tells (seen D.Disk self.old) held }
 
         ensures found { IsTrue D.tells → (held : Stores) → IsTrue held.stands → Has D.tells (seen D.Disk self.old) held
-            → IfOk result (λ later. (i : ℕ) × (store ≡ i + 1) × (f : Filed) × Contains (list_at i held) f × (f.entry ≡ entry.now)
-            × IsNext f.samples (behind after) entry.now.head_len later) }
+            → IfOk result (λ later. (i : ℕ) × (store ≡ i + 1) × (f : Filed) × Contains (list_at i held) f
+            × (f.entry ≡ entry.now) × IsNext f.samples (behind after) entry.now.head_len later) }
         ensures told { IsTrue D.tells
             → IfOk result (λ later. HasFile (D.files self.old.disk) (file_of (store, self.old.catalogue.rows) entry.now)
             (λ b. SaysFile entry.now.head_len (take entry.now.len b) later)) }

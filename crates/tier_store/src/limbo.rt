@@ -10,8 +10,8 @@ use disk_model::FileName;
 use std::alloc::{AllocError, Global};
 use store_manifest::{Entry, Manifest, begins_at};
 
-/// A file that a retirement has taken from its store's list, or that a retirement in doubt would take: it stays on the disk while a pin
-/// names it, and until it is swept.
+/// A file that a retirement has taken from its store's list, or that a retirement in doubt would take: it stays on the
+/// disk while a pin names it, and until it is swept.
 #[derive(Drop)]
 pub struct Retired {
     /// The file's name.
@@ -22,7 +22,8 @@ pub struct Retired {
 
 // Takes from limbo what its store lists again.
 pub(crate) fn leave_listed(manifests: &[Manifest], limbo: &mut Vec<Retired>)
-    ensures { AtEach manifests.now (λ i m. InOrder m.entries) → Stay (λ r. ListsPlace manifests.now r → ⊥) (ListsPlace manifests.now) limbo.old.items limbo.new.items }
+    ensures { AtEach manifests.now (λ i m. InOrder m.entries)
+        → Stay (λ r. ListsPlace manifests.now r → ⊥) (ListsPlace manifests.now) limbo.old.items limbo.new.items }
 {
     limbo.retain(|file| is_unlisted(manifests, file));
 }
@@ -34,7 +35,8 @@ pub(crate) fn unlisted_entries(
     limbo: &[Retired],
     store: u8,
 ) -> Result<Vec<Entry>, AllocError>
-    ensures { AtEach manifests.now (λ i m. InOrder m.entries) → IfOk result (λ entries. AreUnlistedIn manifests.now store limbo.now entries.items) }
+    ensures { AtEach manifests.now (λ i m. InOrder m.entries)
+        → IfOk result (λ entries. AreUnlistedIn manifests.now store limbo.now entries.items) }
 {
     let mut entries = Vec::new(alloc);
     for file in limbo {
@@ -48,13 +50,16 @@ pub(crate) fn unlisted_entries(
 
 // Whether a file is of the store, which doesn't list it.
 fn is_unlisted_of(manifests: &[Manifest], file: &Retired, store: u8) -> bool
-    ensures unlisted { AtEach manifests.now (λ i m. InOrder m.entries) → result ≡ true → IsUnlistedOf manifests.now store file.now }
-    ensures other { AtEach manifests.now (λ i m. InOrder m.entries) → result ≡ false → IsUnlistedOf manifests.now store file.now → ⊥ }
+    ensures unlisted { AtEach manifests.now (λ i m. InOrder m.entries) → result ≡ true
+        → IsUnlistedOf manifests.now store file.now }
+    ensures other { AtEach manifests.now (λ i m. InOrder m.entries) → result ≡ false
+        → IsUnlistedOf manifests.now store file.now → ⊥ }
 {
     file.name.store == store && is_unlisted(manifests, file)
 }
 
-// The entry of the file in limbo of a store, of a row, and of the partition that holds a moment, where that lies behind the row's last entry.
+// The entry of the file in limbo of a store, of a row, and of the partition that holds a moment, where that lies
+// behind the row's last entry.
 pub(crate) fn entry_behind(
     limbo: &[Retired],
     store: u8,
@@ -98,8 +103,10 @@ fn begins_behind(last: &Option<Entry>, start: u64) -> bool
 
 // Whether the manifest of a file's store lists none of its row and partition.
 pub(crate) fn is_unlisted(manifests: &[Manifest], file: &Retired) -> bool
-    ensures unlisted { AtEach manifests.now (λ i m. InOrder m.entries) → result ≡ true → ListsPlace manifests.now file.now → ⊥ }
-    ensures listed { AtEach manifests.now (λ i m. InOrder m.entries) → result ≡ false → ListsPlace manifests.now file.now }
+    ensures unlisted { AtEach manifests.now (λ i m. InOrder m.entries) → result ≡ true
+        → ListsPlace manifests.now file.now → ⊥ }
+    ensures listed { AtEach manifests.now (λ i m. InOrder m.entries) → result ≡ false
+        → ListsPlace manifests.now file.now }
 {
     let store = usize::from(file.name.store);
     if store == 0 || store > manifests.len() {

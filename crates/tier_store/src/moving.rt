@@ -20,7 +20,8 @@ use store_manifest::Manifest;
 /// How one is answered who asks for a move.
 #[derive(Drop)]
 pub enum MoveBegun {
-    /// This move begins, of so many of the oldest files of a row: the least row that has a move to make and none running.
+    /// This move begins, of so many of the oldest files of a row: the least row that has a move
+    /// to make and none running.
     Begun { row: u32, parts: u64, moving: Move },
     /// Each row that has a move to make has one running; that of the least such row has this number.
     Running { number: u32 },
@@ -58,12 +59,13 @@ fn begin_chosen(
 }
 
 impl<D: Disk> TierStore<D> {
-    /// Begins the move that is to be made from the store at a place, which is its number less one, to the next: of the least row that has
-    /// one to make and none running. `running` tells by its row the number of each move that runs. How many files of a row are to move is
-    /// said by `rule`, which has the moment that counts as now, and by what both stores list of it.
+    /// Begins the move that is to be made from the store at a place, which is its number less one, to the next: of
+    /// the least row that has one to make and none running. `running` tells by its row the number of each move that
+    /// runs. How many files of a row are to move is said by `rule`, which has the moment that counts as now, and by
+    /// what both stores list of it.
     ///
-    /// It needs that nothing stands in doubt, as after `review`, and calls no disk. Nothing is copied yet, and what is held stays. There is no
-    /// error but want of memory.
+    /// It needs that nothing stands in doubt, as after `review`, and calls no disk. Nothing is copied yet, and what is
+    /// held stays. There is no error but want of memory.
     pub fn begin_move(
         &self,
         place: usize,
@@ -74,7 +76,9 @@ impl<D: Disk> TierStore<D> {
         requires nested { AreNested place (granularities self.now.manifests.items) }
         requires has { (held : Stores) × Has D.tells (seen D.Disk self.now) held }
 
-        ensures says { (held : Stores) → Has D.tells (seen D.Disk self.now) held → IfOk result (λ b. SaysBegun D.tells place rule.now (get nat_cmp running.now) self.now.manifests.items b held) }
+        ensures says { (held : Stores) → Has D.tells (seen D.Disk self.now) held
+            → IfOk result (λ b.
+            SaysBegun D.tells place rule.now (get nat_cmp running.now) self.now.manifests.items b held) }
         ensures memory { IfErr result (λ e. e ≡ Memory) }
     {
         let store = place as u8 + 1;

@@ -35,15 +35,26 @@ impl<D: Disk> TierStore<D> {
         requires begun { (before : Stores) × (after : Stores) × IsOpen D.tells (seen D.Disk self.old) before after }
         requires stand { PinsStand D.tells (seen_all D.Disk self.old) self.old.pinned }
 
-        ensures refused { (e : PinErrValue) → asked who (get self.old.pinned pin) ≡ Err e → (result ≡ Ok (refusal e)) × (self.new ≡ self.old) }
-        ensures no_piece { (p : PinOf) → asked who (get self.old.pinned pin) ≡ Ok p → slice_get p.pieces i ≡ None → (result ≡ Ok (NoPiece (length p.pieces))) × (self.new ≡ self.old) }
-        ensures piece { (p : PinOf) (piece : Piece) → asked who (get self.old.pinned pin) ≡ Ok p → slice_get p.pieces i ≡ Some piece
-            → IsOpened D.tells D.Reader.tells D.Reader.bytes D.Reader.faults (seen_all D.Disk self.old) piece (answer_of result) }
-        ensures kept { (before after : Stores) → IsOpen D.tells (seen D.Disk self.old) before after → IsOpen D.tells (seen D.Disk self.new) before after }
-        ensures same { (self.new.catalogue ≡ self.old.catalogue) × (self.new.manifests ≡ self.old.manifests) × (self.new.pinned ≡ self.old.pinned) × (self.new.limbo ≡ self.old.limbo) }
+        ensures refused { (e : PinErrValue) → asked who (get self.old.pinned pin) ≡ Err e
+            → (result ≡ Ok (refusal e)) × (self.new ≡ self.old) }
+        ensures no_piece { (p : PinOf) → asked who (get self.old.pinned pin) ≡ Ok p
+            → slice_get p.pieces i ≡ None
+            → (result ≡ Ok (NoPiece (length p.pieces))) × (self.new ≡ self.old) }
+        ensures piece { (p : PinOf) (piece : Piece) → asked who (get self.old.pinned pin) ≡ Ok p
+            → slice_get p.pieces i ≡ Some piece
+            → IsOpened D.tells D.Reader.tells D.Reader.bytes D.Reader.faults
+            (seen_all D.Disk self.old) piece (answer_of result) }
+        ensures kept { (before after : Stores) → IsOpen D.tells (seen D.Disk self.old) before after
+            → IsOpen D.tells (seen D.Disk self.new) before after }
+        ensures same { (self.new.catalogue ≡ self.old.catalogue)
+            × (self.new.manifests ≡ self.old.manifests)
+            × (self.new.pinned ≡ self.old.pinned)
+            × (self.new.limbo ≡ self.old.limbo) }
         ensures beside { KeepsBeside D.tells (seen_all D.Disk self.old) (seen_all D.Disk self.new) }
-        ensures whole { LimboStands (seen D.Disk self.old) self.old.limbo.items → KeepsWhole D.tells (seen_all D.Disk self.old) (seen_all D.Disk self.new) }
-        ensures reads { OnlyReads D.tells (seen D.Disk self.old) (seen D.Disk self.new) (end_of_answer (answer_of result)) }
+        ensures whole { LimboStands (seen D.Disk self.old) self.old.limbo.items
+            → KeepsWhole D.tells (seen_all D.Disk self.old) (seen_all D.Disk self.new) }
+        ensures reads { OnlyReads D.tells
+            (seen D.Disk self.old) (seen D.Disk self.new) (end_of_answer (answer_of result)) }
     {
         let pieces = match self.pinned.pieces(who, pin) {
             Ok(pieces) => pieces,
@@ -63,35 +74,49 @@ impl<D: Disk> TierStore<D> {
             len: piece.len,
         })
     }
-    /// Opens piece `i` of an owner's own pin: the reader has the bytes that were pinned, whatever has become of the file since. A change
-    /// that stands in doubt stays in doubt. `NoPin`, `NotYours` and `NoPiece` come exactly where no pin has the number, where it is
-    /// another's, and where the pin has no such piece, in this order, and then the disk isn't called. It needs that the pieces stand as they
-    /// were pinned, which each call keeps so. No file is opened further than it may be listed, so running moves go on beside the stores.
+    /// Opens piece `i` of an owner's own pin: the reader has the bytes that were pinned, whatever has become of the
+    /// file since. A change that stands in doubt stays in doubt. `NoPin`, `NotYours` and `NoPiece` come exactly where
+    /// no pin has the number, where it is another's, and where the pin has no such piece, in this order, and then the
+    /// disk isn't called. It needs that the pieces stand as they were pinned, which each call keeps so. No file is
+    /// opened further than it may be listed, so running moves go on beside the stores.
     ///
     /// `DiskFault` comes only where the disk's count of faults rose in the call.
     pub fn open_piece(&mut self, who: u64, pin: u32, i: u32) -> Answer<D::Reader>
         requires begun { (before : Stores) × (after : Stores) × IsOpen D.tells (seen D.Disk self.old) before after }
         requires stand { PinsStand D.tells (seen_all D.Disk self.old) self.old.pinned }
 
-        ensures refused { (e : PinErrValue) → asked who (get self.old.pinned pin) ≡ Err e → (result ≡ refusal e) × (self.new ≡ self.old) }
-        ensures no_piece { (p : PinOf) → asked who (get self.old.pinned pin) ≡ Ok p → slice_get p.pieces i ≡ None → (result ≡ NoPiece (length p.pieces)) × (self.new ≡ self.old) }
-        ensures piece { (p : PinOf) (piece : Piece) → asked who (get self.old.pinned pin) ≡ Ok p → slice_get p.pieces i ≡ Some piece
+        ensures refused { (e : PinErrValue) → asked who (get self.old.pinned pin) ≡ Err e
+            → (result ≡ refusal e) × (self.new ≡ self.old) }
+        ensures no_piece { (p : PinOf) → asked who (get self.old.pinned pin) ≡ Ok p
+            → slice_get p.pieces i ≡ None
+            → (result ≡ NoPiece (length p.pieces)) × (self.new ≡ self.old) }
+        ensures piece { (p : PinOf) (piece : Piece) → asked who (get self.old.pinned pin) ≡ Ok p
+            → slice_get p.pieces i ≡ Some piece
             → IsOpened D.tells D.Reader.tells D.Reader.bytes D.Reader.faults (seen_all D.Disk self.old) piece result }
-        ensures kept { (before after : Stores) → IsOpen D.tells (seen D.Disk self.old) before after → IsOpen D.tells (seen D.Disk self.new) before after }
-        ensures same { (self.new.catalogue ≡ self.old.catalogue) × (self.new.manifests ≡ self.old.manifests) × (self.new.pinned ≡ self.old.pinned) × (self.new.limbo ≡ self.old.limbo) }
+        ensures kept { (before after : Stores) → IsOpen D.tells (seen D.Disk self.old) before after
+            → IsOpen D.tells (seen D.Disk self.new) before after }
+        ensures same { (self.new.catalogue ≡ self.old.catalogue)
+            × (self.new.manifests ≡ self.old.manifests)
+            × (self.new.pinned ≡ self.old.pinned)
+            × (self.new.limbo ≡ self.old.limbo) }
         ensures shown { KeepsShown D.tells (seen_all D.Disk self.old) (seen_all D.Disk self.new) }
         ensures beside { KeepsBeside D.tells (seen_all D.Disk self.old) (seen_all D.Disk self.new) }
-        ensures whole { LimboStands (seen D.Disk self.old) self.old.limbo.items → KeepsWhole D.tells (seen_all D.Disk self.old) (seen_all D.Disk self.new) }
+        ensures whole { LimboStands (seen D.Disk self.old) self.old.limbo.items
+            → KeepsWhole D.tells (seen_all D.Disk self.old) (seen_all D.Disk self.new) }
         ensures reads { OnlyReads D.tells (seen D.Disk self.old) (seen D.Disk self.new) (end_of_answer result) }
     {
         told(self.read_piece(who, pin, i))
     }
 
-    /// Gives up an owner's own pin. `NoPin` and `NotYours` come exactly where no pin has the number, and where it is another's.
+    /// Gives up an owner's own pin. `NoPin` and `NotYours` come exactly where no pin has the number,
+    /// and where it is another's.
     pub fn unpin(&mut self, who: u64, pin: u32) -> Answer<D::Reader>
         ensures answer { result ≡ given_up (asked who (get self.old.pinned pin)) }
         ensures pins { self.new.pinned ≡ pins_left self.old.pinned pin (asked who (get self.old.pinned pin)) }
-        ensures same { (self.new.catalogue ≡ self.old.catalogue) × (self.new.manifests ≡ self.old.manifests) × (self.new.disk ≡ self.old.disk) × (self.new.limbo ≡ self.old.limbo) }
+        ensures same { (self.new.catalogue ≡ self.old.catalogue)
+            × (self.new.manifests ≡ self.old.manifests)
+            × (self.new.disk ≡ self.old.disk)
+            × (self.new.limbo ≡ self.old.limbo) }
     {
         match self.pinned.drop_pin(who, pin) {
             Ok(()) => Answer::Unpinned,

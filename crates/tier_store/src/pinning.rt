@@ -1,5 +1,6 @@
 // The pinning of a variable's files for a query.
-ghost use Rattle.std.specs.Prelude.{◌≡◌, ◌<◌, ◌++◌, ◌∷◌, [], ℕ, List, All, Ok, length, map, filter, IfOk, OnOk, OnErr, IfErr};
+ghost use Rattle.std.specs.Prelude.{◌≡◌, ◌<◌, ◌++◌, ◌∷◌, [], ℕ, List, All, Ok, length, map, filter, IfOk, OnOk, OnErr};
+ghost use Rattle.std.specs.Prelude.{IfErr};
 ghost use Rattle.std.specs.List.{flat_map};
 ghost use Rattle.act_model.specs.declared.acts.Answer.TheVariants.{NoSuchVariable};
 ghost use Rattle.disk_model.specs.declared.disk.DiskErr.TheVariants.{Memory};
@@ -28,9 +29,9 @@ use series_model::{Query, Sample, Samples};
 use std::alloc::{AllocError, Global};
 use store_manifest::Manifest;
 
-// Up to which moment files are needed: to the end of the interval, or with no end where the tail begins no later than that. The tail stands
-// over all files, so one behind the interval might keep such samples of it out. An archive's tail is later than all that is listed, and then
-// there is no such file.
+// Up to which moment files are needed: to the end of the interval, or with no end where the tail begins no later than
+// that. The tail stands over all files, so one behind the interval might keep such samples of it out. An archive's tail
+// is later than all that is listed, and then there is no such file.
 fn needed_to(query: Query, tail: &[Sample]) -> Option<u64>
     ensures { result ≡ files_to query tail.now }
 {
@@ -44,7 +45,8 @@ fn needed_to(query: Query, tail: &[Sample]) -> Option<u64>
 fn add_row(choice: &mut Choice, manifests: &[Manifest], row: u32) -> Result<(), AllocError>
     requires three { length manifests.now ≡ 3 }
 
-    ensures chosen { (told : List ListedValue) → IsChoice told choice.old → OnOk result (IsChoice (told ++ listed_in row manifests.now) choice.new) }
+    ensures chosen { (told : List ListedValue) → IsChoice told choice.old
+        → OnOk result (IsChoice (told ++ listed_in row manifests.now) choice.new) }
     ensures from { choice.new.from ≡ choice.old.from }
     ensures to { choice.new.to ≡ choice.old.to }
 {
@@ -102,7 +104,8 @@ fn add_piece(
 ) -> Result<(), AllocError>
     requires row { file.now.entry.series < length rows.now }
     ensures none { file.now.entry.len ≡ 0 → OnOk result (pieces.new.items ≡ pieces.old.items) }
-    ensures some { 0 < file.now.entry.len → OnOk result (pieces.new.items ≡ pieces.old.items ++ piece_of rows.now file.now ∷ []) }
+    ensures some { 0 < file.now.entry.len
+        → OnOk result (pieces.new.items ≡ pieces.old.items ++ piece_of rows.now file.now ∷ []) }
 {
     if file.entry.len == 0 {
         return Ok(());
@@ -124,7 +127,8 @@ fn pieces_of(alloc: Global, rows: &[Row], files: &[Listed]) -> Result<Vec<Pinned
 }
 
 impl<D: Disk> TierStore<D> {
-    // Pins the files of the variable that a row stands for. So many that one had no number of 32 bits are more than can be kept.
+    // Pins the files of the variable that a row stands for. So many that one had no number of 32 bits
+    // are more than can be kept.
     fn pin_row(
         &mut self,
         who: u64,
@@ -136,9 +140,12 @@ impl<D: Disk> TierStore<D> {
         requires three { length self.old.manifests.items ≡ 3 }
 
         ensures pinned { (name : List ℕ) → HasName self.old.catalogue.rows row name
-            → IfOk result (PinsOf self.old.catalogue.rows self.old.manifests.items who name query tail self.old.pinned self.new.pinned) }
+            → IfOk result (PinsOf self.old.catalogue.rows self.old.manifests.items who name
+            query tail self.old.pinned self.new.pinned) }
         ensures unchanged { OnErr result (self.new.pinned ≡ self.old.pinned) }
-        ensures same { (self.new.catalogue ≡ self.old.catalogue) × (self.new.manifests ≡ self.old.manifests) × (self.new.disk ≡ self.old.disk) }
+        ensures same { (self.new.catalogue ≡ self.old.catalogue)
+            × (self.new.manifests ≡ self.old.manifests)
+            × (self.new.disk ≡ self.old.disk) }
         ensures limbo { self.new.limbo ≡ self.old.limbo }
     {
         let rows = self.catalogue.rows();
@@ -173,10 +180,14 @@ impl<D: Disk> TierStore<D> {
     ) -> Result<Answer<D::Reader>, DiskErr>
         requires three { length self.old.manifests.items ≡ 3 }
 
-        ensures pinned { IfOk result (PinsOf self.old.catalogue.rows self.old.manifests.items who name.now query tail self.old.pinned self.new.pinned) }
-        ensures unknown { HasNoName self.old.catalogue.rows name.now → (result ≡ Ok NoSuchVariable) × (self.new ≡ self.old) }
+        ensures pinned { IfOk result (PinsOf self.old.catalogue.rows self.old.manifests.items who name.now
+            query tail self.old.pinned self.new.pinned) }
+        ensures unknown { HasNoName self.old.catalogue.rows name.now
+            → (result ≡ Ok NoSuchVariable) × (self.new ≡ self.old) }
         ensures memory { IfErr result (λ e. (e ≡ Memory) × (self.new.pinned ≡ self.old.pinned)) }
-        ensures same { (self.new.catalogue ≡ self.old.catalogue) × (self.new.manifests ≡ self.old.manifests) × (self.new.disk ≡ self.old.disk) }
+        ensures same { (self.new.catalogue ≡ self.old.catalogue)
+            × (self.new.manifests ≡ self.old.manifests)
+            × (self.new.disk ≡ self.old.disk) }
         ensures limbo { self.new.limbo ≡ self.old.limbo }
     {
         let Some(row) = self.catalogue.find(name) else {
@@ -186,25 +197,31 @@ impl<D: Disk> TierStore<D> {
         Ok(answer)
     }
 
-    /// Pins the files of a variable that its samples of an interval need, as long as they are listed now, for an owner: under the least
-    /// number that no pin has. These are files of the row that has the name and of its bases, those of the first base first. It tells how many
-    /// they are; `tail` is told with them, and stands for the samples that no store lists yet. The files, read in the order in which they are
-    /// pinned, and the tail over them answer the query as all samples do. Where the tail is empty or begins later than both ends of the
-    /// interval, the last files stay closed, as many as begin so late. A file of which no byte is listed, as only damaged stores have one,
-    /// isn't pinned.
+    /// Pins the files of a variable that its samples of an interval need, as long as they are listed now, for an
+    /// owner: under the least number that no pin has. These are files of the row that has the name and of its bases,
+    /// those of the first base first. It tells how many they are; `tail` is told with them, and stands for the
+    /// samples that no store lists yet. The files, read in the order in which they are pinned, and the tail over them
+    /// answer the query as all samples do. Where the tail is empty or begins later than both ends of the interval,
+    /// the last files stay closed, as many as begin so late. A file of which no byte is listed, as only damaged
+    /// stores have one, isn't pinned.
     ///
-    /// It needs that nothing stands in doubt, as after `review`, and calls no disk. `NoSuchVariable` comes exactly where no row has the name,
-    /// and else only want of memory is answered in place of `Pinned`, as it is where the files are 2^32 or more; the pins are as they were
-    /// after both.
+    /// It needs that nothing stands in doubt, as after `review`, and calls no disk. `NoSuchVariable` comes exactly
+    /// where no row has the name, and else only want of memory is answered in place of `Pinned`, as it is where the
+    /// files are 2^32 or more; the pins are as they were after both.
     pub fn pin(&mut self, who: u64, name: &[u8], query: Query, tail: Samples) -> Answer<D::Reader>
         requires has { (held : Stores) × Has D.tells (seen D.Disk self.old) held }
 
-        ensures says { (held : Stores) → Has D.tells (seen D.Disk self.old) held → SaysOf (SaysPinned who name.now query tail self.old.pinned self.new.pinned) (end_of_answer result) held }
-        ensures unknown { HasNoName self.old.catalogue.rows name.now → (result ≡ NoSuchVariable) × (self.new ≡ self.old) }
+        ensures says { (held : Stores) → Has D.tells (seen D.Disk self.old) held
+            → SaysOf (SaysPinned who name.now query tail self.old.pinned self.new.pinned) (end_of_answer result) held }
+        ensures unknown { HasNoName self.old.catalogue.rows name.now
+            → (result ≡ NoSuchVariable) × (self.new ≡ self.old) }
         ensures unchanged { IsCut (end_of_answer result) → self.new.pinned ≡ self.old.pinned }
-        ensures same { (self.new.catalogue ≡ self.old.catalogue) × (self.new.manifests ≡ self.old.manifests) × (self.new.disk ≡ self.old.disk) }
+        ensures same { (self.new.catalogue ≡ self.old.catalogue)
+            × (self.new.manifests ≡ self.old.manifests)
+            × (self.new.disk ≡ self.old.disk) }
         ensures limbo { self.new.limbo ≡ self.old.limbo }
-        ensures stand { PinsStand D.tells (seen_all D.Disk self.old) self.old.pinned → PinsStand D.tells (seen_all D.Disk self.new) self.new.pinned }
+        ensures stand { PinsStand D.tells (seen_all D.Disk self.old) self.old.pinned
+            → PinsStand D.tells (seen_all D.Disk self.new) self.new.pinned }
     {
         told(self.pin_named(who, name, query, tail))
     }

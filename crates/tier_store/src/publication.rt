@@ -18,20 +18,28 @@ use disk_model::{Disk, DiskErr};
 use etl_mover::Move;
 
 impl<D: Disk> TierStore<D> {
-    /// Lists in one commit what a running move has copied. `place` is that of the move's destination, the store's number less one. It needs
-    /// that nothing stands in doubt, as after `review`, that the move has copied all its parts, and that what it has written stands beside
-    /// what is held. A crash at any moment leaves what was held, or that with the files listed too. What is pinned stays as it is.
+    /// Lists in one commit what a running move has copied. `place` is that of the move's destination, the store's
+    /// number less one. It needs that nothing stands in doubt, as after `review`, that the move has copied all its
+    /// parts, and that what it has written stands beside what is held. A crash at any moment leaves what was held, or
+    /// that with the files listed too. What is pinned stays as it is.
     ///
-    /// After `Fault`, which comes only where the disk's count of faults rose in the call, it may not be known whether the files are listed;
-    /// `review` finds out. After `Memory` what was held is still held. After both the move is as it was.
+    /// After `Fault`, which comes only where the disk's count of faults rose in the call, it may not be known
+    /// whether the files are listed; `review` finds out. After `Memory` what was held is still held. After
+    /// both the move is as it was.
     pub fn publish(&mut self, place: usize, moving: &mut Move) -> Result<(), DiskErr>
         requires copied { IsCopied moving.old }
-        requires runs { (files : List Filed) × (held : Stores) × Has D.tells (seen D.Disk self.old) held × RunsBeside place D.tells (seen_all D.Disk self.old) moving.old files held }
+        requires runs { (files : List Filed) × (held : Stores) × Has D.tells (seen D.Disk self.old) held
+            × RunsBeside place D.tells (seen_all D.Disk self.old) moving.old files held }
 
-        ensures changes { (files : List Filed) → ChangesGiven (RunsBeside place D.tells (seen_all D.Disk self.old) moving.old files) D.tells (publishing place files) (seen D.Disk self.old) (seen D.Disk self.new) (end_of_disk result) }
+        ensures changes { (files : List Filed)
+            → ChangesGiven (RunsBeside place D.tells (seen_all D.Disk self.old) moving.old files) D.tells
+            (publishing place files) (seen D.Disk self.old) (seen D.Disk self.new) (end_of_disk result) }
         ensures frame { Frame D.tells (seen_all D.Disk self.old) (seen_all D.Disk self.new) }
-        ensures tidy { OnOk result (IsSettled (seen D.Disk self.new) × MakesNoStray D.tells (seen_all D.Disk self.old) (targets moving.old) (seen_all D.Disk self.new) []) }
-        ensures same { (self.new.catalogue ≡ self.old.catalogue) × (self.new.pinned ≡ self.old.pinned) × (self.new.limbo ≡ self.old.limbo) }
+        ensures tidy { OnOk result (IsSettled (seen D.Disk self.new)
+            × MakesNoStray D.tells (seen_all D.Disk self.old) (targets moving.old) (seen_all D.Disk self.new) []) }
+        ensures same { (self.new.catalogue ≡ self.old.catalogue)
+            × (self.new.pinned ≡ self.old.pinned)
+            × (self.new.limbo ≡ self.old.limbo) }
         ensures published { OnOk result (moving.new ≡ record moving.old { stage = Published }) }
         ensures unpublished { OnErr result (moving.new ≡ moving.old) }
     {

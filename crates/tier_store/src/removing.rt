@@ -1,16 +1,19 @@
-// The removal of files in limbo that nothing needs: it is asked which of them are there, as long as nothing has changed, since only that may
-// want memory. Then each of these is removed, and then each name is synced, so that a folder which loses many files is synced once. One that
-// isn't there counts as removed.
+// The removal of files in limbo that nothing needs: it is asked which of them are there, as long as nothing has
+// changed, since only that may want memory. Then each of these is removed, and then each name is synced, so that a
+// folder which loses many files is synced once. One that isn't there counts as removed.
 //
-// Where the disk fails, the others are removed still. What is left so is an unlisted file: it is removed when its name is written again.
-ghost use Rattle.std.specs.Prelude.{◌≡◌, ◌≢◌, ◌≤◌, ◌+◌, ◌↔◌, None, true, false, All, OnOk, IfOk, IsErr, IsErrOf, IsTrue, IsSome, length};
+// Where the disk fails, the others are removed still. What is left so is an unlisted file: it is removed when
+// its name is written again.
+ghost use Rattle.std.specs.Prelude.{◌≡◌, ◌≢◌, ◌≤◌, ◌+◌, ◌↔◌, None, true, false, All, OnOk, IfOk, IsErr, IsErrOf};
+ghost use Rattle.std.specs.Prelude.{IsTrue, IsSome, length};
 ghost use Rattle.disk_model.specs.Files.{Name, Rose};
 ghost use Rattle.disk_model.specs.Past.{Passes, Only};
 ghost use Rattle.disk_model.specs.Record.{is_same};
 ghost use Rattle.std.specs.List.{list_any, AllPairs};
 ghost use Rattle.store_manifest.specs.Entries.{InOrder};
 ghost use Rattle.tier_store.specs.Counting.{ReadsDisk};
-ghost use Rattle.tier_store.specs.Limbo.{IsNeeded, StayNeeded, Elsewhere, Removes, RemovesNames, AreFree, AreRemovable, IsUseless, IsLeftOver, NamesDiffer};
+ghost use Rattle.tier_store.specs.Limbo.{IsNeeded, StayNeeded, Elsewhere, Removes, RemovesNames, AreFree, AreRemovable};
+ghost use Rattle.tier_store.specs.Limbo.{IsUseless, IsLeftOver, NamesDiffer};
 ghost use Rattle.tier_store.specs.Seen.{AtEach};
 
 use crate::limbo::{Retired, is_unlisted};
@@ -28,7 +31,8 @@ pub struct Swept {
     pub removed: Result<(), DiskErr>,
 }
 
-// The names of those of the files that are there, that no manifest lists, that no pin names and into which no running move has copied.
+// The names of those of the files that are there, that no manifest lists, that no pin names and into which
+// no running move has copied.
 pub(crate) fn find_removable<D: Disk>(
     alloc: Global,
     disk: &mut D,
@@ -38,8 +42,11 @@ pub(crate) fn find_removable<D: Disk>(
     copied: &[FileName],
 ) -> Result<Vec<FileName>, DiskErr>
     requires { NamesDiffer files.now }
-    ensures found { IsTrue D.tells → AtEach manifests.now (λ i m. InOrder m.entries) → IfOk result (λ names. AreRemovable (IsLeftOver manifests.now pinned.now copied.now) files.now (D.files disk.old) names.items) }
-    ensures reads { IsTrue D.tells → ReadsDisk (D.files disk.old) (D.files disk.new) (D.opened disk.old) (D.opened disk.new) (D.past disk.old) (D.past disk.new) }
+    ensures found { IsTrue D.tells → AtEach manifests.now (λ i m. InOrder m.entries)
+        → IfOk result (λ names.
+        AreRemovable (IsLeftOver manifests.now pinned.now copied.now) files.now (D.files disk.old) names.items) }
+    ensures reads { IsTrue D.tells → ReadsDisk (D.files disk.old) (D.files disk.new)
+        (D.opened disk.old) (D.opened disk.new) (D.past disk.old) (D.past disk.new) }
     ensures faults { D.faults disk.old ≤ D.faults disk.new }
     ensures cause { IsErrOf result DiskErr.Fault → Rose (D.faults disk.old) (D.faults disk.new) }
 {
@@ -63,8 +70,10 @@ fn is_left_over(
     pinned: &PinnedPieces,
     copied: &[FileName],
 ) -> bool
-    ensures left { AtEach manifests.now (λ i m. InOrder m.entries) → result ≡ true → IsLeftOver manifests.now pinned.now copied.now file.now }
-    ensures other { AtEach manifests.now (λ i m. InOrder m.entries) → result ≡ false → IsLeftOver manifests.now pinned.now copied.now file.now → ⊥ }
+    ensures left { AtEach manifests.now (λ i m. InOrder m.entries) → result ≡ true
+        → IsLeftOver manifests.now pinned.now copied.now file.now }
+    ensures other { AtEach manifests.now (λ i m. InOrder m.entries) → result ≡ false
+        → IsLeftOver manifests.now pinned.now copied.now file.now → ⊥ }
 {
     is_unlisted(manifests, file) && !is_needed(pinned, copied, &file.name)
 }
@@ -72,7 +81,8 @@ fn is_left_over(
 // Whether a file has the name.
 fn is_there<D: Disk>(disk: &mut D, name: &FileName) -> Result<bool, DiskErr>
     ensures there { IsTrue D.tells → IfOk result (λ there. IsTrue there ↔ IsSome (D.files disk.old name.now)) }
-    ensures reads { IsTrue D.tells → ReadsDisk (D.files disk.old) (D.files disk.new) (D.opened disk.old) (D.opened disk.new) (D.past disk.old) (D.past disk.new) }
+    ensures reads { IsTrue D.tells → ReadsDisk (D.files disk.old) (D.files disk.new)
+        (D.opened disk.old) (D.opened disk.new) (D.past disk.old) (D.past disk.new) }
     ensures faults { D.faults disk.old ≤ D.faults disk.new }
     ensures cause { IsErrOf result DiskErr.Fault → Rose (D.faults disk.old) (D.faults disk.new) }
 {
@@ -80,7 +90,8 @@ fn is_there<D: Disk>(disk: &mut D, name: &FileName) -> Result<bool, DiskErr>
     Ok(size.is_some())
 }
 
-// Takes from limbo those of its files that nothing needs, and removes them from the disk, where just these names have a file.
+// Takes from limbo those of its files that nothing needs, and removes them from the disk, where
+// just these names have a file.
 pub(crate) fn clear_limbo<D: Disk>(
     disk: &mut D,
     limbo: &mut Vec<Retired>,
@@ -88,10 +99,14 @@ pub(crate) fn clear_limbo<D: Disk>(
     pinned: &PinnedPieces,
     copied: &[FileName],
 ) -> Swept
-    requires { IsTrue D.tells → AreRemovable (IsUseless pinned.now copied.now) limbo.old.items (D.files disk.old) removable.now }
+    requires { IsTrue D.tells
+        → AreRemovable (IsUseless pinned.now copied.now) limbo.old.items (D.files disk.old) removable.now }
 
-    ensures removes { IsTrue D.tells → Removes pinned.now copied.now limbo.old.items (D.files disk.old) (D.files disk.new) (D.opened disk.old) (D.opened disk.new) (D.past disk.old) (D.past disk.new) }
-    ensures gone { IsTrue D.tells → OnOk result.removed (AreFree pinned.now copied.now (λ n. Only (D.past disk.new) n None) limbo.old.items) }
+    ensures removes { IsTrue D.tells
+        → Removes pinned.now copied.now limbo.old.items (D.files disk.old) (D.files disk.new)
+        (D.opened disk.old) (D.opened disk.new) (D.past disk.old) (D.past disk.new) }
+    ensures gone { IsTrue D.tells
+        → OnOk result.removed (AreFree pinned.now copied.now (λ n. Only (D.past disk.new) n None) limbo.old.items) }
     ensures needed { StayNeeded pinned.now copied.now limbo.old.items limbo.new.items }
     ensures count { result.files + length limbo.new.items ≡ length limbo.old.items }
     ensures faults { D.faults disk.old ≤ D.faults disk.new }
@@ -110,10 +125,13 @@ pub(crate) fn remove_for_good<D: Disk>(
     pinned: &PinnedPieces,
     copied: &[FileName],
 ) -> Result<(), DiskErr>
-    requires { IsTrue D.tells → AreRemovable (IsUseless pinned.now copied.now) files.now (D.files disk.old) removable.now }
+    requires { IsTrue D.tells
+        → AreRemovable (IsUseless pinned.now copied.now) files.now (D.files disk.old) removable.now }
 
-    ensures removes { IsTrue D.tells → Removes pinned.now copied.now files.now (D.files disk.old) (D.files disk.new) (D.opened disk.old) (D.opened disk.new) (D.past disk.old) (D.past disk.new) }
-    ensures gone { IsTrue D.tells → OnOk result (AreFree pinned.now copied.now (λ n. Only (D.past disk.new) n None) files.now) }
+    ensures removes { IsTrue D.tells → Removes pinned.now copied.now files.now (D.files disk.old) (D.files disk.new)
+        (D.opened disk.old) (D.opened disk.new) (D.past disk.old) (D.past disk.new) }
+    ensures gone { IsTrue D.tells
+        → OnOk result (AreFree pinned.now copied.now (λ n. Only (D.past disk.new) n None) files.now) }
     ensures faults { D.faults disk.old ≤ D.faults disk.new }
     ensures cause { IsErr result → Rose (D.faults disk.old) (D.faults disk.new) }
 {
@@ -146,11 +164,14 @@ fn is_among(names: &[FileName], name: &FileName) -> bool
     names.iter().any(|other| other.is_same(name))
 }
 
-// Removes the files of these names, one after another, and syncs none. It goes on behind a failure, and answers the last.
+// Removes the files of these names, one after another, and syncs none. It goes on behind a
+// failure, and answers the last.
 fn remove_all<D: Disk>(disk: &mut D, names: &[FileName]) -> Result<(), DiskErr>
-    requires { IsTrue D.tells → AllPairs (λ (a b : Name). a ≢ b) names.now × All (λ (n : Name). IsSome (D.files disk.old n)) names.now }
+    requires { IsTrue D.tells
+        → AllPairs (λ (a b : Name). a ≢ b) names.now × All (λ (n : Name). IsSome (D.files disk.old n)) names.now }
 
-    ensures removes { IsTrue D.tells → RemovesNames names.now (D.files disk.old) (D.files disk.new) (D.opened disk.old) (D.opened disk.new) (D.past disk.old) (D.past disk.new) }
+    ensures removes { IsTrue D.tells → RemovesNames names.now (D.files disk.old) (D.files disk.new)
+        (D.opened disk.old) (D.opened disk.new) (D.past disk.old) (D.past disk.new) }
     ensures gone { IsTrue D.tells → OnOk result (All (λ (n : Name). D.files disk.new n ≡ None) names.now) }
     ensures faults { D.faults disk.old ≤ D.faults disk.new }
     ensures cause { IsErr result → Rose (D.faults disk.old) (D.faults disk.new) }
@@ -176,15 +197,16 @@ fn remove_file<D: Disk>(disk: &mut D, name: &FileName) -> Result<(), DiskErr>
     disk.remove(name)
 }
 
-// Syncs the names of those of the files that nothing needs, one after another: each later crash leaves of them what reads give. It goes on
-// behind a failure, and answers the last.
+// Syncs the names of those of the files that nothing needs, one after another: each later crash leaves of them what
+// reads give. It goes on behind a failure, and answers the last.
 fn sync_unneeded<D: Disk>(
     disk: &mut D,
     files: &[Retired],
     pinned: &PinnedPieces,
     copied: &[FileName],
 ) -> Result<(), DiskErr>
-    ensures durable { IsTrue D.tells → OnOk result (AreFree pinned.now copied.now (λ n. Only (D.past disk.new) n (D.files disk.old n)) files.now) }
+    ensures durable { IsTrue D.tells
+        → OnOk result (AreFree pinned.now copied.now (λ n. Only (D.past disk.new) n (D.files disk.old n)) files.now) }
     ensures same { IsTrue D.tells → D.files disk.new ≡ D.files disk.old }
     ensures any_moment { IsTrue D.tells → Passes (λ a b. b ≡ a) (D.past disk.old) (D.past disk.new) }
     ensures opened { IsTrue D.tells → D.opened disk.new ≡ D.opened disk.old }

@@ -1,8 +1,9 @@
 // How a retirement hands its files over to limbo, and removes from the disk what no pin names.
 //
-// They go there before its commit, so that pinned pieces are there whatever comes of it: made, not made or in doubt. While a store lists
-// them they count for nothing.
-ghost use Rattle.std.specs.Prelude.{◌≡◌, ◌<◌, ◌+◌, ◌++◌, [], List, All, Contains, IfOk, OnOk, OnErr, IsErr, IsTrue, None, Some, true, false, length, map, slice_get, take};
+// They go there before its commit, so that pinned pieces are there whatever comes of it: made, not made or in doubt.
+// While a store lists them they count for nothing.
+ghost use Rattle.std.specs.Prelude.{◌≡◌, ◌<◌, ◌+◌, ◌++◌, [], List, All, Contains, IfOk, OnOk, OnErr, IsErr, IsTrue};
+ghost use Rattle.std.specs.Prelude.{None, Some, true, false, length, map, slice_get, take};
 ghost use Rattle.std.specs.List.{list_any};
 ghost use Rattle.disk_model.specs.Files.{Name, Rose};
 ghost use Rattle.disk_model.specs.Past.{Only};
@@ -14,7 +15,8 @@ ghost use Rattle.tier_store.specs.Stores.{Stores};
 ghost use Rattle.tier_store.specs.Seen.{seen};
 ghost use Rattle.tier_store.specs.Change.{Has, Changes};
 ghost use Rattle.tier_store.specs.Pinned.{seen_all, KeepsShown};
-ghost use Rattle.tier_store.specs.Limbo.{LimboStands, AreRemovable, IsUseless, NamesDiffer, IsListedName, Stay, StayUnlisted, LeaveListed, LeavesKept, AreFree, staying};
+ghost use Rattle.tier_store.specs.Limbo.{LimboStands, AreRemovable, IsUseless, NamesDiffer, IsListedName, Stay};
+ghost use Rattle.tier_store.specs.Limbo.{StayUnlisted, LeaveListed, LeavesKept, AreFree, staying};
 ghost use Rattle.tier_store.specs.Copying.{OnlyLooks};
 ghost use Rattle.tier_store.specs.Moving.{LeavesFiles, LeavesNames};
 ghost use Rattle.tier_store.specs.Retiring.{IsFree, Stays, names_in, oldest_entries, drop_entry, retired_of};
@@ -103,8 +105,8 @@ fn drops(alloc: Global, entries: &[Entry]) -> Result<Vec<Change>, AllocError>
 }
 
 impl<D: Disk> TierStore<D> {
-    // Takes from limbo what a store lists again, puts the oldest files of a row at a place behind the rest, and answers these files and the
-    // changes that drop them from their list.
+    // Takes from limbo what a store lists again, puts the oldest files of a row at a place behind the rest, and answers
+    // these files and the changes that drop them from their list.
     pub(crate) fn hand_over(
         &mut self,
         place: usize,
@@ -115,13 +117,21 @@ impl<D: Disk> TierStore<D> {
         requires has { (held : Stores) × Has D.tells (seen D.Disk self.old) held }
         requires stands { LimboStands (seen D.Disk self.old) self.old.limbo.items }
 
-        ensures files { (m : ManifestState) → slice_get self.old.manifests.items place ≡ Some m → IfOk result (λ l. l.files.items ≡ map (retired_of (place + 1, self.old.catalogue.rows)) (oldest_entries row n m.entries)) }
-        ensures drops { (m : ManifestState) → slice_get self.old.manifests.items place ≡ Some m → IfOk result (λ l. l.drops.items ≡ map drop_entry (oldest_entries row n m.entries)) }
-        ensures entered { IfOk result (λ l. (kept : List RetiredValue) × StayUnlisted (seen D.Disk self.old) self.old.limbo.items kept × (self.new.limbo.items ≡ kept ++ l.files.items)) }
+        ensures files { (m : ManifestState) → slice_get self.old.manifests.items place ≡ Some m
+            → IfOk result (λ l.
+            l.files.items ≡ map (retired_of (place + 1, self.old.catalogue.rows)) (oldest_entries row n m.entries)) }
+        ensures drops { (m : ManifestState) → slice_get self.old.manifests.items place ≡ Some m
+            → IfOk result (λ l. l.drops.items ≡ map drop_entry (oldest_entries row n m.entries)) }
+        ensures entered { IfOk result (λ l. (kept : List RetiredValue)
+            × StayUnlisted (seen D.Disk self.old) self.old.limbo.items kept
+            × (self.new.limbo.items ≡ kept ++ l.files.items)) }
         ensures failed { OnErr result (LeaveListed (seen D.Disk self.old) self.old.limbo.items self.new.limbo.items) }
         ensures whole { OnErr result (KeepsWhole D.tells (seen_all D.Disk self.old) (seen_all D.Disk self.new)) }
         ensures shown { KeepsShown D.tells (seen_all D.Disk self.old) (seen_all D.Disk self.new) }
-        ensures same { (self.new.catalogue ≡ self.old.catalogue) × (self.new.manifests ≡ self.old.manifests) × (self.new.disk ≡ self.old.disk) × (self.new.pinned ≡ self.old.pinned) }
+        ensures same { (self.new.catalogue ≡ self.old.catalogue)
+            × (self.new.manifests ≡ self.old.manifests)
+            × (self.new.disk ≡ self.old.disk)
+            × (self.new.pinned ≡ self.old.pinned) }
     {
         let store = place as u8 + 1;
         let rows = self.catalogue.rows();
@@ -139,16 +149,20 @@ impl<D: Disk> TierStore<D> {
         requires has { (held : Stores) × Has D.tells (seen D.Disk self.old) held }
         requires differ { NamesDiffer files.now }
 
-        ensures found { IsTrue D.tells → IfOk result (λ names. AreRemovable (IsUseless self.new.pinned []) files.now (D.files self.new.disk) names.items) }
+        ensures found { IsTrue D.tells → IfOk result (λ names.
+            AreRemovable (IsUseless self.new.pinned []) files.now (D.files self.new.disk) names.items) }
         ensures looks { OnlyLooks D.tells (seen_all D.Disk self.old) (seen_all D.Disk self.new) (end_of_disk result) }
         ensures later { LeavesFiles D.tells (seen_all D.Disk self.old) (seen_all D.Disk self.new) }
-        ensures same { (self.new.catalogue ≡ self.old.catalogue) × (self.new.manifests ≡ self.old.manifests) × (self.new.pinned ≡ self.old.pinned) × (self.new.limbo ≡ self.old.limbo) }
+        ensures same { (self.new.catalogue ≡ self.old.catalogue)
+            × (self.new.manifests ≡ self.old.manifests)
+            × (self.new.pinned ≡ self.old.pinned)
+            × (self.new.limbo ≡ self.old.limbo) }
     {
         find_removable(self.alloc, &mut self.disk, &[], files, &self.pinned, &[])
     }
 
-    // Takes from limbo files that have left their list, but for those that a pin names, and removes them from the disk, where just these names
-    // have a file.
+    // Takes from limbo files that have left their list, but for those that a pin names, and removes them from the disk,
+    // where just these names have a file.
     pub(crate) fn remove_handed(
         &mut self,
         files: &[Retired],
@@ -156,19 +170,27 @@ impl<D: Disk> TierStore<D> {
     ) -> Result<(), DiskErr>
         requires has { (held : Stores) × Has D.tells (seen D.Disk self.old) held }
         requires stands { LimboStands (seen D.Disk self.old) self.old.limbo.items }
-        requires unlisted { All (λ (r : RetiredValue). IsListedName (seen D.Disk self.old) r.name → ⊥) self.old.limbo.items }
+        requires unlisted { All
+            (λ (r : RetiredValue). IsListedName (seen D.Disk self.old) r.name → ⊥) self.old.limbo.items }
         requires among { All (Contains self.old.limbo.items) files.now }
-        requires removable { IsTrue D.tells → AreRemovable (IsUseless self.old.pinned []) files.now (D.files self.old.disk) removable.now }
+        requires removable { IsTrue D.tells
+            → AreRemovable (IsUseless self.old.pinned []) files.now (D.files self.old.disk) removable.now }
 
         ensures changes { Changes D.tells staying (seen D.Disk self.old) (seen D.Disk self.new) (Done result) }
-        ensures leaves { LeavesKept D.tells self.old.pinned (names_in self.new.limbo.items) (seen_all D.Disk self.old) (seen_all D.Disk self.new) }
-        ensures others { (names : List Name) → All (λ (r : RetiredValue). Contains names r.name → ⊥) files.now → LeavesNames names D.tells (seen_all D.Disk self.old) (seen_all D.Disk self.new) }
+        ensures leaves { LeavesKept D.tells self.old.pinned (names_in self.new.limbo.items)
+            (seen_all D.Disk self.old) (seen_all D.Disk self.new) }
+        ensures others { (names : List Name) → All (λ (r : RetiredValue). Contains names r.name → ⊥) files.now
+            → LeavesNames names D.tells (seen_all D.Disk self.old) (seen_all D.Disk self.new) }
         ensures whole { KeepsWhole D.tells (seen_all D.Disk self.old) (seen_all D.Disk self.new) }
         ensures stands { LimboStands (seen D.Disk self.new) self.new.limbo.items }
-        ensures left { Stay (λ r. Stays self.old.pinned files.now r.name) (λ r. IsFree self.old.pinned files.now r.name) self.old.limbo.items self.new.limbo.items }
-        ensures gone { IsTrue D.tells → OnOk result (AreFree self.old.pinned [] (λ n. Only (D.past self.new.disk) n None) files.now) }
+        ensures left { Stay (λ r. Stays self.old.pinned files.now r.name)
+            (λ r. IsFree self.old.pinned files.now r.name) self.old.limbo.items self.new.limbo.items }
+        ensures gone { IsTrue D.tells
+            → OnOk result (AreFree self.old.pinned [] (λ n. Only (D.past self.new.disk) n None) files.now) }
         ensures cause { IsErr result → Rose (D.faults self.old.disk) (D.faults self.new.disk) }
-        ensures same { (self.new.catalogue ≡ self.old.catalogue) × (self.new.manifests ≡ self.old.manifests) × (self.new.pinned ≡ self.old.pinned) }
+        ensures same { (self.new.catalogue ≡ self.old.catalogue)
+            × (self.new.manifests ≡ self.old.manifests)
+            × (self.new.pinned ≡ self.old.pinned) }
     {
         let pinned = &self.pinned;
         let removed = remove_for_good(&mut self.disk, files, removable, pinned, &[]);

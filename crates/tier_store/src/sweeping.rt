@@ -22,17 +22,24 @@ impl<D: Disk> TierStore<D> {
     fn sweep_names(&mut self, copied: &[FileName], removable: &[FileName]) -> Swept
         requires has { (held : Stores) × Has D.tells (seen D.Disk self.old) held }
         requires stands { LimboStands (seen D.Disk self.old) self.old.limbo.items }
-        requires removable { IsTrue D.tells → AreRemovable (IsLeftOver self.old.manifests.items self.old.pinned copied.now) self.old.limbo.items (D.files self.old.disk) removable.now }
+        requires removable { IsTrue D.tells
+            → AreRemovable (IsLeftOver self.old.manifests.items self.old.pinned copied.now)
+            self.old.limbo.items (D.files self.old.disk) removable.now }
 
         ensures changes { Changes D.tells staying (seen D.Disk self.old) (seen D.Disk self.new) (Done result) }
-        ensures swept { IsSwept (seen D.Disk self.new) self.old.pinned copied.now self.old.limbo.items self.new.limbo.items result.files }
-        ensures gone { IsTrue D.tells → OnOk result.removed (AreGone (seen D.Disk self.new) self.old.pinned copied.now self.old.limbo.items) }
+        ensures swept { IsSwept (seen D.Disk self.new) self.old.pinned
+            copied.now self.old.limbo.items self.new.limbo.items result.files }
+        ensures gone { IsTrue D.tells
+            → OnOk result.removed (AreGone (seen D.Disk self.new) self.old.pinned copied.now self.old.limbo.items) }
         ensures cause { IsErr result.removed → Rose (D.faults self.old.disk) (D.faults self.new.disk) }
-        ensures leaves { LeavesKept D.tells self.old.pinned copied.now (seen_all D.Disk self.old) (seen_all D.Disk self.new) }
+        ensures leaves { LeavesKept D.tells self.old.pinned copied.now
+            (seen_all D.Disk self.old) (seen_all D.Disk self.new) }
         ensures whole { KeepsWhole D.tells (seen_all D.Disk self.old) (seen_all D.Disk self.new) }
         ensures copied { LeavesNames copied.now D.tells (seen_all D.Disk self.old) (seen_all D.Disk self.new) }
         ensures stands { LimboStands (seen D.Disk self.new) self.new.limbo.items }
-        ensures same { (self.new.catalogue ≡ self.old.catalogue) × (self.new.manifests ≡ self.old.manifests) × (self.new.pinned ≡ self.old.pinned) }
+        ensures same { (self.new.catalogue ≡ self.old.catalogue)
+            × (self.new.manifests ≡ self.old.manifests)
+            × (self.new.pinned ≡ self.old.pinned) }
     {
         leave_listed(&self.manifests, &mut self.limbo);
         clear_limbo(
@@ -49,9 +56,14 @@ impl<D: Disk> TierStore<D> {
         requires has { (held : Stores) × Has D.tells (seen D.Disk self.old) held }
         requires stands { LimboStands (seen D.Disk self.old) self.old.limbo.items }
 
-        ensures found { IsTrue D.tells → IfOk result (λ names. AreRemovable (IsLeftOver self.new.manifests.items self.new.pinned copied.now) self.new.limbo.items (D.files self.new.disk) names.items) }
+        ensures found { IsTrue D.tells
+            → IfOk result (λ names. AreRemovable (IsLeftOver self.new.manifests.items self.new.pinned copied.now)
+            self.new.limbo.items (D.files self.new.disk) names.items) }
         ensures looks { OnlyLooks D.tells (seen_all D.Disk self.old) (seen_all D.Disk self.new) (end_of_disk result) }
-        ensures same { (self.new.catalogue ≡ self.old.catalogue) × (self.new.manifests ≡ self.old.manifests) × (self.new.pinned ≡ self.old.pinned) × (self.new.limbo ≡ self.old.limbo) }
+        ensures same { (self.new.catalogue ≡ self.old.catalogue)
+            × (self.new.manifests ≡ self.old.manifests)
+            × (self.new.pinned ≡ self.old.pinned)
+            × (self.new.limbo ≡ self.old.limbo) }
     {
         let limbo = self.limbo.as_slice();
         find_removable(
@@ -64,29 +76,39 @@ impl<D: Disk> TierStore<D> {
         )
     }
 
-    /// Removes the files of limbo that nothing needs any more, and answers how many these are. `copied` names the files into which running
-    /// moves have copied. It needs that nothing stands in doubt, as after `review`. Two kinds of files leave limbo: those that their store
-    /// lists again, which aren't counted, and those that no pin names and into which no running move has copied, which are removed from the
-    /// disk. What is listed, pinned or copied into stays as it is, at every moment of the call.
+    /// Removes the files of limbo that nothing needs any more, and answers how many these are. `copied` names the files
+    /// into which running moves have copied. It needs that nothing stands in doubt, as after `review`. Two kinds of
+    /// files leave limbo: those that their store lists again, which aren't counted, and those that no pin names and
+    /// into which no running move has copied, which are removed from the disk. What is listed, pinned or copied into
+    /// stays as it is, at every moment of the call.
     ///
-    /// A removal that fails is no failure of the sweep: such a file leaves limbo too, and it is told, as `Fault` alone. Which files are there is
-    /// asked before any leaves limbo: `Fault`, which comes only where the disk's count of faults rose in the call, and `Memory` come from that
-    /// alone, and limbo is as it was then.
+    /// A removal that fails is no failure of the sweep: such a file leaves limbo too, and it is told, as `Fault` alone.
+    /// Which files are there is asked before any leaves limbo: `Fault`, which comes only where the disk's count of
+    /// faults rose in the call, and `Memory` come from that alone, and limbo is as it was then.
     pub fn sweep(&mut self, copied: &[FileName]) -> Result<Swept, DiskErr>
         requires has { (held : Stores) × Has D.tells (seen D.Disk self.old) held }
         requires stands { LimboStands (seen D.Disk self.old) self.old.limbo.items }
 
         ensures changes { Changes D.tells staying (seen D.Disk self.old) (seen D.Disk self.new) (end_of_disk result) }
-        ensures swept { IfOk result (λ swept. IsSwept (seen D.Disk self.new) self.old.pinned copied.now self.old.limbo.items self.new.limbo.items swept.files) }
-        ensures gone { IsTrue D.tells → IfOk result (λ swept. OnOk swept.removed (AreGone (seen D.Disk self.new) self.old.pinned copied.now self.old.limbo.items)) }
-        ensures cause { IfOk result (λ swept. IsErr swept.removed → Rose (D.faults self.old.disk) (D.faults self.new.disk)) }
-        ensures failed { OnErr result ((self.new.limbo ≡ self.old.limbo) × KeepsShown D.tells (seen_all D.Disk self.old) (seen_all D.Disk self.new) × LeavesLater D.tells (seen_all D.Disk self.old) (seen_all D.Disk self.new)) }
-        ensures leaves { LeavesKept D.tells self.old.pinned copied.now (seen_all D.Disk self.old) (seen_all D.Disk self.new) }
+        ensures swept { IfOk result (λ swept. IsSwept (seen D.Disk self.new) self.old.pinned
+            copied.now self.old.limbo.items self.new.limbo.items swept.files) }
+        ensures gone { IsTrue D.tells → IfOk result (λ swept.
+            OnOk swept.removed (AreGone (seen D.Disk self.new) self.old.pinned copied.now self.old.limbo.items)) }
+        ensures cause { IfOk result (λ swept. IsErr swept.removed
+            → Rose (D.faults self.old.disk) (D.faults self.new.disk)) }
+        ensures failed { OnErr result ((self.new.limbo ≡ self.old.limbo)
+            × KeepsShown D.tells (seen_all D.Disk self.old) (seen_all D.Disk self.new)
+            × LeavesLater D.tells (seen_all D.Disk self.old) (seen_all D.Disk self.new)) }
+        ensures leaves { LeavesKept D.tells self.old.pinned copied.now
+            (seen_all D.Disk self.old) (seen_all D.Disk self.new) }
         ensures whole { KeepsWhole D.tells (seen_all D.Disk self.old) (seen_all D.Disk self.new) }
-        ensures tidy { IfOk result (λ swept. IsSettled (seen D.Disk self.new) × (swept.removed ≡ Ok tt → LeavesNoStray D.tells (seen_all D.Disk self.old) (seen_all D.Disk self.new))) }
+        ensures tidy { IfOk result (λ swept. IsSettled (seen D.Disk self.new)
+            × (swept.removed ≡ Ok tt → LeavesNoStray D.tells (seen_all D.Disk self.old) (seen_all D.Disk self.new))) }
         ensures copied { LeavesNames copied.now D.tells (seen_all D.Disk self.old) (seen_all D.Disk self.new) }
         ensures stands { LimboStands (seen D.Disk self.new) self.new.limbo.items }
-        ensures same { (self.new.catalogue ≡ self.old.catalogue) × (self.new.manifests ≡ self.old.manifests) × (self.new.pinned ≡ self.old.pinned) }
+        ensures same { (self.new.catalogue ≡ self.old.catalogue)
+            × (self.new.manifests ≡ self.old.manifests)
+            × (self.new.pinned ≡ self.old.pinned) }
     {
         let removable = self.find_swept(copied)?;
         Ok(self.sweep_names(copied, &removable))

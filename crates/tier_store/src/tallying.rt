@@ -1,6 +1,7 @@
-// How many samples are held of a row, by what the stores list of it. Where a later store's samples reach into an earlier store's file, as
-// while a move is half done, that file is read.
-ghost use Rattle.std.specs.Prelude.{◌≡◌, ◌≤◌, ◌<◌, ◌+◌, ◌++◌, ◌∷◌, ◌↔◌, List, [], All, Some, length, map, max, IfOk, IfSome, IsErrOf, IsTrue};
+// How many samples are held of a row, by what the stores list of it. Where a later store's samples reach into an
+// earlier store's file, as while a move is half done, that file is read.
+ghost use Rattle.std.specs.Prelude.{◌≡◌, ◌≤◌, ◌<◌, ◌+◌, ◌++◌, ◌∷◌, ◌↔◌, List, [], All, Some, length, map, max, IfOk};
+ghost use Rattle.std.specs.Prelude.{IfSome, IsErrOf, IsTrue};
 ghost use Rattle.std.specs.List.{flat_map};
 ghost use Rattle.disk_model.specs.Files.{Rose};
 ghost use Rattle.partition_names.specs.declared.granularity.Granularity.{Granularity};
@@ -74,9 +75,12 @@ fn count_over<D: Disk>(
 ) -> Result<u64, DiskErr>
     requires row { entry.now.series < length rows.now }
     requires there { IsTrue D.tells → IsLong (D.files disk.old) (store, rows.now) entry.now }
-    ensures count { IsTrue D.tells → (g : Granularity) (f : Filed) → f.entry ≡ entry.now → IsWhole g (store, rows.now) (D.files disk.old) f → IfOk result (λ n. n ≡ length (since (behind last) f.samples)) }
+    ensures count { IsTrue D.tells → (g : Granularity) (f : Filed) → f.entry ≡ entry.now
+        → IsWhole g (store, rows.now) (D.files disk.old) f
+        → IfOk result (λ n. n ≡ length (since (behind last) f.samples)) }
     ensures listed { behind last ≤ entry.now.first → IfOk result (λ n. n ≡ entry.now.count) }
-    ensures reads { IsTrue D.tells → ReadsDisk (D.files disk.old) (D.files disk.new) (D.opened disk.old) (D.opened disk.new) (D.past disk.old) (D.past disk.new) }
+    ensures reads { IsTrue D.tells → ReadsDisk (D.files disk.old) (D.files disk.new)
+        (D.opened disk.old) (D.opened disk.new) (D.past disk.old) (D.past disk.new) }
     ensures faults { D.faults disk.old ≤ D.faults disk.new }
     ensures cause { IsErrOf result DiskErr.Fault → Rose (D.faults disk.old) (D.faults disk.new) }
 {
@@ -93,7 +97,8 @@ fn count_over<D: Disk>(
     count_later(alloc, disk, &name, entry, last)
 }
 
-// Adds the samples of a listed file that are later than those before it. Want of memory comes also where no `u64` has their number.
+// Adds the samples of a listed file that are later than those before it. Want of memory comes also where
+// no `u64` has their number.
 fn add_file<D: Disk>(
     alloc: Global,
     disk: &mut D,
@@ -104,10 +109,15 @@ fn add_file<D: Disk>(
 ) -> Result<Tally, DiskErr>
     requires row { entry.now.series < length rows.now }
     requires there { IsTrue D.tells → IsLong (D.files disk.old) (store, rows.now) entry.now }
-    ensures tally { IsTrue D.tells → (g : Granularity) (f : Filed) (samples : List SampleValue) → f.entry ≡ entry.now → IsWhole g (store, rows.now) (D.files disk.old) f → IsTally samples tally → IfOk result (IsTally (over samples f.samples)) }
-    ensures listed { behind tally.last ≤ entry.now.first → IfOk result (λ t. (t.count ≡ tally.count + entry.now.count) × (behind t.last ≡ max (behind tally.last) (entry.now.last + 1))) }
+    ensures tally { IsTrue D.tells → (g : Granularity) (f : Filed) (samples : List SampleValue) → f.entry ≡ entry.now
+        → IsWhole g (store, rows.now) (D.files disk.old) f → IsTally samples tally
+        → IfOk result (IsTally (over samples f.samples)) }
+    ensures listed { behind tally.last ≤ entry.now.first
+        → IfOk result (λ t. (t.count ≡ tally.count + entry.now.count)
+        × (behind t.last ≡ max (behind tally.last) (entry.now.last + 1))) }
     ensures ends { IfOk result (λ t. behind t.last ≡ max (behind tally.last) (entry.now.last + 1)) }
-    ensures reads { IsTrue D.tells → ReadsDisk (D.files disk.old) (D.files disk.new) (D.opened disk.old) (D.opened disk.new) (D.past disk.old) (D.past disk.new) }
+    ensures reads { IsTrue D.tells → ReadsDisk (D.files disk.old) (D.files disk.new)
+        (D.opened disk.old) (D.opened disk.new) (D.past disk.old) (D.past disk.new) }
     ensures faults { D.faults disk.old ≤ D.faults disk.new }
     ensures cause { IsErrOf result DiskErr.Fault → Rose (D.faults disk.old) (D.faults disk.new) }
 {
@@ -137,11 +147,15 @@ pub(crate) fn add_files<D: Disk>(
 ) -> Result<Tally, DiskErr>
     requires rows { All (λ (e : EntryValue). e.series < length rows.now) entries.now }
     requires there { IsTrue D.tells → All (IsLong (D.files disk.old) (store, rows.now)) entries.now }
-    ensures tally { IsTrue D.tells → (g : Granularity) (files : List Filed) (samples : List SampleValue) → entries.now ≡ map entry_of files → All (IsWhole g (store, rows.now) (D.files disk.old)) files → IsRising (flat_map (λ (f : Filed). f.samples) files) → IsTally samples tally
+    ensures tally { IsTrue D.tells → (g : Granularity) (files : List Filed) (samples : List SampleValue)
+        → entries.now ≡ map entry_of files
+        → All (IsWhole g (store, rows.now) (D.files disk.old)) files
+        → IsRising (flat_map (λ (f : Filed). f.samples) files) → IsTally samples tally
         → IfOk result (IsTally (over samples (flat_map (λ (f : Filed). f.samples) files))) }
     ensures listed { IfOk result (Adds tally entries.now) }
     ensures ends { IfOk result (λ t. behind t.last ≡ end_of_files (behind tally.last) entries.now) }
-    ensures reads { IsTrue D.tells → ReadsDisk (D.files disk.old) (D.files disk.new) (D.opened disk.old) (D.opened disk.new) (D.past disk.old) (D.past disk.new) }
+    ensures reads { IsTrue D.tells → ReadsDisk (D.files disk.old) (D.files disk.new)
+        (D.opened disk.old) (D.opened disk.new) (D.past disk.old) (D.past disk.new) }
     ensures faults { D.faults disk.old ≤ D.faults disk.new }
     ensures cause { IsErrOf result DiskErr.Fault → Rose (D.faults disk.old) (D.faults disk.new) }
 {
@@ -165,7 +179,8 @@ pub(crate) fn with_tail(durable: Tally, tail: &[Sample]) -> Option<Tally>
 
 // Adds a sample where it is later than a moment, which may be none.
 fn with_later(all: Tally, sample: &Sample, last: Option<u64>) -> Option<Tally>
-    ensures { (samples : List SampleValue) → IsTally samples all → IfSome result (IsTally (samples ++ since (behind last) (sample.now ∷ []))) }
+    ensures { (samples : List SampleValue) → IsTally samples all
+        → IfSome result (IsTally (samples ++ since (behind last) (sample.now ∷ []))) }
 {
     if !is_later(last, sample.t) {
         return Some(all);

@@ -24,14 +24,17 @@ pub trait Beside<S: Room>: Room {
     ghost together: { S → Self → Type 0 };
 
     /// What `apply` needs for an act of the first half that a prefix of the second's history allows.
-    ghost store_fits: { (s : S) (i : Self) (h : HalfHistory S S.Act S.Answer) (g known : HalfHistory Self Self.Act Self.Answer) (who : ℕ)
-        (act : S.Act) → together s i → Legal (knowing S.steps) s h → Legal (knowing Self.steps) i g
-        → Tied store_allows intake_allows h g → IsPrefix known g → store_allows known act → S.asks act → length h < most_acts
-        → S.fits (end_of s h) who (length h) act };
+    ghost store_fits: { (s : S) (i : Self) (h : HalfHistory S S.Act S.Answer)
+        (g known : HalfHistory Self Self.Act Self.Answer) (who : ℕ) (act : S.Act)
+        → together s i → Legal (knowing S.steps) s h → Legal (knowing Self.steps) i g
+        → Tied store_allows intake_allows h g → IsPrefix known g → store_allows known act → S.asks act
+        → length h < most_acts → S.fits (end_of s h) who (length h) act };
 
     /// The same for an act of the second half.
-    ghost intake_fits: { (s : S) (i : Self) (h : HalfHistory S S.Act S.Answer) (g : HalfHistory Self Self.Act Self.Answer)
-        (known : HalfHistory S S.Act S.Answer) (who : ℕ) (act : Self.Act) → together s i → Legal (knowing S.steps) s h
-        → Legal (knowing Self.steps) i g → Tied store_allows intake_allows h g → IsPrefix known h → intake_allows known act
-        → Self.asks act → length g < most_acts → Self.fits (end_of i g) who (length g) act };
+    ghost intake_fits: { (s : S) (i : Self) (h : HalfHistory S S.Act S.Answer)
+        (g : HalfHistory Self Self.Act Self.Answer) (known : HalfHistory S S.Act S.Answer) (who : ℕ) (act : Self.Act)
+        → together s i → Legal (knowing S.steps) s h → Legal (knowing Self.steps) i g
+        → Tied store_allows intake_allows h g → IsPrefix known h → intake_allows known act → Self.asks act
+        → length g < most_acts
+        → Self.fits (end_of i g) who (length g) act };
 }

@@ -39,16 +39,16 @@ impl Resting {
         }
     }
 
-    /// Lets a thread that rests, if there is one, come before a turn that begins: without it one who acts without a pause would
-    /// take the room again before the one that it woke is there.
+    /// Lets a thread that rests, if there is one, come before a turn that begins: without it one who acts without a
+    /// pause would take the room again before the one that it woke is there.
     pub fn let_pass(&self) {
         if self.count.load(Ordering::SeqCst) != 0 {
             thread::yield_now();
         }
     }
 
-    /// Gives the processor away after a try that found `found` in this word, the one after `rests` others: it yields a few
-    /// times, and then rests until the room is given back, or for a while that grows from try to try.
+    /// Gives the processor away after a try that found `found` in this word, the one after `rests` others: it yields a
+    /// few times, and then rests until the room is given back, or for a while that grows from try to try.
     pub fn rest<S, V, K, P: TableRule<S, V, K>>(
         &self,
         rt: &impl Wait,

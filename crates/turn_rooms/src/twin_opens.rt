@@ -2,7 +2,8 @@
 ghost use Rattle.std.specs.Prelude.{◌≡◌, IfOk, IfErr};
 ghost use Rattle.turn_rooms.specs.Histories.{end_of};
 ghost use Rattle.turn_rooms.specs.Ties.{Tied};
-ghost use Rattle.turn_rooms.specs.TwinPasses.{IsTwinPassOf, IsLastTwin, TwinOpens, store_opened, intake_opened, store_known, intake_known};
+ghost use Rattle.turn_rooms.specs.TwinPasses.{IsTwinPassOf, IsLastTwin, TwinOpens, store_opened, intake_opened};
+ghost use Rattle.turn_rooms.specs.TwinPasses.{store_known, intake_known};
 
 use crate::beside::Beside;
 use crate::resting::Resting;
@@ -13,8 +14,8 @@ use std::alloc::Global;
 use std::snapshot::Snapshot;
 
 impl<S: Room, I: Beside<S>> Twin<S, I> {
-    /// Opens the two halves, with empty histories, and makes the first pass, which has the number 0. `Err` only for want of
-    /// memory.
+    /// Opens the two halves, with empty histories, and makes the first pass, which has the number 0.
+    /// `Err` only for want of memory.
     pub fn new(alloc: Global, store: S, intake: I) -> Result<(Twin<S, I>, TwinPass<S, I>), (S, I)>
         requires { I.together store intake }
         ensures ok { IfOk result (λ p. TwinOpens S.steps I.steps I.together p.0 store intake p.1) }
@@ -50,8 +51,8 @@ impl<S: Room, I: Beside<S>> Twin<S, I> {
         }
     }
 
-    /// The halves as the two histories left them. No other pass may be left, so that the pass knows all acts of every pass. The
-    /// pair of histories is closed. It takes no memory.
+    /// The halves as the two histories left them. No other pass may be left, so that the pass knows all acts of every
+    /// pass. The pair of histories is closed. It takes no memory.
     pub fn close(self, pass: TwinPass<S, I>) -> (S, I)
         requires rooms { IsTwinPassOf S.steps I.steps I.together self pass }
         requires last { IsLastTwin pass }

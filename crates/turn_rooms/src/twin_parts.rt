@@ -17,7 +17,8 @@ impl<S: Room, I: Beside<S>> Twin<S, I> {
         requires { IsTwinPassOf S.steps I.steps I.together self.now pass.old }
         ensures stays { TwinStays S.steps I.steps I.together self.now pass.old pass.new }
         ensures all { result ≡ most_numbers → (pass_standing pass.new).drained ≡ (pass_standing pass.old).drained + 1 }
-        ensures some_left { result ≢ most_numbers → (pass_standing pass.new).drained ≡ (pass_standing pass.old).drained }
+        ensures some_left { result ≢ most_numbers
+            → (pass_standing pass.new).drained ≡ (pass_standing pass.old).drained }
         ensures numbers { IsLastTwin pass.old → result ≤ length (pass_standing pass.old).stands }
     {
         self.table.shared.load::<TwinCount<S, I>>(&mut pass.seat, 2)
@@ -40,11 +41,11 @@ impl<S: Room, I: Beside<S>> Twin<S, I> {
         Some(TwinPass { number, seat })
     }
 
-    /// Makes a pass with a new number, which knows what this one knows. It may wait, for as long as others draw numbers, and
-    /// takes no memory.
+    /// Makes a pass with a new number, which knows what this one knows. It may wait, for as long as others draw
+    /// numbers, and takes no memory.
     ///
-    /// `Spent` comes only where its last load of the count of numbers read 2^64 - 1. `pass` then counts one such load more, and
-    /// so knows that all numbers are drawn: beside which no other pass is left, it stands for each of them.
+    /// `Spent` comes only where its last load of the count of numbers read 2^64 - 1. `pass` then counts one such load
+    /// more, and so knows that all numbers are drawn: beside which no other pass is left, it stands for each of them.
     pub fn part(&self, rt: &impl Wait, pass: &mut TwinPass<S, I>) -> Result<TwinPass<S, I>, Spent>
         requires { IsTwinPassOf S.steps I.steps I.together self.now pass.old }
         ensures parts { IfOk result (λ note. TwinParts S.steps I.steps I.together self.now pass.old pass.new note) }
@@ -65,8 +66,8 @@ impl<S: Room, I: Beside<S>> Twin<S, I> {
         unreachable!()
     }
 
-    /// Ends `note`. The pass then knows what both knew, and stands for what both stood for. It doesn't wait, and takes no
-    /// memory.
+    /// Ends `note`. The pass then knows what both knew, and stands for what both stood for. It doesn't
+    /// wait, and takes no memory.
     pub fn meet(&self, pass: &mut TwinPass<S, I>, note: TwinPass<S, I>)
         requires rooms { IsTwinPassOf S.steps I.steps I.together self.now pass.old }
         requires note { IsTwinPassOf S.steps I.steps I.together self.now note }

@@ -1,5 +1,6 @@
 //! The rule of a twin's table, and what its steps tell. These types are for the proofs alone.
-ghost use Rattle.turn_rooms.specs.TwinRules.{TwinRuled, store_looks, store_takes, store_gives, store_learns, intake_looks, intake_takes, intake_gives};
+ghost use Rattle.turn_rooms.specs.TwinRules.{TwinRuled, store_looks, store_takes, store_gives, store_learns};
+ghost use Rattle.turn_rooms.specs.TwinRules.{intake_looks, intake_takes, intake_gives};
 ghost use Rattle.turn_rooms.specs.TwinRules.{twin_settles, twin_counts, twin_draws};
 ghost use Rattle.turn_rooms.specs.TwinViews.{opened_twin, spent_twin, left_twin, right_twin, joined_twin};
 

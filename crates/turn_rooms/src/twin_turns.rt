@@ -2,9 +2,11 @@
 ghost use Rattle.std.specs.Prelude.{◌≡◌, ◌≢◌, ℕ, ◌+◌, ◌*◌, ◌<◌, length, Some, MatchResult};
 ghost use Rattle.turn_rooms.specs.Histories.{most_acts};
 ghost use Rattle.turn_rooms.specs.LaneTurns.{LaneTries, LaneTurns};
-ghost use Rattle.turn_rooms.specs.TwinPasses.{IsTwinPassOf, StoreGoes, IntakeGoes, store_seen, intake_seen, store_known, intake_known};
+ghost use Rattle.turn_rooms.specs.TwinPasses.{IsTwinPassOf, StoreGoes, IntakeGoes, store_seen, intake_seen};
+ghost use Rattle.turn_rooms.specs.TwinPasses.{store_known, intake_known};
 ghost use Rattle.turn_rooms.specs.TwinTurning.{StoreLooked, StoreReady, StoreTaken, StoreMissed, StoreOut, StoreGiven};
-ghost use Rattle.turn_rooms.specs.TwinTurning.{IntakeLooked, IntakeReady, IntakeTaken, IntakeMissed, IntakeOut, IntakeGiven};
+ghost use Rattle.turn_rooms.specs.TwinTurning.{IntakeLooked, IntakeReady, IntakeTaken, IntakeMissed, IntakeOut};
+ghost use Rattle.turn_rooms.specs.TwinTurning.{IntakeGiven};
 
 use crate::beside::Beside;
 use crate::room::Room;
@@ -26,12 +28,13 @@ impl<S: Room, I: Beside<S>> Twin<S, I> {
         self.table.shared.load::<StoreLook<S, I>>(&mut pass.seat, 0)
     }
 
-    // Takes the store where word 0 still is the read word, and has it out of the slot. Or else gives the word that it found.
+    // Takes the store where word 0 still is the read word, and has it out of the slot. Or else
+    // gives the word that it found.
     fn store_take(&self, pass: &mut TwinPass<S, I>, word: u64) -> Result<S, u64>
         requires read { StoreReady S.steps I.steps I.together self.now pass.old word }
         requires even { (m : ℕ) × (word ≡ 2 * m) × (m < most_acts) }
-        ensures { MatchResult result
-            (λ room. StoreTaken S.steps I.steps I.together self.now I.store_allows I.intake_allows pass.old pass.new word room)
+        ensures { MatchResult result (λ room.
+            StoreTaken S.steps I.steps I.together self.now I.store_allows I.intake_allows pass.old pass.new word room)
             (λ found. StoreMissed S.steps I.steps I.together self.now pass.old pass.new word found) }
     {
         let words = &self.table.shared;
@@ -81,15 +84,15 @@ impl<S: Room, I: Beside<S>> Twin<S, I> {
         answer
     }
 
-    /// Makes one try on the store: one load of its word, and where that read a free half, one compare-exchange. It never waits
-    /// for another thread, and takes no memory of its own.
+    /// Makes one try on the store: one load of its word, and where that read a free half, one compare-exchange. It
+    /// never waits for another thread, and takes no memory of its own.
     pub fn try_store_turn(&self, pass: &mut TwinPass<S, I>, act: S::Act) -> Tried<S>
         requires rooms { IsTwinPassOf S.steps I.steps I.together self.now pass.old }
         requires asks { S.asks act }
         requires allowed { I.store_allows (intake_known pass.old) act }
         ensures goes { StoreGoes S.steps I.steps I.together self.now pass.old pass.new }
-        ensures tries { (loaded : ℕ)
-            × LaneTries pass.old.number (length (intake_known pass.old)) (store_seen pass.old) (store_seen pass.new) act loaded result }
+        ensures tries { (loaded : ℕ) × LaneTries pass.old.number (length (intake_known pass.old))
+            (store_seen pass.old) (store_seen pass.new) act loaded result }
     {
         let word = self.store_look(pass);
         if word % 2 == 1 {
@@ -104,14 +107,15 @@ impl<S: Room, I: Beside<S>> Twin<S, I> {
         }
     }
 
-    /// Tries again until the act took place, or no act is left on the store. It may wait, for as long as others act on it.
+    /// Tries again until the act took place, or no act is left on the store. It may wait, for as
+    /// long as others act on it.
     pub fn store_turn(&self, rt: &impl Wait, pass: &mut TwinPass<S, I>, act: S::Act) -> Turned<S>
         requires rooms { IsTwinPassOf S.steps I.steps I.together self.now pass.old }
         requires asks { S.asks act }
         requires allowed { I.store_allows (intake_known pass.old) act }
         ensures goes { StoreGoes S.steps I.steps I.together self.now pass.old pass.new }
-        ensures turns { (loaded : ℕ)
-            × LaneTurns pass.old.number (length (intake_known pass.old)) (store_seen pass.old) (store_seen pass.new) act loaded result }
+        ensures turns { (loaded : ℕ) × LaneTurns pass.old.number (length (intake_known pass.old))
+            (store_seen pass.old) (store_seen pass.new) act loaded result }
     {
         let mut act = act;
         let mut rests = 0;
@@ -141,12 +145,13 @@ impl<S: Room, I: Beside<S>> Twin<S, I> {
             .load::<IntakeLook<S, I>>(&mut pass.seat, 1)
     }
 
-    // Takes the intake where word 1 still is the read word, and has it out of the slot. Or else gives the word that it found.
+    // Takes the intake where word 1 still is the read word, and has it out of the slot. Or else
+    // gives the word that it found.
     fn intake_take(&self, pass: &mut TwinPass<S, I>, word: u64) -> Result<I, u64>
         requires read { IntakeReady S.steps I.steps I.together self.now pass.old word }
         requires even { (m : ℕ) × (word ≡ 2 * m) × (m < most_acts) }
-        ensures { MatchResult result
-            (λ room. IntakeTaken S.steps I.steps I.together self.now I.store_allows I.intake_allows pass.old pass.new word room)
+        ensures { MatchResult result (λ room.
+            IntakeTaken S.steps I.steps I.together self.now I.store_allows I.intake_allows pass.old pass.new word room)
             (λ found. IntakeMissed S.steps I.steps I.together self.now pass.old pass.new word found) }
     {
         let words = &self.table.shared;
@@ -196,15 +201,15 @@ impl<S: Room, I: Beside<S>> Twin<S, I> {
         answer
     }
 
-    /// Makes one try on the intake: one load of its word, and where that read a free half, one compare-exchange. It never waits
-    /// for another thread, and takes no memory of its own.
+    /// Makes one try on the intake: one load of its word, and where that read a free half, one compare-exchange. It
+    /// never waits for another thread, and takes no memory of its own.
     pub fn try_intake_turn(&self, pass: &mut TwinPass<S, I>, act: I::Act) -> Tried<I>
         requires rooms { IsTwinPassOf S.steps I.steps I.together self.now pass.old }
         requires asks { I.asks act }
         requires allowed { I.intake_allows (store_known pass.old) act }
         ensures goes { IntakeGoes S.steps I.steps I.together self.now pass.old pass.new }
-        ensures tries { (loaded : ℕ)
-            × LaneTries pass.old.number (length (store_known pass.old)) (intake_seen pass.old) (intake_seen pass.new) act loaded result }
+        ensures tries { (loaded : ℕ) × LaneTries pass.old.number (length (store_known pass.old))
+            (intake_seen pass.old) (intake_seen pass.new) act loaded result }
     {
         let word = self.intake_look(pass);
         if word % 2 == 1 {
@@ -219,14 +224,15 @@ impl<S: Room, I: Beside<S>> Twin<S, I> {
         }
     }
 
-    /// Tries again until the act took place, or no act is left on the intake. It may wait, for as long as others act on it.
+    /// Tries again until the act took place, or no act is left on the intake. It may wait, for as
+    /// long as others act on it.
     pub fn intake_turn(&self, rt: &impl Wait, pass: &mut TwinPass<S, I>, act: I::Act) -> Turned<I>
         requires rooms { IsTwinPassOf S.steps I.steps I.together self.now pass.old }
         requires asks { I.asks act }
         requires allowed { I.intake_allows (store_known pass.old) act }
         ensures goes { IntakeGoes S.steps I.steps I.together self.now pass.old pass.new }
-        ensures turns { (loaded : ℕ)
-            × LaneTurns pass.old.number (length (store_known pass.old)) (intake_seen pass.old) (intake_seen pass.new) act loaded result }
+        ensures turns { (loaded : ℕ) × LaneTurns pass.old.number (length (store_known pass.old))
+            (intake_seen pass.old) (intake_seen pass.new) act loaded result }
     {
         let mut act = act;
         let mut rests = 0;

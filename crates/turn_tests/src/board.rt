@@ -1,4 +1,5 @@
-//! A board on which one pin can be made: an archive of one variable without samples, over a disk that tells nothing of its files.
+//! A board on which one pin can be made: an archive of one variable without samples, over a disk that
+//! tells nothing of its files.
 ghost use Rattle.std.specs.Prelude.{◌≡◌, ℕ, true, [], None, Some, IfOk};
 ghost use Rattle.act_model.specs.Machine.{Machine};
 ghost use Rattle.act_model.specs.Reply.{reply_of};
@@ -14,8 +15,9 @@ use pv_name::PvName;
 use series_model::{Blob, Pairs, Query, Samples};
 use std::alloc::{AllocError, Global};
 
-/// The variable, whose the pin is, and how many doors are open. Of all acts it makes the pin and gives it up, counts its doors off, and makes
-/// those of the flusher and the mover, who find nothing to do. For the others memory is wanting.
+/// The variable, whose the pin is, and how many doors are open. Of all acts it makes the pin and gives it
+/// up, counts its doors off, and makes those of the flusher and the mover, who find nothing to do. For the
+/// others memory is wanting.
 #[derive(Drop)]
 pub struct Board {
     alloc: Global,
@@ -75,8 +77,8 @@ impl Board {
     }
 
     fn pin(&mut self, who: u64, name: &Blob, query: Query) -> Answer<MemFile>
-        ensures { StepsTo who (Act.Pin name.now query) self.old
-            (reply_of ⟦<MemFile as ReadAt>⟧.tells ⟦<MemFile as ReadAt>⟧.bytes ⟦<MemFile as ReadAt>⟧.faults result) self.new }
+        ensures { StepsTo who (Act.Pin name.now query) self.old (reply_of
+            ⟦<MemFile as ReadAt>⟧.tells ⟦<MemFile as ReadAt>⟧.bytes ⟦<MemFile as ReadAt>⟧.faults result) self.new }
     {
         if !self.is_free(name) {
             return Answer::Memory;
@@ -96,8 +98,8 @@ impl Board {
     }
 
     fn unpin(&mut self, who: u64, pin: u32) -> Answer<MemFile>
-        ensures { StepsTo who (Act.Unpin pin) self.old
-            (reply_of ⟦<MemFile as ReadAt>⟧.tells ⟦<MemFile as ReadAt>⟧.bytes ⟦<MemFile as ReadAt>⟧.faults result) self.new }
+        ensures { StepsTo who (Act.Unpin pin) self.old (reply_of
+            ⟦<MemFile as ReadAt>⟧.tells ⟦<MemFile as ReadAt>⟧.bytes ⟦<MemFile as ReadAt>⟧.faults result) self.new }
     {
         match self.owner {
             None => Answer::NoPin,
@@ -108,8 +110,8 @@ impl Board {
     // Where the pin is this one's.
     fn unpin_of(&mut self, owner: u64, who: u64, pin: u32) -> Answer<MemFile>
         requires { self.old.owner ≡ Some owner }
-        ensures { StepsTo who (Act.Unpin pin) self.old
-            (reply_of ⟦<MemFile as ReadAt>⟧.tells ⟦<MemFile as ReadAt>⟧.bytes ⟦<MemFile as ReadAt>⟧.faults result) self.new }
+        ensures { StepsTo who (Act.Unpin pin) self.old (reply_of
+            ⟦<MemFile as ReadAt>⟧.tells ⟦<MemFile as ReadAt>⟧.bytes ⟦<MemFile as ReadAt>⟧.faults result) self.new }
     {
         if pin != 0 {
             return Answer::NoPin;
@@ -125,8 +127,8 @@ impl Board {
 impl Board {
     // Counts a door off.
     fn door_done(&mut self) -> Answer<MemFile>
-        ensures { (who : ℕ) → StepsTo who Act.DoorDone self.old
-            (reply_of ⟦<MemFile as ReadAt>⟧.tells ⟦<MemFile as ReadAt>⟧.bytes ⟦<MemFile as ReadAt>⟧.faults result) self.new }
+        ensures { (who : ℕ) → StepsTo who Act.DoorDone self.old (reply_of
+            ⟦<MemFile as ReadAt>⟧.tells ⟦<MemFile as ReadAt>⟧.bytes ⟦<MemFile as ReadAt>⟧.faults result) self.new }
     {
         self.doors = self.doors.saturating_sub(1);
         Answer::DoorsLeft { doors: self.doors }
@@ -134,8 +136,8 @@ impl Board {
 
     // Ticks a row, of which it has one that isn't sampled at a period.
     fn tick(&self, row: u32) -> Answer<MemFile>
-        ensures { (who now : ℕ) → StepsTo who (Act.Tick row now) self.now
-            (reply_of ⟦<MemFile as ReadAt>⟧.tells ⟦<MemFile as ReadAt>⟧.bytes ⟦<MemFile as ReadAt>⟧.faults result) self.now }
+        ensures { (who now : ℕ) → StepsTo who (Act.Tick row now) self.now (reply_of
+            ⟦<MemFile as ReadAt>⟧.tells ⟦<MemFile as ReadAt>⟧.bytes ⟦<MemFile as ReadAt>⟧.faults result) self.now }
     {
         if row != 0 {
             return Answer::NoRow;

@@ -24,13 +24,11 @@ fn act_seated(
     pass: &mut Pass<Shared<Board>>,
     act: Act,
 ) -> Result<Answer<MemFile>, Spent>
-    requires stands { (m : Machine)
-        × StandsFor (SharedStep BoardStands BoardLeaves ⟦<MemFile as ReadAt>⟧.tells ⟦<MemFile as ReadAt>⟧.bytes ⟦<MemFile as ReadAt>⟧.faults)
-        (SharedStands BoardStands) rooms.now pass.old m }
+    requires stands { (m : Machine) × StandsFor (SharedStep BoardStands BoardLeaves ⟦<MemFile as ReadAt>⟧.tells
+        ⟦<MemFile as ReadAt>⟧.bytes ⟦<MemFile as ReadAt>⟧.faults) (SharedStands BoardStands) rooms.now pass.old m }
     requires may_ask { MayAsk act }
-    ensures stands { (m : Machine)
-        × StandsFor (SharedStep BoardStands BoardLeaves ⟦<MemFile as ReadAt>⟧.tells ⟦<MemFile as ReadAt>⟧.bytes ⟦<MemFile as ReadAt>⟧.faults)
-        (SharedStands BoardStands) rooms.now pass.new m }
+    ensures stands { (m : Machine) × StandsFor (SharedStep BoardStands BoardLeaves ⟦<MemFile as ReadAt>⟧.tells
+        ⟦<MemFile as ReadAt>⟧.bytes ⟦<MemFile as ReadAt>⟧.faults) (SharedStands BoardStands) rooms.now pass.new m }
 {
     match Seated::new(rt, rooms, pass).act(act) {
         Ok(answer) => Ok(answer),
@@ -49,11 +47,11 @@ fn shared_board(
         Pass<Shared<Board>>,
     ),
 >
-    ensures { IfSome result (λ all. ((m : Machine) × StandsFor
-        (SharedStep BoardStands BoardLeaves ⟦<MemFile as ReadAt>⟧.tells ⟦<MemFile as ReadAt>⟧.bytes ⟦<MemFile as ReadAt>⟧.faults)
+    ensures { IfSome result (λ all. ((m : Machine) × StandsFor (SharedStep BoardStands
+        BoardLeaves ⟦<MemFile as ReadAt>⟧.tells ⟦<MemFile as ReadAt>⟧.bytes ⟦<MemFile as ReadAt>⟧.faults)
         (SharedStands BoardStands) all.0 all.1 m)
-        × ((m : Machine) × StandsFor (SharedStep BoardStands BoardLeaves ⟦<MemFile as ReadAt>⟧.tells ⟦<MemFile as ReadAt>⟧.bytes ⟦<MemFile as ReadAt>⟧.faults)
-        (SharedStands BoardStands) all.0 all.2 m)) }
+        × ((m : Machine) × StandsFor (SharedStep BoardStands BoardLeaves ⟦<MemFile as ReadAt>⟧.tells
+        ⟦<MemFile as ReadAt>⟧.bytes ⟦<MemFile as ReadAt>⟧.faults) (SharedStands BoardStands) all.0 all.2 m)) }
 {
     let Ok(board) = Board::new(alloc, 0) else {
         return None;

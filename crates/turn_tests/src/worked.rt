@@ -24,15 +24,13 @@ fn turn_once(
     pass: &mut Pass<Shared<Board>>,
     act: Act,
 ) -> Option<Answer<MemFile>>
-    requires stands { (m : Machine)
-        × StandsFor (SharedStep BoardStands BoardLeaves ⟦<MemFile as ReadAt>⟧.tells ⟦<MemFile as ReadAt>⟧.bytes ⟦<MemFile as ReadAt>⟧.faults)
-        (SharedStands BoardStands) rooms.now pass.old m }
+    requires stands { (m : Machine) × StandsFor (SharedStep BoardStands BoardLeaves ⟦<MemFile as ReadAt>⟧.tells
+        ⟦<MemFile as ReadAt>⟧.bytes ⟦<MemFile as ReadAt>⟧.faults) (SharedStands BoardStands) rooms.now pass.old m }
     requires may_ask { MayAsk act }
-    ensures stands { (m : Machine)
-        × StandsFor (SharedStep BoardStands BoardLeaves ⟦<MemFile as ReadAt>⟧.tells ⟦<MemFile as ReadAt>⟧.bytes ⟦<MemFile as ReadAt>⟧.faults)
-        (SharedStands BoardStands) rooms.now pass.new m }
-    ensures goes { Goes
-        (SharedStep BoardStands BoardLeaves ⟦<MemFile as ReadAt>⟧.tells ⟦<MemFile as ReadAt>⟧.bytes ⟦<MemFile as ReadAt>⟧.faults) rooms.now pass.old pass.new }
+    ensures stands { (m : Machine) × StandsFor (SharedStep BoardStands BoardLeaves ⟦<MemFile as ReadAt>⟧.tells
+        ⟦<MemFile as ReadAt>⟧.bytes ⟦<MemFile as ReadAt>⟧.faults) (SharedStands BoardStands) rooms.now pass.new m }
+    ensures goes { Goes (SharedStep BoardStands BoardLeaves ⟦<MemFile as ReadAt>⟧.tells ⟦<MemFile as ReadAt>⟧.bytes
+        ⟦<MemFile as ReadAt>⟧.faults) rooms.now pass.old pass.new }
     ensures adds { IfSome result (λ answer. AddsOne pass.old pass.new act answer) }
 {
     match rooms.turn(rt, pass, act) {
@@ -49,14 +47,13 @@ fn two_acts(
     one: Act,
     two: Act,
 ) -> Option<(Pass<Shared<Board>>, Answer<MemFile>, Answer<MemFile>)>
-    requires first { IsFirst
-        (SharedStep BoardStands BoardLeaves ⟦<MemFile as ReadAt>⟧.tells ⟦<MemFile as ReadAt>⟧.bytes ⟦<MemFile as ReadAt>⟧.faults) rooms.now pass }
-    requires stands { (m : Machine)
-        × StandsFor (SharedStep BoardStands BoardLeaves ⟦<MemFile as ReadAt>⟧.tells ⟦<MemFile as ReadAt>⟧.bytes ⟦<MemFile as ReadAt>⟧.faults)
-        (SharedStands BoardStands) rooms.now pass m }
+    requires first { IsFirst (SharedStep BoardStands BoardLeaves ⟦<MemFile as ReadAt>⟧.tells ⟦<MemFile as ReadAt>⟧.bytes
+        ⟦<MemFile as ReadAt>⟧.faults) rooms.now pass }
+    requires stands { (m : Machine) × StandsFor (SharedStep BoardStands BoardLeaves ⟦<MemFile as ReadAt>⟧.tells
+        ⟦<MemFile as ReadAt>⟧.bytes ⟦<MemFile as ReadAt>⟧.faults) (SharedStands BoardStands) rooms.now pass m }
     requires may_ask { MayAsk one × MayAsk two }
-    ensures stands { IfSome result (λ all. (m : Machine)
-        × StandsFor (SharedStep BoardStands BoardLeaves ⟦<MemFile as ReadAt>⟧.tells ⟦<MemFile as ReadAt>⟧.bytes ⟦<MemFile as ReadAt>⟧.faults)
+    ensures stands { IfSome result (λ all. (m : Machine) × StandsFor (SharedStep BoardStands
+        BoardLeaves ⟦<MemFile as ReadAt>⟧.tells ⟦<MemFile as ReadAt>⟧.bytes ⟦<MemFile as ReadAt>⟧.faults)
         (SharedStands BoardStands) rooms.now all.0 m) }
     ensures last { IfSome result (λ all. IsLast all.0) }
     ensures knows { IfSome result (λ all. KnowsTwo all.0 one all.1 two all.2) }
@@ -74,8 +71,8 @@ fn two_acts(
     Some((pass, first, second))
 }
 
-// Whether the first was told of its doors and the other of its pin; whose the pin is, by what the first is told, and by the board that it
-// gives back.
+// Whether the first was told of its doors and the other of its pin; whose the pin is, by what the first is told, and by
+// the board that it gives back.
 fn worked(rt: &impl Wait, alloc: Global) -> Option<(bool, bool, Option<u64>, Option<u64>)> {
     let Ok(board) = Board::new(alloc, 0) else {
         return None;

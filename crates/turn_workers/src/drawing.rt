@@ -25,7 +25,8 @@ fn draw_one<R: Room, C: Clock, E: Copy>(
     requires { IsPassOf R.steps rooms.now pass.old }
     ensures parts { IfOk result (λ worker. Parts R.steps rooms.now pass.old pass.new worker.pass) }
     ensures worker { IfOk result (λ worker. (worker.place ≡ place) × (worker.end ≡ end)) }
-    ensures spent { OnErr result (Stays R.steps rooms.now pass.old pass.new × (drained pass.new ≡ drained pass.old + 1)) }
+    ensures spent { OnErr result
+        (Stays R.steps rooms.now pass.old pass.new × (drained pass.new ≡ drained pass.old + 1)) }
     ensures numbers { OnErr result (IsLast pass.old → most_numbers ≤ length (stands pass.old)) }
     ensures clock { Gives (C.coming clock.old) (C.coming clock.new) [] }
 {
@@ -40,11 +41,12 @@ fn draw_one<R: Room, C: Clock, E: Copy>(
     }
 }
 
-/// Draws so many workers of a pass beside which no other is left. Each has a second clock, its place from 0 on, and `end` for an end.
+/// Draws so many workers of a pass beside which no other is left. Each has a second clock, its place from 0
+/// on, and `end` for an end.
 ///
-/// At `Err` the pass is again one beside which no other is left, and knows what it knew. `Spent` comes only where the numbers that the pass
-/// stands for and those of the workers would be more than there are, 2^64 - 1, and `Memory` before any was drawn. No moment is read of the
-/// clock.
+/// At `Err` the pass is again one beside which no other is left, and knows what it knew. `Spent` comes only where the
+/// numbers that the pass stands for and those of the workers would be more than there are, 2^64 - 1, and `Memory`
+/// before any was drawn. No moment is read of the clock.
 pub fn draw_workers<R: Room, C: Clock + Drop, E: Copy + Drop>(
     rt: &impl Wait,
     alloc: Global,
@@ -56,9 +58,11 @@ pub fn draw_workers<R: Room, C: Clock + Drop, E: Copy + Drop>(
 ) -> Result<Vec<Worker<R, C, E>>, NotDrawn>
     requires rooms { IsPassOf R.steps rooms.now pass.old }
     requires last { IsLast pass.old }
-    ensures drawn { IfOk result (λ workers. Drawn R.steps rooms.now pass.old pass.new (map (λ w. w.pass) workers.items)) }
+    ensures drawn { IfOk result (λ workers.
+        Drawn R.steps rooms.now pass.old pass.new (map (λ w. w.pass) workers.items)) }
     ensures places { IfOk result (λ workers. map (λ w. w.place) workers.items ≡ range_with_len 0 count) }
-    ensures back { IsErr result → IsPassOf R.steps rooms.now pass.new × IsBack pass.old pass.new × (known pass.new ≡ known pass.old) }
+    ensures back { IsErr result
+        → IsPassOf R.steps rooms.now pass.new × IsBack pass.old pass.new × (known pass.new ≡ known pass.old) }
     ensures spent { IsErrOf result NotDrawn.Spent → drained pass.old < drained pass.new }
     ensures numbers { IsErrOf result NotDrawn.Spent → most_numbers < length (stands pass.old) + count }
     ensures memory { IsErrOf result NotDrawn.Memory → pass.new ≡ pass.old }

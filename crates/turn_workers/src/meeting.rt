@@ -5,8 +5,8 @@ ghost use Rattle.turn_workers.specs.Left.{LeftWith, Met};
 use crate::worker::Worker;
 use turn_rooms::{Pass, Room, Rooms};
 
-/// Ends the passes of workers in this one, beside which no other is left. It knows all acts of theirs then, and no acts but these and those
-/// that it knew; where there are none, it stays as it is. It takes no memory, and doesn't wait.
+/// Ends the passes of workers in this one, beside which no other is left. It knows all acts of theirs then, and no acts
+/// but these and those that it knew; where there are none, it stays as it is. It takes no memory, and doesn't wait.
 pub fn meet_workers<R: Room, C: Drop, E: Drop>(
     rooms: &Rooms<R>,
     pass: &mut Pass<R>,

@@ -1,9 +1,11 @@
 //! Two small halves over a twin: an intake that counts offers, and a store that keeps how many were flushed.
 //!
-//! A flush looks at the intake, tells the store what it saw, and has the intake let go of what the store has. Nobody holds both.
+//! A flush looks at the intake, tells the store what it saw, and has the intake let go of what the
+//! store has. Nobody holds both.
 ghost use Rattle.std.specs.Prelude.{◌≡◌, ◌≤◌, ℕ};
 ghost use Rattle.turn_rooms.specs.TwinPasses.{pass_standing};
-ghost use Rattle.twin_tests.specs.Halves.{tally_steps, tally_fits, vault_steps, flush_allowed, take_allowed, begins, IsPass};
+ghost use Rattle.twin_tests.specs.Halves.{tally_steps, tally_fits, vault_steps, flush_allowed, take_allowed, begins};
+ghost use Rattle.twin_tests.specs.Halves.{IsPass};
 ghost use Rattle.twin_tests.specs.Taking.{take_fits};
 
 use std::alloc::Global;

@@ -69,8 +69,8 @@ impl ReadAt for ListReader {
     ghost leaves_then = { λ a b c first second. tt };
 }
 
-/// Pieces in memory, opened one by one. Of each so many bytes may be read; the piece whose name has the store `failing` fails when it is
-/// read.
+/// Pieces in memory, opened one by one. Of each so many bytes may be read; the piece whose name has the store
+/// `failing` fails when it is read.
 #[derive(Drop)]
 struct ListPieces {
     alloc: Global,

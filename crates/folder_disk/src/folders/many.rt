@@ -200,7 +200,8 @@ impl<R: Files<File = File> + Drop> Folders<R> {
             .open(&self.files, path)
     }
 
-    // Syncs what is open, each share in a thread. Until all have answered a sync counts as failed, so that no answer is lost.
+    // Syncs what is open, each share in a thread. Until all have answered a sync counts as failed,
+    // so that no answer is lost.
     fn sync_shares<H: Threads>(&mut self, rt: &H, shares: Vec<Vec<Job>>) -> io::Result<()> {
         let mut running = Vec::with_capacity(self.alloc, shares.len())?;
         let mut ended = Vec::with_capacity(self.alloc, shares.len())?;

@@ -1,8 +1,9 @@
 // What is done before the first call: locks are taken, and the folders' marks are looked at. And their marking.
 //
-// An archive's site has an identity, which the marks of its three stores have too. Marking goes by these steps, each of which is on the
-// disk before the next: the site's mark, then those of the stores, then the line in the site's that all are there. So without that
-// line marking goes on where it was broken off, and with it a store's folder without its mark isn't the archive's.
+// An archive's site has an identity, which the marks of its three stores have too. Marking goes by these steps, each of
+// which is on the disk before the next: the site's mark, then those of the stores, then the line in the site's that all
+// are there. So without that line marking goes on where it was broken off, and with it a store's folder without its
+// mark isn't the archive's.
 use super::{ADOPTION, Access, Folders, LOCK, Turn, is_closed, read_from};
 use crate::marks::{DONE, MARK, Mark, ROOM, identity_of, line_of, mark_of, word_of};
 use std::fs::{self, File, OpenOptions, TryLockError};
@@ -20,7 +21,8 @@ const BEGUN: u64 = 8;
 const NONE_TOLD: u64 = 1;
 
 impl<R: Files<File = File> + Drop> Folders<R> {
-    // Before the first call: takes the locks, and looks whether the stores have folders of their own that are the archive's.
+    // Before the first call: takes the locks, and looks whether the stores have folders of their
+    // own that are the archive's.
     pub(super) fn begin(&mut self) -> io::Result<()> {
         if matches!(self.turn, Turn::Waits) {
             self.turn = self.take_turn()?;
@@ -28,9 +30,9 @@ impl<R: Files<File = File> + Drop> Folders<R> {
         Ok(())
     }
 
-    // Before a change of a name's file: no file of a store is changed before the folders have their marks. By then whoever changes it has
-    // found in the stores what the site lists. Whoever adopts stores changes none of their files: it marks them before it changes one of
-    // the site's.
+    // Before a change of a name's file: no file of a store is changed before the folders have their marks. By then
+    // whoever changes it has found in the stores what the site lists. Whoever adopts stores changes none of their
+    // files: it marks them before it changes one of the site's.
     pub(super) fn begin_change(&mut self, store: u8) -> io::Result<()> {
         self.begin()?;
         let needs_marks = match self.access {
@@ -137,7 +139,8 @@ impl<R: Files<File = File> + Drop> Folders<R> {
         }
     }
 
-    // The file that is locked, which is made where there is none and it may be. One that only reads goes without where it may make none.
+    // The file that is locked, which is made where there is none and it may be. One that only reads goes
+    // without where it may make none.
     fn open_lock(&self, path: &str, may_make: bool) -> io::Result<Option<File>> {
         let is_there = self.size_of(path)?.is_some();
         if !is_there && !may_make {
@@ -225,7 +228,8 @@ impl<R: Files<File = File> + Drop> Folders<R> {
         }
     }
 
-    // Whether the site may have listed a file of the store: its manifest has more than its configuration, or has begun anew.
+    // Whether the site may have listed a file of the store: its manifest has more than its
+    // configuration, or has begun anew.
     fn may_have_listed(&mut self, store: u8) -> io::Result<bool> {
         let manifest = format!(in self.alloc; "{}/manifest{store}", self.root(0)?)?;
         let generations = format!(in self.alloc; "{manifest}.at")?;
@@ -242,7 +246,8 @@ impl<R: Files<File = File> + Drop> Folders<R> {
         Ok(size.is_some_and(|size| bytes < size))
     }
 
-    // Whether a store's folder has a file beside its mark, there or in a folder below. One that may not be listed isn't looked into.
+    // Whether a store's folder has a file beside its mark, there or in a folder below. One that may not be
+    // listed isn't looked into.
     fn has_files(&mut self, store: u8) -> io::Result<bool> {
         let mark = self.mark_path(store)?;
         let mut waiting = Vec::new(self.alloc);
