@@ -7,7 +7,7 @@ use Rattle.series_model.specs.declared.sample.Sample.{Sample}
 use Rattle.series_model.specs.Series.{end_of, IsRising, RisesFrom, over}
 use Rattle.series_model.proofs.RisingLists.{RisesFrom-append, RisesFrom-lower}
 use Rattle.series_model.proofs.OverLemmas.{over_rising, end_of-over}
-use Rattle.event_types.specs.declared.about.State.TheVariants.{Paused, Retired}
+use Rattle.pb_messages.specs.declared.about.State.TheVariants.{Paused, Retired}
 use Rattle.act_model.specs.Rows.{RowState, accepted, durable}
 use Rattle.act_model.specs.Whole.{past, whole, FollowsBase, AllFollow}
 use Rattle.act_model.specs.Sound.{RowSound, IsOver, BasesSound}

@@ -7,8 +7,8 @@ use Rattle.series_model.specs.declared.sample.Sample.{Sample}
 use Rattle.series_model.specs.Series.{end_from, end_of, RisesFrom, since, before, over}
 use Rattle.series_model.proofs.RisingLists.{end_from-append, end_from-ge, RisesFrom-front, RisesFrom-rest, RisesFrom-lower}
 use Rattle.series_model.proofs.OverLemmas.{end_of-over}
-use Rattle.event_types.specs.declared.about.State.{State}
-use Rattle.event_types.specs.declared.about.State.TheVariants.{Retired}
+use Rattle.pb_messages.specs.declared.about.State.{State}
+use Rattle.pb_messages.specs.declared.about.State.TheVariants.{Retired}
 use Rattle.act_model.specs.Rows.{RowState, Store, Short, Medium, Long, next_store, durable, deep, tier, accepted}
 use Rattle.act_model.specs.Limbo.{FileState, put, files_of, Covered, IsOfPart}
 use Rattle.act_model.specs.Machine.{Change, AddsRow, SetsState, Renames, Appends, Publishes, Unlists}

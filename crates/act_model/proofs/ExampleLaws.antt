@@ -5,15 +5,15 @@ use Rattle.std.specs.List.{AllByRecursion}
 use Rattle.std.proofs.lemmas.Bool.Decides.{nat_tests}
 use Rattle.std.specs.Ordering.{nat_cmp}
 use Rattle.std.specs.FinMap.{FinMap, get, insert, remove, empty, get-empty, gets}
-use Rattle.event_types.specs.declared.about.Method.TheVariants.{Monitor, Scan}
+use Rattle.pb_messages.specs.declared.about.Method.TheVariants.{Monitor, Scan}
 use Rattle.pb_wire.specs.declared.payload.PayloadType.TheVariants.{ScalarInt}
 use Rattle.act_model.specs.declared.acts.Answer.TheVariants.{KeyTaken, NotRunning, NotPaused, Done, RenameNotPaused, NotDurable, Renamed, IntakeFull, Flushed, Pinned, NotYours, NoPin, NoPiece, Unpinned}
 use Rattle.act_model.specs.Reply.{Reply}
 use Rattle.act_model.specs.Limbo.{FileState}
 use Rattle.act_model.specs.Rows.{RowState, Store, Short, Medium, Long, fresh_row, tier, window, is_empty}
 use Rattle.act_model.specs.Rule.{Rule}
-use Rattle.event_types.specs.declared.about.State.{State}
-use Rattle.event_types.specs.declared.about.State.TheVariants.{Running, Paused}
+use Rattle.pb_messages.specs.declared.about.State.{State}
+use Rattle.pb_messages.specs.declared.about.State.TheVariants.{Running, Paused}
 use Rattle.act_model.specs.Machine.{Machine, MoveState, PinState, Change, Appends, SetsState, Renames, held_bytes}
 use Rattle.act_model.specs.Changes.{made, Settles, no_doubt, as_not_made, as_made}
 use Rattle.act_model.specs.Outcome.{Outcome, Ends, Acts, refused_at_once, refused, runs, faults_first, faults_between, faults_within, faults_removing, wants_memory, wants_memory_settled}

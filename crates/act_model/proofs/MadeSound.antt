@@ -14,8 +14,8 @@ use Rattle.act_model.specs.Rows.{RowState, Store, Short, Medium, Long, same_stor
 use Rattle.act_model.specs.Rule.{Rule, IsPartition}
 use Rattle.act_model.specs.Limbo.{FileState, put, files_of, Covered, IsOfPart, Fits, unlisted, tier_at}
 use Rattle.pv_name.specs.Key.{key_of}
-use Rattle.event_types.specs.declared.about.State.{State}
-use Rattle.event_types.specs.declared.about.State.TheVariants.{Retired}
+use Rattle.pb_messages.specs.declared.about.State.{State}
+use Rattle.pb_messages.specs.declared.about.State.TheVariants.{Retired}
 use Rattle.act_model.specs.Whole.{AllFollow}
 use Rattle.act_model.specs.Machine.{Machine, MoveState, Change, AddsRow, SetsState, Renames, Appends, Publishes, Unlists, held_bytes}
 use Rattle.act_model.specs.Changes.{each, changed, changed_rows, added, at, flushed, of_row, Retires, IsRetired, without_held, published, retired}

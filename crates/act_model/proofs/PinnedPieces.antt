@@ -8,8 +8,8 @@ use Rattle.series_model.specs.declared.sample.Sample.{Sample}
 use Rattle.series_model.specs.Archive.{IsPrefix}
 use Rattle.series_model.specs.Series.{since}
 use Rattle.partition_names.specs.declared.part.Part.{Part}
-use Rattle.event_types.specs.declared.about.State.{State}
-use Rattle.event_types.specs.declared.about.State.TheVariants.{Retired}
+use Rattle.pb_messages.specs.declared.about.State.{State}
+use Rattle.pb_messages.specs.declared.about.State.TheVariants.{Retired}
 use Rattle.act_model.specs.Rows.{RowState, Store, Short, Medium, Long, same_store, next_store, tier, window, holds, is_empty}
 use Rattle.act_model.specs.Rule.{IsPartition}
 use Rattle.act_model.specs.Limbo.{FileState, files_of, put, tier_at, unlisted, IsThere, Extend}

@@ -11,13 +11,13 @@ use Rattle.series_model.specs.declared.admission.Reason.TheVariants.{Unknown}
 use Rattle.series_model.specs.Admission.{admit_before, admit_after}
 use Rattle.series_model.specs.Series.{end_from, end_of}
 use Rattle.series_model.proofs.RisingLists.{end_from-append, RisesFrom-append}
-use Rattle.event_types.specs.declared.about.About.{About}
-use Rattle.event_types.specs.declared.about.State.{State}
-use Rattle.event_types.specs.declared.about.State.TheVariants.{Running, Paused, Retired}
+use Rattle.pb_messages.specs.declared.about.About.{About}
+use Rattle.pb_messages.specs.declared.about.State.{State}
+use Rattle.pb_messages.specs.declared.about.State.TheVariants.{Running, Paused, Retired}
 use Rattle.pb_wire.specs.declared.payload.PayloadType.{PayloadType}
 use Rattle.pb_wire.specs.declared.payload.PayloadType.TheVariants.{ScalarString, ScalarShort, ScalarFloat, ScalarEnum, ScalarByte, ScalarInt, ScalarDouble, WaveformString, WaveformShort, WaveformFloat, WaveformEnum, WaveformByte, WaveformInt, WaveformDouble}
-use Rattle.event_types.specs.declared.about.Method.{Method}
-use Rattle.event_types.specs.declared.about.Method.TheVariants.{Monitor, Scan}
+use Rattle.pb_messages.specs.declared.about.Method.{Method}
+use Rattle.pb_messages.specs.declared.about.Method.TheVariants.{Monitor, Scan}
 use Rattle.act_model.specs.declared.acts.Answer.TheVariants.{Dropped, IntakeFull, CatalogueFull, Kept, Held, TickKept, TickNone, NotDue, NoRow}
 use Rattle.act_model.specs.Reply.{Reply}
 use Rattle.act_model.specs.Rows.{RowState, accepted, durable, size_of, is_empty, standing, number_of, period_of, is_running, is_paused}

@@ -4,7 +4,7 @@ use Rattle.std.specs.Ordering.{nat_cmp}
 use Rattle.std.specs.FinMap.{FinMap, get}
 use Rattle.act_model.specs.declared.acts.Act.{Act}
 use Rattle.act_model.specs.declared.acts.Act.TheVariants.{Register, Pause, Resume, Rename, Offer, Tick, Flush, MoveBegin, MoveStep, Sweep, Pin, OpenPiece, Unpin, Names, Details, Doors, DoorDone}
-use Rattle.event_types.specs.declared.about.State.TheVariants.{Running, Paused}
+use Rattle.pb_messages.specs.declared.about.State.TheVariants.{Running, Paused}
 use Rattle.act_model.specs.Reply.{Reply}
 use Rattle.act_model.specs.Machine.{Machine, MoveState, Change}
 use Rattle.act_model.specs.Outcome.{all_go}

@@ -6,7 +6,7 @@ use Rattle.std.proofs.lemmas.Option.{slice_get_within}
 use Rattle.series_model.specs.declared.sample.Sample.{Sample}
 use Rattle.series_model.specs.Series.{IsRising, end_from, end_of, since, over}
 use Rattle.series_model.proofs.RisingLists.{end_from-append, end_from-ge, RisesFrom-append, since-append, since_all}
-use Rattle.event_types.specs.declared.about.State.TheVariants.{Paused}
+use Rattle.pb_messages.specs.declared.about.State.TheVariants.{Paused}
 use Rattle.act_model.specs.Rows.{RowState, Store, Short, Medium, Long, next_store, deep, tier, durable, accepted, is_running, size_of, window, is_empty}
 use Rattle.act_model.specs.Limbo.{FileState, tier_at}
 use Rattle.pv_name.specs.Key.{key_of}

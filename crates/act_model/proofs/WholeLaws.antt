@@ -9,7 +9,7 @@ use Rattle.series_model.specs.Archive.{Extends, IsPrefix}
 use Rattle.series_model.specs.Series.{since, end_of, over, IsRising, RisesFrom}
 use Rattle.series_model.proofs.RisingLists.{RisesFrom-front, RisesFrom-rest, since-append}
 use Rattle.series_model.proofs.OverLemmas.{over_rising}
-use Rattle.event_types.specs.declared.about.State.TheVariants.{Retired}
+use Rattle.pb_messages.specs.declared.about.State.TheVariants.{Retired}
 use Rattle.act_model.specs.declared.acts.Act.{Act}
 use Rattle.act_model.specs.Rows.{RowState, durable, accepted}
 use Rattle.act_model.specs.Whole.{past, whole, AllFollow}

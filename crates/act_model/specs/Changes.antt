@@ -4,8 +4,8 @@
 use Rattle.std.specs.FinMap.{get}
 use Rattle.std.specs.List.{AllByRecursion}
 use Rattle.std.specs.Prelude.{◌≡◌, ◌≢◌, ℕ, ◌+◌, ◌≤◌, ◌<◌, ◌==◌, List, [], ◌∷◌, ◌++◌, length, Bool, true, false, if◌then◌else◌, nat_eq, Option, Some, None, slice_get}
-use Rattle.event_types.specs.declared.about.State.{State}
-use Rattle.event_types.specs.declared.about.State.TheVariants.{Retired}
+use Rattle.pb_messages.specs.declared.about.State.{State}
+use Rattle.pb_messages.specs.declared.about.State.TheVariants.{Retired}
 use Rattle.series_model.specs.Sampling.{first_cell}
 use Rattle.series_model.specs.Series.{since, end_of}
 use Rattle.series_model.specs.declared.batch.RowSamples.{RowSamples}

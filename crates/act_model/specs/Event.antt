@@ -5,7 +5,7 @@ use Rattle.std.specs.List.{AllByRecursion}
 use Rattle.series_model.specs.declared.sample.Sample.{Sample}
 use Rattle.line_escape.specs.Unescaping.{Means, HasNoNewline}
 use Rattle.pb_wire.specs.declared.payload.PayloadType.{PayloadType}
-use Rattle.event_types.specs.Event.{stamp_of}
+use Rattle.pb_messages.specs.Event.{stamp_of}
 use Rattle.arch_time.specs.YearTime.{moment, IsInYear, IsSampleYear}
 
 -- The line is whole, and means an event of the type whose stamp is the moment, in some year.

@@ -4,7 +4,7 @@
 -- (`RowsLast`): each is there, for the same variable and over the same base, with no less that is durable.
 use Rattle.std.specs.Prelude.{◌≡◌, ℕ, List, true, Some, slice_get}
 use Rattle.series_model.specs.Archive.{IsPrefix}
-use Rattle.event_types.specs.declared.about.State.TheVariants.{Retired}
+use Rattle.pb_messages.specs.declared.about.State.TheVariants.{Retired}
 use Rattle.act_model.specs.Rows.{RowState, durable, accepted}
 use Rattle.act_model.specs.Machine.{Machine}
 use Rattle.act_model.specs.Whole.{AllFollow}

@@ -6,7 +6,7 @@ use Rattle.series_model.specs.declared.sample.Query.{Query}
 use Rattle.series_model.specs.declared.sample.Sample.{Sample}
 use Rattle.series_model.specs.Archive.{Extends, IsPrefix}
 use Rattle.series_model.specs.Series.{IsRising, RisesFrom, end_of, over}
-use Rattle.event_types.specs.declared.about.About.{About}
+use Rattle.pb_messages.specs.declared.about.About.{About}
 use Rattle.disk_model.specs.Files.{Name}
 use Rattle.act_model.specs.declared.acts.Act.{Act}
 use Rattle.act_model.specs.declared.acts.Act.TheVariants.{Flush, MoveBegin, MoveStep, Details, Pin, OpenPiece}

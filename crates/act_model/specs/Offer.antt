@@ -1,8 +1,8 @@
 -- Offer: a sample comes for a variable. Where no reason to drop it applies and the intake has room, a monitored row's tail gains it; a
 -- sampled row holds it until a tick. No file is touched.
 use Rattle.std.specs.Prelude.{ℕ, ◌+◌, List, [], ◌∷◌, ◌++◌, length, if◌then◌else◌, nat_lt, Option, Some, None, slice_get}
-use Rattle.event_types.specs.declared.about.Method.{Method}
-use Rattle.event_types.specs.declared.about.Method.TheVariants.{Monitor, Scan}
+use Rattle.pb_messages.specs.declared.about.Method.{Method}
+use Rattle.pb_messages.specs.declared.about.Method.TheVariants.{Monitor, Scan}
 use Rattle.pb_wire.specs.declared.payload.PayloadType.{PayloadType}
 use Rattle.series_model.specs.Admission.{admit_before, admit_after}
 use Rattle.series_model.specs.Sampling.{cell_after}

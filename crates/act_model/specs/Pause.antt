@@ -1,8 +1,8 @@
 -- Pause: a running variable's samples are dropped from now on, until it is resumed. Pausing and resuming both set a row's state, and
 -- clear what a sampled row holds.
 use Rattle.std.specs.Prelude.{◌≡◌, ℕ, List, if◌then◌else◌, Option, Some, None, slice_get}
-use Rattle.event_types.specs.declared.about.State.{State}
-use Rattle.event_types.specs.declared.about.State.TheVariants.{Paused}
+use Rattle.pb_messages.specs.declared.about.State.{State}
+use Rattle.pb_messages.specs.declared.about.State.TheVariants.{Paused}
 use Rattle.act_model.specs.Machine.{Machine, Change, SetsState, find_row}
 use Rattle.act_model.specs.Outcome.{Acts, all_go, Makes}
 use Rattle.act_model.specs.Reply.{Reply}

@@ -7,7 +7,7 @@ use Rattle.series_model.specs.declared.sample.Query.{Query}
 use Rattle.series_model.specs.declared.sample.Sample.{Sample}
 use Rattle.series_model.specs.Series.{over}
 use Rattle.series_model.specs.Retrieval.{answer}
-use Rattle.event_types.specs.declared.about.About.{About}
+use Rattle.pb_messages.specs.declared.about.About.{About}
 use Rattle.disk_model.specs.Files.{Name}
 use Rattle.act_model.specs.Rows.{RowState, accepted}
 use Rattle.act_model.specs.declared.acts.Act.TheVariants.{Unpin}

@@ -1,7 +1,7 @@
 -- Register: a variable gets a row. It is refused where a row has the name, where a row has the name's key, and where there are 65,536
 -- rows, in this order. The new row is running and has no samples.
 use Rattle.std.specs.Prelude.{◌≡◌, ℕ, List, length, if◌then◌else◌, nat_le, Option, Some, None}
-use Rattle.event_types.specs.declared.about.About.{About}
+use Rattle.pb_messages.specs.declared.about.About.{About}
 use Rattle.act_model.specs.Machine.{Machine, AddsRow, find_row, with_key}
 use Rattle.act_model.specs.Outcome.{Acts, all_go, Makes}
 use Rattle.act_model.specs.Reply.{Reply}

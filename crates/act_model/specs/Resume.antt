@@ -1,7 +1,7 @@
 -- Resume: a paused variable's samples are taken again.
 use Rattle.std.specs.Prelude.{ℕ, List, if◌then◌else◌, Option, Some, None}
-use Rattle.event_types.specs.declared.about.State.{State}
-use Rattle.event_types.specs.declared.about.State.TheVariants.{Running}
+use Rattle.pb_messages.specs.declared.about.State.{State}
+use Rattle.pb_messages.specs.declared.about.State.TheVariants.{Running}
 use Rattle.act_model.specs.Machine.{Machine}
 use Rattle.act_model.specs.Pause.{StateStep}
 use Rattle.act_model.specs.Reply.{Reply}

@@ -6,14 +6,14 @@ use Rattle.series_model.specs.declared.sample.Sample.{Sample}
 use Rattle.series_model.specs.declared.admission.Standing.{Standing}
 use Rattle.series_model.specs.Sampling.{Cell, first_cell}
 use Rattle.series_model.specs.Series.{over, since, before}
-use Rattle.event_types.specs.declared.about.About.{About}
+use Rattle.pb_messages.specs.declared.about.About.{About}
 use Rattle.partition_names.specs.declared.part.Part.{Part}
 use Rattle.pb_wire.specs.declared.payload.PayloadType.{PayloadType}
 use Rattle.pb_wire.specs.Payload.{row_of}
-use Rattle.event_types.specs.declared.about.Method.{Method}
-use Rattle.event_types.specs.declared.about.Method.TheVariants.{Monitor, Scan}
-use Rattle.event_types.specs.declared.about.State.{State}
-use Rattle.event_types.specs.declared.about.State.TheVariants.{Running, Paused, Retired}
+use Rattle.pb_messages.specs.declared.about.Method.{Method}
+use Rattle.pb_messages.specs.declared.about.Method.TheVariants.{Monitor, Scan}
+use Rattle.pb_messages.specs.declared.about.State.{State}
+use Rattle.pb_messages.specs.declared.about.State.TheVariants.{Running, Paused, Retired}
 
 -- A row has its name, what is known of the variable, and its state; `base`, the row that the variable had under the name before, if it was
 -- renamed; `next`, the first moment later than all that was accepted of the variable under each of its names; `tail`, the accepted samples

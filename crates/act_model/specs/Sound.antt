@@ -9,7 +9,7 @@ use Rattle.std.specs.FinMap.{FinMap, get}
 use Rattle.series_model.specs.declared.sample.Sample.{Sample}
 use Rattle.series_model.specs.Archive.{IsPrefix}
 use Rattle.series_model.specs.Series.{since, before, end_of, end_from, IsRising, RisesFrom}
-use Rattle.event_types.specs.declared.about.State.TheVariants.{Paused, Retired}
+use Rattle.pb_messages.specs.declared.about.State.TheVariants.{Paused, Retired}
 use Rattle.pb_wire.specs.declared.payload.PayloadType.{PayloadType}
 use Rattle.act_model.specs.Event.{IsEvent}
 use Rattle.act_model.specs.Rows.{RowState, Store, Long, next_store, tier, deep, durable, accepted, window, is_empty}

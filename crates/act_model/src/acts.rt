@@ -1,7 +1,7 @@
 //! What may be asked of an archive, and what is answered.
 use crate::details::Details;
 use disk_model::FileName;
-use event_types::{About, PayloadType, State};
+use pb_messages::{About, PayloadType, State};
 use pv_name::PvName;
 use series_model::{Blob, Blobs, Query, Reason, Samples};
 

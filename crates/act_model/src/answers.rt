@@ -2,7 +2,7 @@
 //! of memory changes nothing.
 use crate::details::Details;
 use disk_model::FileName;
-use event_types::{About, State};
+use pb_messages::{About, State};
 use pv_name::PvName;
 use series_model::{Blobs, Reason, Samples};
 

@@ -19,7 +19,7 @@ use crate::answers::{
     PieceOpened, Pinned, Registered, Renamed, Resumed, Swept, Ticked, Unpinned,
 };
 use crate::narrow::OwnAnswer;
-use event_types::{About, PayloadType};
+use pb_messages::{About, PayloadType};
 use pv_name::PvName;
 use series_model::{Blob, Query};
 

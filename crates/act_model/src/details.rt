@@ -1,5 +1,5 @@
 //! What is told of a variable.
-use event_types::{About, State};
+use pb_messages::{About, State};
 use pv_name::PvName;
 
 /// What is told of a variable.

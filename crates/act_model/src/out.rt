@@ -5,7 +5,7 @@ ghost use Rattle.series_model.specs.declared.sample.Sample.{Sample};
 ghost use Rattle.act_model.specs.Event.{AreEvents};
 ghost use Rattle.act_model.specs.Out.{Subject, MayGive};
 
-use event_types::About;
+use pb_messages::About;
 use series_model::Query;
 
 /// Why an output stopped.

@@ -1,10 +1,10 @@
 -- The bodies of replies at success, without the newline that ends each.
 use Rattle.std.specs.Prelude.{ℕ, List, ◌++◌, codes, decimal, slice_index}
 use Rattle.pb_wire.specs.Payload.{row_of}
-use Rattle.event_types.specs.declared.about.Method.{Method}
-use Rattle.event_types.specs.declared.about.Method.TheVariants.{Monitor, Scan}
-use Rattle.event_types.specs.declared.about.State.{State}
-use Rattle.event_types.specs.declared.about.State.TheVariants.{Running, Paused, Retired}
+use Rattle.pb_messages.specs.declared.about.Method.{Method}
+use Rattle.pb_messages.specs.declared.about.Method.TheVariants.{Monitor, Scan}
+use Rattle.pb_messages.specs.declared.about.State.{State}
+use Rattle.pb_messages.specs.declared.about.State.TheVariants.{Running, Paused, Retired}
 use Rattle.act_model.specs.declared.details.Details.{Details}
 use Rattle.json_out.specs.Values.{string_text, array_text}
 

@@ -5,8 +5,8 @@ ghost use Rattle.admin_commands.specs.Bodies.{method_members, method_text, names
 ghost use Rattle.admin_commands.specs.Bodies.{row_text, state_members, state_text, status_text, text_member};
 
 use act_model::Details;
-use event_types::{Method, State};
 use json_out::{put_array, put_number, put_string};
+use pb_messages::{Method, State};
 use series_model::Blob;
 use std::alloc::{AllocError, Global};
 

@@ -20,8 +20,8 @@ use act_model::{
     Actor, DetailsTold, Flushed, NamesTold, Paused, Registered, Renamed, Resumed, Spent,
     ask_details, ask_flush, ask_names, ask_pause, ask_register, ask_rename, ask_resume,
 };
-use event_types::About;
 use http_front::WebCall;
+use pb_messages::About;
 use pv_name::PvName;
 use series_model::{Blob, Blobs};
 use std::alloc::{AllocError, Global};

@@ -3,7 +3,7 @@ use Rattle.std.proofs.Common.{◌≡◌, List, Bool, sym, ◌∙◌, ap, subst}
 use Rattle.std.specs.FinMap.{FinMap}
 use Rattle.std.specs.Ordering.{nat_cmp}
 use Rattle.etl_rules.specs.Config.{ConfigState}
-use Rattle.pinned_pieces.specs.Pieces.{PinOf}
+use Rattle.pins.specs.Pieces.{PinOf}
 use Rattle.tier_store.specs.Beginning.{AreNested}
 use Rattle.tier_store.specs.Pinned.{beside, SeenAll, KeepsShown}
 use Rattle.tier_store.specs.Seen.{Seen, granularities}

@@ -6,8 +6,8 @@ use Rattle.std.proofs.lemmas.Bool.Decides.{nat_tests}
 use Rattle.std.proofs.lemmas.List.Elements.{All-from_recursion}
 use Rattle.std.proofs.lemmas.Option.{slice_get_within, get_or_from_slice_get}
 use Rattle.std.proofs.lemmas.List.{length-map, get_or-map}
-use Rattle.append_buffer.specs.Tails.{TailState, tail_at, SetsTail}
-use Rattle.event_types.specs.declared.about.About.{About}
+use Rattle.intake.specs.Tails.{TailState, tail_at, SetsTail}
+use Rattle.pb_messages.specs.declared.about.About.{About}
 use Rattle.pb_lines.specs.File.{lines_of}
 use Rattle.pb_wire.specs.declared.payload.PayloadType.{PayloadType}
 use Rattle.pv_catalog.specs.declared.row.Row.{Row}

@@ -1,7 +1,7 @@
 -- A call that changes the stores where nothing stands in doubt: what the archive stands for then.
 use Rattle.std.proofs.Common.{◌≡◌, ◌⊎◌, inl, inr, List, [], Bool, true, Option, Some, None, Result, Ok, Err, refl, sym, ◌∙◌, ap, subst, arith, ℕ}
 use Rattle.std.specs.Prelude.{◌&&◌, IsTrue, OnOk, slice_get}
-use Rattle.append_buffer.specs.Tails.{TailState}
+use Rattle.intake.specs.Tails.{TailState}
 use Rattle.disk_model.specs.Past.{Passes}
 use Rattle.disk_model.specs.declared.disk.DiskErr.TheVariants.{Fault, Memory}
 use Rattle.disk_model.proofs.Passing.{passes_none, passes_weaker}

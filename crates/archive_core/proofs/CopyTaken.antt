@@ -14,10 +14,10 @@ use Rattle.etl_mover.specs.Move.{MoveState as Moving, part_file}
 use Rattle.etl_mover.specs.declared.moving.Stage.TheVariants.{Copying, Published}
 use Rattle.partition_names.specs.Path.{path_of}
 use Rattle.partition_names.proofs.PathLemmas.{one_path}
-use Rattle.pinned_pieces.specs.Pieces.{PinOf}
+use Rattle.pins.specs.Pieces.{PinOf}
 use Rattle.pv_catalog.specs.declared.row.Row.{Row}
-use Rattle.running_moves.specs.Table.{at}
-use Rattle.running_moves.specs.declared.table.Running.{Running}
+use Rattle.moves.specs.Table.{at}
+use Rattle.moves.specs.declared.table.Running.{Running}
 use Rattle.store_manifest.specs.Manifest.{ManifestState}
 use Rattle.durable_write.specs.Ends.{IsFailed, end_of_disk}
 use Rattle.durable_write.specs.Flush.{put_all}

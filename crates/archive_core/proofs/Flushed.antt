@@ -5,7 +5,7 @@ use Rattle.std.specs.Prelude.{All, IsTrue, slice_get, IfOk, Vec}
 use Rattle.std.specs.declared.alloc.Global.{Global}
 use Rattle.std.proofs.lemmas.List.Elements.{recursion_from_All}
 use Rattle.std.proofs.lemmas.Option.{slice_get_within}
-use Rattle.append_buffer.specs.Tails as tails
+use Rattle.intake.specs.Tails as tails
 use Rattle.disk_model.specs.Past.{MayLeave}
 use Rattle.disk_model.specs.declared.disk.DiskErr.{DiskErr}
 use Rattle.disk_model.specs.declared.disk.DiskErr.TheVariants.{Fault, Memory}

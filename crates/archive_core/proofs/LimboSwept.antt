@@ -13,8 +13,8 @@ use Rattle.partition_names.specs.Part.{IsPart}
 use Rattle.partition_names.specs.Path.{path_of}
 use Rattle.partition_names.proofs.PartLemmas.{one_name, one_part, within}
 use Rattle.partition_names.proofs.PathLemmas.{one_path}
-use Rattle.pinned_pieces.specs.Pieces.{PinOf, file_of as piece_file}
-use Rattle.pinned_pieces.specs.declared.piece.PinnedFile.{PinnedFile}
+use Rattle.pins.specs.Pieces.{PinOf, file_of as piece_file}
+use Rattle.pins.specs.declared.piece.PinnedFile.{PinnedFile}
 use Rattle.tier_store.specs.Limbo.{IsPinnedFile, IsListedName, IsNeeded, IsSwept as StoresSwept, Stay}
 use Rattle.tier_store.specs.Pinned.{SeenAll}
 use Rattle.act_model.specs.Limbo.{FileState, PlacesDiffer, IsElsewhere}

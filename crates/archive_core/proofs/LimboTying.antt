@@ -3,9 +3,9 @@ use Rattle.std.proofs.Common.{◌≡◌, ℕ, ◌≤◌, List, [], ◌∷◌, Bo
 use Rattle.std.specs.List.{AllByRecursion}
 use Rattle.std.specs.Prelude.{◌↔◌, ◌==◌, Contains, slice_get, IsTrue}
 use Rattle.std.proofs.lemmas.Option.{same_Some}
-use Rattle.event_types.specs.declared.about.About.{About}
-use Rattle.event_types.specs.declared.about.State.{State}
-use Rattle.event_types.specs.declared.about.State.TheVariants.{Retired as RetiredState}
+use Rattle.pb_messages.specs.declared.about.About.{About}
+use Rattle.pb_messages.specs.declared.about.State.{State}
+use Rattle.pb_messages.specs.declared.about.State.TheVariants.{Retired as RetiredState}
 use Rattle.disk_model.specs.Files.{Name}
 use Rattle.pv_catalog.specs.Rows.{KeepsRows}
 use Rattle.durable_write.proofs.Growing.{filed_grows}

@@ -12,9 +12,9 @@ use Rattle.act_model.specs.Crash.{DurableRow, kept_of, kept}
 use Rattle.std.proofs.lemmas.Bool.Decides.{nat_tests}
 use Rattle.std.proofs.lemmas.List.Elements.{All-head, All-tail}
 use Rattle.std.proofs.lemmas.Option.{same_Some, slice_get_within}
-use Rattle.event_types.specs.declared.about.About.{About}
-use Rattle.event_types.specs.declared.about.State.{State}
-use Rattle.event_types.specs.declared.about.State.TheVariants.{Paused, Retired}
+use Rattle.pb_messages.specs.declared.about.About.{About}
+use Rattle.pb_messages.specs.declared.about.State.{State}
+use Rattle.pb_messages.specs.declared.about.State.TheVariants.{Paused, Retired}
 use Rattle.pv_catalog.specs.Catalogue.{CatalogueState, registered, renamed}
 use Rattle.pv_catalog.specs.Rows.{switched, renamed_row as added_row}
 use Rattle.pv_catalog.specs.declared.row.Row.{Row}

@@ -25,10 +25,10 @@ use Rattle.std.proofs.lemmas.List.{length-map}
 use Rattle.std.proofs.lemmas.List.Sums.{sum_by-cons}
 use Rattle.std.proofs.lemmas.Option.{slice_get_within}
 use Rattle.etl_rules.specs.Choosing.{ripe}
-use Rattle.move_choice.specs.Parts.{parts_of as choice_parts, covered, end_of as end_of_part, is_covered}
-use Rattle.move_choice.specs.Series.{of_series, IsPassed as IsPassedBy}
-use Rattle.move_choice.specs.declared.series.ToMove.{ToMove}
-use Rattle.move_choice.specs.declared.series.ToMove.TheVariants.{Begin, Running, Nothing}
+use Rattle.moves.specs.Parts.{parts_of as choice_parts, covered, end_of as end_of_part, is_covered}
+use Rattle.moves.specs.Series.{of_series, IsPassed as IsPassedBy}
+use Rattle.moves.specs.declared.series.ToMove.{ToMove}
+use Rattle.moves.specs.declared.series.ToMove.TheVariants.{Begin, Running, Nothing}
 use Rattle.partition_names.specs.declared.part.Part.{Part}
 use Rattle.partition_names.proofs.PartLemmas.{within}
 use Rattle.pv_catalog.specs.Catalogue.{CatalogueState}

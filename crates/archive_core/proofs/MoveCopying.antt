@@ -49,7 +49,7 @@ use Rattle.tier_store.specs.Reviving.{AreBack, past}
 use Rattle.std.proofs.lemmas.List.{take-append-drop}
 use Rattle.disk_model.specs.Files.{Content, Name}
 use Rattle.disk_model.specs.Past.{MayLeave}
-use Rattle.payload_info.specs.declared.info.PayloadInfo.{PayloadInfo}
+use Rattle.pb_messages.specs.declared.info.PayloadInfo.{PayloadInfo}
 use Rattle.pb_lines.specs.File.{IsFile}
 use Rattle.pb_lines.proofs.FileLines.{GoesOn}
 use Rattle.pb_lines.proofs.FileMeaning.{begin_alike}

@@ -10,8 +10,8 @@ use Rattle.disk_model.specs.Past.{Passes}
 use Rattle.disk_model.proofs.Passing.{passes_then}
 use Rattle.etl_mover.specs.Move.{MoveState as Moving}
 use Rattle.partition_names.specs.declared.granularity.Granularity.{Granularity}
-use Rattle.running_moves.specs.Table as table
-use Rattle.running_moves.specs.declared.table.Running.{Running}
+use Rattle.moves.specs.Table as table
+use Rattle.moves.specs.declared.table.Running.{Running}
 use Rattle.durable_write.proofs.Rises.{rose_after}
 use Rattle.tier_store.specs.Pinned.{beside, SeenAll}
 use Rattle.tier_store.specs.Change.{Has}
@@ -48,7 +48,7 @@ use Rattle.tier_store.specs.Limbo.{IsKeptName}
 use Rattle.archive_core.specs.Leaving.{files_of}
 use Rattle.archive_core.proofs.Strays.{none_taken, tidy_none, tidy_slots, tidy_then}
 use Rattle.tier_store.proofs.LeavingFronts.{fronts_shown}
-use Rattle.pinned_pieces.specs.Pieces.{PinOf}
+use Rattle.pins.specs.Pieces.{PinOf}
 
 -- WHERE THE DISK HAS COUNTED ANOTHER NUMBER
 

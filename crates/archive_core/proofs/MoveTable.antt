@@ -7,8 +7,8 @@ use Rattle.std.proofs.lemmas.Bool.Decides.{nat_tests}
 use Rattle.std.proofs.lemmas.Cmp.{nat_cmp_total}
 use Rattle.std.proofs.lemmas.Option.{same_Some}
 use Rattle.etl_mover.specs.Move.{MoveState as Moving, HasBegun}
-use Rattle.running_moves.specs.Table.{at, IsOf}
-use Rattle.running_moves.specs.declared.table.Running.{Running}
+use Rattle.moves.specs.Table.{at, IsOf}
+use Rattle.moves.specs.declared.table.Running.{Running}
 use Rattle.tier_store.specs.Pinned.{SeenAll, beside}
 use Rattle.tier_store.specs.Stores.{Stores, list_at}
 use Rattle.act_model.specs.Limbo.{FileState}
@@ -27,9 +27,9 @@ use Rattle.archive_core.specs.Stands.{InDoubt, IsReady, Rests, Stands}
 use Rattle.archive_core.specs.Taking.{Taken}
 use Rattle.archive_core.proofs.Settled.{rests_has}
 use Rattle.std.proofs.lemmas.List.{length-take}
-use Rattle.move_choice.specs.Series.{of_series}
-use Rattle.move_choice.specs.declared.parts.MoveRule.{MoveRule}
-use Rattle.move_choice.specs.declared.series.ToMove.TheVariants.{Begin}
+use Rattle.moves.specs.Series.{of_series}
+use Rattle.moves.specs.declared.parts.MoveRule.{MoveRule}
+use Rattle.moves.specs.declared.series.ToMove.TheVariants.{Begin}
 use Rattle.store_manifest.specs.declared.entry.Entry.{Entry}
 use Rattle.durable_write.specs.Held.{entry_of}
 use Rattle.tier_store.specs.Beginning.{BeginsMove, IsChoice, parts_at, SaysBegun}
@@ -45,7 +45,7 @@ use Rattle.archive_core.proofs.MoveChoice.{next_place, goes_on}
 use Rattle.disk_model.specs.declared.disk.DiskErr.{DiskErr}
 use Rattle.disk_model.specs.declared.disk.DiskErr.TheVariants.{Fault, Memory}
 use Rattle.etl_rules.specs.Config.{ConfigState}
-use Rattle.move_choice.specs.declared.series.ToMove.{ToMove}
+use Rattle.moves.specs.declared.series.ToMove.{ToMove}
 use Rattle.act_model.specs.Changes.{no_doubt}
 use Rattle.act_model.specs.Outcome.{runs}
 use Rattle.act_model.specs.Reply.{Reply, reply_of}
@@ -56,8 +56,8 @@ use Rattle.archive_core.specs.Moving.{BeginsThere}
 use Rattle.archive_core.proofs.Batches.{told_stands}
 use Rattle.tier_store.specs.Opening.{answer_of}
 use Rattle.act_model.specs.declared.acts.Answer.{Answer}
-use Rattle.move_choice.specs.declared.series.ToMove.TheVariants as chosen
-use Rattle.running_moves.specs.Table as table
+use Rattle.moves.specs.declared.series.ToMove.TheVariants as chosen
+use Rattle.moves.specs.Table as table
 use Rattle.tier_store.specs.declared.moving.MoveBegun as own
 use Rattle.tier_store.specs.declared.moving.MoveBegun.TheVariants as kind
 use Rattle.act_model.specs.declared.acts.Answer.TheVariants as answer

@@ -29,8 +29,8 @@ use Rattle.archive_core.proofs.Windows.{all_in, held_is, list_is}
 use Rattle.std.specs.FinMap.{FinMap, get}
 use Rattle.std.specs.List.{AllByRecursion}
 use Rattle.std.specs.Ordering.{nat_cmp}
-use Rattle.running_moves.specs.Table.{at}
-use Rattle.running_moves.specs.declared.table.Running.{Running}
+use Rattle.moves.specs.Table.{at}
+use Rattle.moves.specs.declared.table.Running.{Running}
 use Rattle.tier_store.proofs.BesideMoves.{beside_itself, runs_still}
 use Rattle.tier_store.proofs.LeavingNames.{later_names}
 use Rattle.act_model.specs.Limbo.{FileState, files_of, put}

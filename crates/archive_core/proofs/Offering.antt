@@ -3,7 +3,7 @@ use Rattle.std.proofs.Common.{◌≡◌, ◌<◌, Option, Some, ap, ◌∙◌, s
 use Rattle.pb_wire.specs.declared.payload.PayloadType.{PayloadType}
 use Rattle.series_model.specs.declared.sample.Sample.{Sample}
 use Rattle.series_model.specs.Sampling.{Cell, cell_after}
-use Rattle.sampler.specs.Row.{SampledRow, after}
+use Rattle.intake.specs.Row.{SampledRow, after}
 use Rattle.durable_write.proofs.Years.{in_calendar}
 use Rattle.act_model.specs.Event.{IsEvent}
 use Rattle.act_model.specs.Rows.{RowState, standing, is_running, number_of, period_of}
@@ -12,10 +12,10 @@ use Rattle.archive_core.specs.Memory.{cell_in, IsRowOf, period_in}
 use Rattle.std.specs.Prelude.{slice_get, slice_set, nat_lt, nat_le}
 use Rattle.std.proofs.lemmas.Bool.Decides.{nat_tests}
 use Rattle.std.proofs.lemmas.Option.{same_Some}
-use Rattle.append_buffer.specs.Tails.{TailState, tail_at}
-use Rattle.append_buffer.specs.Tails as tails
-use Rattle.event_types.specs.declared.about.Method.{Method}
-use Rattle.event_types.specs.declared.about.Method.TheVariants.{Monitor, Scan}
+use Rattle.intake.specs.Tails.{TailState, tail_at}
+use Rattle.intake.specs.Tails as tails
+use Rattle.pb_messages.specs.declared.about.Method.{Method}
+use Rattle.pb_messages.specs.declared.about.Method.TheVariants.{Monitor, Scan}
 use Rattle.pv_catalog.specs.declared.row.Row.{Row}
 use Rattle.series_model.specs.Admission.{admit_before, admit_after}
 use Rattle.series_model.specs.declared.admission.Reason.{Reason}

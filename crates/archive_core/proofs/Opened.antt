@@ -15,7 +15,7 @@ use Rattle.pv_catalog.specs.Rows.{AreRows, HasKey}
 use Rattle.pv_catalog.specs.declared.row.Row.{Row}
 use Rattle.store_manifest.specs.Manifest.{ManifestState}
 use Rattle.durable_write.specs.Held.{Filed, samples_of}
-use Rattle.pinned_pieces.specs.Pieces.{PinOf}
+use Rattle.pins.specs.Pieces.{PinOf}
 use Rattle.tier_store.specs.Change.{Has}
 use Rattle.tier_store.specs.Pinned.{beside}
 use Rattle.tier_store.proofs.OpeningPieces.{stand_none}
@@ -34,15 +34,15 @@ use Rattle.act_model.proofs.Wholes.{whole_is}
 use Rattle.act_model.specs.Changes.{each}
 use Rattle.etl_rules.specs.Config.{ConfigState}
 use Rattle.etl_mover.specs.Move.{MoveState as Moving}
-use Rattle.running_moves.specs.Table as table
-use Rattle.running_moves.specs.declared.table.Running.{Running}
+use Rattle.moves.specs.Table as table
+use Rattle.moves.specs.declared.table.Running.{Running}
 use Rattle.archive_core.specs.MoveTies.{AreMovesOf}
 use Rattle.archive_core.specs.declared.memory.RowMemory.{RowMemory}
 use Rattle.archive_core.specs.LimboTies.{AreBare}
 use Rattle.archive_core.specs.Memory.{AreRowsOf, IsRowOf}
 use Rattle.archive_core.specs.Pins.{ArePinsOf}
 use Rattle.archive_core.specs.Opening.{end_at, memories, memory_of, next_in, IsOpened}
-use Rattle.append_buffer.specs.Tails.{TailState}
+use Rattle.intake.specs.Tails.{TailState}
 use Rattle.archive_core.specs.Stands.{Rests, HasSettings, TellsHeaders, IsDurable, HoldsDurable}
 use Rattle.archive_core.proofs.KeptRows.{sampling_cell, sampling_period}
 use Rattle.archive_core.proofs.LimboTying.{empty_limbo}

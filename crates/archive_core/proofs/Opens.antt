@@ -5,10 +5,10 @@ use Rattle.std.specs.Prelude.{◌==◌, ◌&&◌, slice_get, IsTrue}
 use Rattle.std.proofs.lemmas.Bool.Decides.{nat_tests}
 use Rattle.std.proofs.lemmas.Option.{same_Some, slice_get_within}
 use Rattle.disk_model.specs.Files.{Name, Rose}
-use Rattle.pin_table.specs.declared.table.PinErr.{PinErr}
-use Rattle.pin_table.specs.declared.table.PinErr.TheVariants as err
-use Rattle.pinned_pieces.specs.Pieces.{PinOf, asked}
-use Rattle.pinned_pieces.specs.declared.piece.PinnedFile.{PinnedFile}
+use Rattle.pins.specs.declared.table.PinErr.{PinErr}
+use Rattle.pins.specs.declared.table.PinErr.TheVariants as err
+use Rattle.pins.specs.Pieces.{PinOf, asked}
+use Rattle.pins.specs.declared.piece.PinnedFile.{PinnedFile}
 use Rattle.pv_catalog.specs.Catalogue.{CatalogueState}
 use Rattle.store_manifest.specs.Manifest.{ManifestState}
 use Rattle.durable_write.specs.Ends.{IsFailed}

@@ -6,12 +6,12 @@ use Rattle.std.specs.Ordering.{nat_cmp}
 use Rattle.std.specs.Prelude.{IsSome, IsTrue, filter, slice_get, All, Contains, nat_eq}
 use Rattle.std.proofs.lemmas.List.{length-map}
 use Rattle.std.proofs.lemmas.Option.{same_Some}
-use Rattle.append_buffer.specs.Tails.{tail_at}
+use Rattle.intake.specs.Tails.{tail_at}
 use Rattle.disk_model.specs.Past.{MayLeave}
-use Rattle.event_types.specs.declared.about.About.{About}
-use Rattle.piece_choice.specs.declared.choosing.Listed.{Listed}
-use Rattle.pinned_pieces.specs.Pieces.{PinOf, asked}
-use Rattle.pinned_pieces.specs.declared.piece.PinnedFile.{PinnedFile}
+use Rattle.pb_messages.specs.declared.about.About.{About}
+use Rattle.pins.specs.declared.choosing.Listed.{Listed}
+use Rattle.pins.specs.Pieces.{PinOf, asked}
+use Rattle.pins.specs.declared.piece.PinnedFile.{PinnedFile}
 use Rattle.pv_catalog.specs.Lines.{line}
 use Rattle.pv_catalog.specs.Rows.{HasName}
 use Rattle.pv_catalog.specs.declared.row.Row.{Row}
@@ -60,8 +60,8 @@ use Rattle.std.proofs.lemmas.List.Elements.{All-contains, All-contains_itself, A
 use Rattle.disk_model.specs.Files.{Name}
 use Rattle.disk_model.specs.declared.disk.DiskErr.{DiskErr}
 use Rattle.disk_model.specs.declared.disk.DiskErr.TheVariants.{Fault, Memory}
-use Rattle.pin_table.specs.declared.table.PinErr.{PinErr}
-use Rattle.pin_table.specs.declared.table.PinErr.TheVariants as err
+use Rattle.pins.specs.declared.table.PinErr.{PinErr}
+use Rattle.pins.specs.declared.table.PinErr.TheVariants as err
 use Rattle.store_manifest.specs.Manifest.{ManifestState}
 use Rattle.store_manifest.specs.declared.entry.Entry.{Entry}
 use Rattle.durable_write.specs.Held.{Filed, entry_of}

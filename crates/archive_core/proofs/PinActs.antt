@@ -4,7 +4,7 @@ use Rattle.std.specs.FinMap.{FinMap, get, remove, get-remove}
 use Rattle.std.specs.Ordering.{nat_cmp, eq_by_cmp}
 use Rattle.std.specs.Prelude.{◌==◌}
 use Rattle.std.proofs.lemmas.Cmp.{nat_cmp_total}
-use Rattle.pinned_pieces.specs.Pieces.{PinOf, asked}
+use Rattle.pins.specs.Pieces.{PinOf, asked}
 use Rattle.tier_store.specs.Opening.{given_up, pins_left}
 use Rattle.tier_store.specs.Pinned.{SeenAll, beside}
 use Rattle.tier_store.proofs.OpeningPieces.{stand_fewer}

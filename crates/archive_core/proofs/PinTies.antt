@@ -3,10 +3,10 @@ use Rattle.std.proofs.Common.{◌≡◌, ℕ, ◌+◌, List, [], Bool, true, fal
 use Rattle.std.specs.FinMap.{FinMap}
 use Rattle.std.specs.Ordering.{nat_cmp}
 use Rattle.std.specs.Prelude.{◌==◌, slice_get}
-use Rattle.pinned_pieces.specs.Pieces.{PinOf}
+use Rattle.pins.specs.Pieces.{PinOf}
 use Rattle.tier_store.specs.Pinned.{SeenAll, KeepsShown}
 use Rattle.tier_store.proofs.OpeningPieces.{stand_kept}
-use Rattle.event_types.specs.declared.about.State.{State}
+use Rattle.pb_messages.specs.declared.about.State.{State}
 use Rattle.act_model.specs.Changes.{each, at, changed, added, made, without_held}
 use Rattle.act_model.specs.Crash.{DurableRow, kept_of}
 use Rattle.act_model.specs.Limbo.{FileState}

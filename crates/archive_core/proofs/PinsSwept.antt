@@ -4,8 +4,8 @@ use Rattle.std.specs.FinMap.{FinMap, get}
 use Rattle.std.specs.Ordering.{nat_cmp}
 use Rattle.std.specs.Prelude.{slice_get}
 use Rattle.disk_model.specs.Files.{Name}
-use Rattle.pinned_pieces.specs.Pieces.{PinOf}
-use Rattle.pinned_pieces.specs.declared.piece.PinnedFile.{PinnedFile}
+use Rattle.pins.specs.Pieces.{PinOf}
+use Rattle.pins.specs.declared.piece.PinnedFile.{PinnedFile}
 use Rattle.tier_store.specs.Limbo.{IsPinnedFile}
 use Rattle.tier_store.specs.Pinned.{SeenAll, Shows}
 use Rattle.act_model.specs.Limbo.{FileState}

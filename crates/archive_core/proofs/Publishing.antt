@@ -15,9 +15,9 @@ use Rattle.etl_mover.specs.declared.moving.Stage.TheVariants.{Published}
 use Rattle.pv_catalog.specs.Rows.{KeepsRows}
 use Rattle.pv_catalog.specs.declared.row.Row.{Row}
 use Rattle.pv_catalog.proofs.Standing.{keeps_same}
-use Rattle.pinned_pieces.specs.Pieces.{PinOf}
-use Rattle.running_moves.specs.Table.{at}
-use Rattle.running_moves.specs.declared.table.Running.{Running}
+use Rattle.pins.specs.Pieces.{PinOf}
+use Rattle.moves.specs.Table.{at}
+use Rattle.moves.specs.declared.table.Running.{Running}
 use Rattle.series_model.specs.Series.{end_of}
 use Rattle.store_manifest.specs.Manifest.{ManifestState}
 use Rattle.durable_write.specs.Ends.{end_of_disk, IsFailed}

@@ -3,8 +3,8 @@ use Rattle.std.proofs.Common.{◌≡◌, zero, suc, ◌≤◌, ◌<◌, List, []
 use Rattle.std.specs.Prelude.{slice_get, nat_le}
 use Rattle.std.proofs.lemmas.Bool.Decides.{nat_tests}
 use Rattle.std.proofs.lemmas.Option.{slice_get_within}
-use Rattle.append_buffer.specs.Tails.{TailState}
-use Rattle.event_types.specs.declared.about.About.{About}
+use Rattle.intake.specs.Tails.{TailState}
+use Rattle.pb_messages.specs.declared.about.About.{About}
 use Rattle.pv_name.specs.Key.{key_of}
 use Rattle.pv_catalog.specs.Catalogue.{Refuses}
 use Rattle.pv_catalog.specs.Rows.{HasName, HasKey}

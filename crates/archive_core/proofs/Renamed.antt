@@ -2,9 +2,9 @@
 use Rattle.std.proofs.Common.{◌≡◌, ◌≢◌, ◌<◌, List, [], ◌∷◌, ◌++◌, length, take, Bool, true, false, Option, Some, None, Err, refl, sym, ◌∙◌, ap, subst, Result, ℕ}
 use Rattle.std.specs.Prelude.{◌-◌, slice_get, slice_set}
 use Rattle.std.proofs.lemmas.Option.{same_Some, slice_get_within}
-use Rattle.event_types.specs.declared.about.About.{About}
-use Rattle.event_types.specs.declared.about.State.{State}
-use Rattle.event_types.specs.declared.about.State.TheVariants.{Running, Paused, Retired}
+use Rattle.pb_messages.specs.declared.about.About.{About}
+use Rattle.pb_messages.specs.declared.about.State.{State}
+use Rattle.pb_messages.specs.declared.about.State.TheVariants.{Running, Paused, Retired}
 use Rattle.pv_catalog.specs.Catalogue.{HasState, Refuses, RefusesName, renamed}
 use Rattle.pv_catalog.specs.Rows.{switched, renamed_row as added_row}
 use Rattle.pv_catalog.specs.declared.error.RegisterErr.{RegisterErr}

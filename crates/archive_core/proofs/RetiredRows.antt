@@ -8,15 +8,15 @@ use Rattle.act_model.specs.Limbo.{FileState, files_of, put, tier_at, unlisted}
 use Rattle.act_model.specs.Machine.{Machine, Publishes, Unlists, Change, AddsRow, SetsState, Renames, Appends, MoveState}
 use Rattle.act_model.specs.Rows.{RowState, Store, Short, Medium, Long, next_store, tier, with_tier, period_of, same_store, window, is_empty}
 use Rattle.std.specs.List.{AllByRecursion}
-use Rattle.append_buffer.specs.Tails.{TailState}
-use Rattle.event_types.specs.declared.about.About.{About}
+use Rattle.intake.specs.Tails.{TailState}
+use Rattle.pb_messages.specs.declared.about.About.{About}
 use Rattle.pv_catalog.specs.declared.row.Row.{Row}
 use Rattle.act_model.proofs.Rows.{Came, from_row, is_new, came, more_rows, same_store_is}
 use Rattle.archive_core.specs.declared.memory.RowMemory.{RowMemory}
 use Rattle.archive_core.specs.Memory.{AreRowsOf}
 use Rattle.std.proofs.lemmas.Bool.Decides.{nat_tests}
-use Rattle.event_types.specs.declared.about.State.{State}
-use Rattle.event_types.specs.declared.about.State.TheVariants.{Retired as RetiredState}
+use Rattle.pb_messages.specs.declared.about.State.{State}
+use Rattle.pb_messages.specs.declared.about.State.TheVariants.{Retired as RetiredState}
 use Rattle.act_model.specs.Sound.{IsSound, IsUnlisted, LimboSound}
 use Rattle.archive_core.proofs.Lists.{element, get_front, map_out}
 use Rattle.archive_core.proofs.MovesKept.{SameLater, goes_still, moves_stay, move_stays, same_put, SourceGoesOn, reach, source_stays}
@@ -28,7 +28,7 @@ use Rattle.std.specs.Ordering.{nat_cmp}
 use Rattle.disk_model.specs.Files.{Name}
 use Rattle.etl_mover.specs.Move.{MoveState as Moving}
 use Rattle.pv_catalog.proofs.Standing.{keeps_same}
-use Rattle.running_moves.specs.declared.table.Running.{Running}
+use Rattle.moves.specs.declared.table.Running.{Running}
 use Rattle.store_manifest.specs.Entries.{Place}
 use Rattle.durable_write.specs.Ahead.{without_all}
 use Rattle.durable_write.specs.Held.{Filed, IsListed, file_of}

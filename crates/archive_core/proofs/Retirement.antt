@@ -29,9 +29,9 @@ use Rattle.disk_model.specs.declared.disk.DiskErr.{DiskErr}
 use Rattle.disk_model.specs.declared.disk.DiskErr.TheVariants.{Fault, Memory}
 use Rattle.disk_model.proofs.Passing.{passes_weaker, passes_none}
 use Rattle.etl_mover.specs.Move.{MoveState as Moving}
-use Rattle.pinned_pieces.specs.Pieces.{PinOf}
+use Rattle.pins.specs.Pieces.{PinOf}
 use Rattle.pv_catalog.specs.declared.row.Row.{Row}
-use Rattle.running_moves.specs.declared.table.Running.{Running}
+use Rattle.moves.specs.declared.table.Running.{Running}
 use Rattle.durable_write.specs.Ends.{Done, end_of_disk, IsFailed}
 use Rattle.tier_store.specs.Limbo.{IsListedName, LimboStands}
 use Rattle.tier_store.specs.Moving.{LeavesNames}
@@ -57,7 +57,7 @@ use Rattle.archive_core.proofs.RetiredDoubt.{limbo_cut, retiring_handed}
 use Rattle.archive_core.proofs.RetiredLimbo.{limbo_retires, pins_retired}
 use Rattle.archive_core.proofs.Settled.{no_own, rests_has}
 use Rattle.etl_mover.specs.declared.moving.Stage.TheVariants.{Published}
-use Rattle.running_moves.specs.Table.{at}
+use Rattle.moves.specs.Table.{at}
 use Rattle.series_model.specs.Series.{end_of}
 use Rattle.durable_write.specs.Plan.{of_row}
 use Rattle.tier_store.proofs.Left.{has_left}

@@ -8,20 +8,20 @@ use Rattle.std.specs.declared.alloc.Global.{Global}
 use Rattle.std.proofs.lemmas.Bool.Decides.{nat_tests}
 use Rattle.std.proofs.lemmas.List.{length-map}
 use Rattle.std.proofs.lemmas.Option.{same_Some, slice_get_within}
-use Rattle.append_buffer.specs.Tails.{TailState, tail_at}
-use Rattle.event_types.specs.declared.about.About.{About}
-use Rattle.event_types.specs.declared.about.State.{State}
-use Rattle.event_types.specs.declared.about.State.TheVariants.{Retired as RetiredState}
+use Rattle.intake.specs.Tails.{TailState, tail_at}
+use Rattle.pb_messages.specs.declared.about.About.{About}
+use Rattle.pb_messages.specs.declared.about.State.{State}
+use Rattle.pb_messages.specs.declared.about.State.TheVariants.{Retired as RetiredState}
 use Rattle.pv_catalog.specs.Catalogue.{HasState}
 use Rattle.pv_catalog.specs.declared.row.Row.{Row}
-use Rattle.sampler.specs.Row.{SampledRow, after}
+use Rattle.intake.specs.Row.{SampledRow, after}
 use Rattle.series_model.specs.Sampling.{first_cell}
 use Rattle.series_model.specs.Series.{end_of, since, IsRising}
 use Rattle.series_model.specs.declared.batch.RowSamples.{RowSamples}
 use Rattle.series_model.specs.declared.sample.Sample.{Sample}
 use Rattle.series_model.proofs.RisingLists.{RisesFrom-lower}
 use Rattle.etl_mover.specs.Move.{MoveState as Moving}
-use Rattle.running_moves.specs.declared.table.Running.{Running}
+use Rattle.moves.specs.declared.table.Running.{Running}
 use Rattle.durable_write.specs.Held.{Filed}
 use Rattle.durable_write.specs.Plan.{of_row as files_in}
 use Rattle.tier_store.specs.Change.{Has, IsKnown, IsOpen, HasEither}

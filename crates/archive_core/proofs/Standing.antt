@@ -6,11 +6,11 @@ use Rattle.std.specs.Ordering.{nat_cmp}
 use Rattle.std.specs.Prelude.{◌==◌, slice_get, slice_set}
 use Rattle.std.proofs.lemmas.Bool.Decides.{nat_tests}
 use Rattle.std.proofs.lemmas.Option.{slice_get_within}
-use Rattle.append_buffer.specs.Tails.{TailState, tail_at}
+use Rattle.intake.specs.Tails.{TailState, tail_at}
 use Rattle.pv_catalog.specs.declared.row.Row.{Row}
-use Rattle.event_types.specs.declared.about.State.TheVariants.{Paused}
+use Rattle.pb_messages.specs.declared.about.State.TheVariants.{Paused}
 use Rattle.act_model.specs.Rows.{RowState, is_running, next_store, tier}
-use Rattle.pinned_pieces.specs.Pieces.{PinOf}
+use Rattle.pins.specs.Pieces.{PinOf}
 use Rattle.act_model.specs.Machine.{Machine, MoveState, PinState, Change, AddsRow, SetsState, Renames, Appends, Publishes, Unlists}
 use Rattle.act_model.specs.Changes.{each, at, with_rows}
 use Rattle.act_model.specs.Crash.{DurableRow, kept_of}
@@ -29,7 +29,7 @@ use Rattle.archive_core.proofs.LimboTying.{limbo_rows, bare_each, tier_kept}
 use Rattle.archive_core.proofs.Batches.{told_stands}
 use Rattle.archive_core.proofs.MovesKept.{SameLater, moves_left}
 use Rattle.etl_mover.specs.Move.{MoveState as Moving}
-use Rattle.running_moves.specs.declared.table.Running.{Running}
+use Rattle.moves.specs.declared.table.Running.{Running}
 use Rattle.tier_store.proofs.LeavingNames.{nothing_leaves}
 use Rattle.archive_core.proofs.PinTies.{KeepsNames, pins_stay, names_at}
 use Rattle.archive_core.proofs.StoresGoing.{go_named}

@@ -9,8 +9,8 @@ use Rattle.disk_model.specs.declared.disk.DiskErr.TheVariants.{Fault, Memory}
 use Rattle.etl_mover.specs.Move.{MoveState as Moving}
 use Rattle.etl_mover.specs.declared.moving.Stage.TheVariants.{Copying}
 use Rattle.durable_write.proofs.Three.{same_cases}
-use Rattle.running_moves.specs.Table.{at as move_at}
-use Rattle.running_moves.specs.declared.table.Running.{Running}
+use Rattle.moves.specs.Table.{at as move_at}
+use Rattle.moves.specs.declared.table.Running.{Running}
 use Rattle.tier_store.specs.Pinned.{SeenAll}
 use Rattle.tier_store.specs.Seen.{IsSettled}
 use Rattle.tier_store.specs.Strays.{IsKnownName, IsStray, LeavesNoStray, MakesNoStray, targets}

@@ -9,7 +9,7 @@ use Rattle.disk_model.specs.declared.disk.DiskErr.{DiskErr}
 use Rattle.disk_model.specs.declared.disk.DiskErr.TheVariants.{Fault, Memory}
 use Rattle.disk_model.proofs.Passing.{passes_then, passes_weaker}
 use Rattle.partition_names.specs.declared.granularity.Granularity.{Granularity}
-use Rattle.pinned_pieces.specs.Pieces.{PinOf}
+use Rattle.pins.specs.Pieces.{PinOf}
 use Rattle.pv_catalog.specs.Catalogue.{CatalogueState}
 use Rattle.pv_catalog.specs.Rows.{KeepsRows}
 use Rattle.durable_write.specs.Ends.{end_of_disk}

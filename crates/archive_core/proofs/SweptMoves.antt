@@ -13,8 +13,8 @@ use Rattle.partition_names.specs.Path.{path_of}
 use Rattle.partition_names.specs.declared.part.Part.{Part}
 use Rattle.partition_names.proofs.PartLemmas.{one_part}
 use Rattle.etl_mover.specs.Move.{MoveState as Moving}
-use Rattle.running_moves.specs.Table.{at}
-use Rattle.running_moves.specs.declared.table.Running.{Running}
+use Rattle.moves.specs.Table.{at}
+use Rattle.moves.specs.declared.table.Running.{Running}
 use Rattle.series_model.specs.declared.sample.Sample.{Sample}
 use Rattle.store_manifest.specs.Manifest.{ManifestState}
 use Rattle.store_manifest.specs.declared.entry.Entry.{Entry}

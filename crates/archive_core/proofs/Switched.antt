@@ -2,8 +2,8 @@
 use Rattle.std.proofs.Common.{◌≡◌, ◌≢◌, zero, suc, List, [], ◌∷◌, Bool, Option, Some, None, Err, refl, sym, ◌∙◌, ap, subst, Result, ℕ}
 use Rattle.std.specs.Prelude.{slice_get, slice_set}
 use Rattle.std.proofs.lemmas.Option.{same_Some}
-use Rattle.event_types.specs.declared.about.State.{State}
-use Rattle.event_types.specs.declared.about.State.TheVariants.{Running, Paused, Retired}
+use Rattle.pb_messages.specs.declared.about.State.{State}
+use Rattle.pb_messages.specs.declared.about.State.TheVariants.{Running, Paused, Retired}
 use Rattle.pv_catalog.specs.Catalogue.{HasState}
 use Rattle.pv_catalog.specs.Rows.{switched}
 use Rattle.pv_catalog.specs.declared.error.StateErr.{StateErr}

@@ -4,8 +4,8 @@ use Rattle.std.specs.Prelude.{Contains, slice_get}
 use Rattle.disk_model.specs.Files.{Name}
 use Rattle.etl_mover.specs.Move.{MoveState as Moving}
 use Rattle.partition_names.specs.declared.part.Part.{Part}
-use Rattle.running_moves.specs.Table.{at}
-use Rattle.running_moves.specs.declared.table.Running.{Running}
+use Rattle.moves.specs.Table.{at}
+use Rattle.moves.specs.declared.table.Running.{Running}
 use Rattle.store_manifest.specs.Manifest.{ManifestState}
 use Rattle.store_manifest.specs.declared.entry.Entry.{Entry}
 use Rattle.durable_write.specs.Held.{Filed, entry_of, file_of}

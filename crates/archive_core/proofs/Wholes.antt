@@ -5,7 +5,7 @@ use Rattle.std.specs.Prelude.{IsTrue, slice_get}
 use Rattle.std.proofs.lemmas.Grind.{flat_map-append}
 use Rattle.std.proofs.lemmas.List.{map-append}
 use Rattle.std.proofs.lemmas.Option.{same_Some}
-use Rattle.event_types.specs.declared.about.About.{About}
+use Rattle.pb_messages.specs.declared.about.About.{About}
 use Rattle.pv_catalog.specs.Lines.{line, line_known, lines}
 use Rattle.pv_catalog.proofs.Lines.{line_is}
 use Rattle.series_model.specs.declared.sample.Sample.{Sample}

@@ -23,7 +23,7 @@ use Rattle.act_model.proofs.Copies.{before_all}
 use Rattle.act_model.proofs.Puts.{before-append}
 use Rattle.std.proofs.lemmas.List.{map-append}
 use Rattle.std.proofs.lemmas.Option.{same_Some}
-use Rattle.event_types.specs.declared.about.About.{About}
+use Rattle.pb_messages.specs.declared.about.About.{About}
 use Rattle.pb_lines.specs.File.{IsSample, AreSamples}
 use Rattle.pb_wire.specs.declared.payload.PayloadType.{PayloadType}
 use Rattle.store_manifest.specs.Manifest.{ManifestState}

@@ -6,8 +6,8 @@ use Rattle.std.proofs.lemmas.List.Elements.{All-append, All-cons, All-nil, Conta
 use Rattle.disk_model.specs.Files.{Name}
 use Rattle.etl_mover.specs.Move.{MoveState as Moving}
 use Rattle.pv_catalog.specs.declared.row.Row.{Row}
-use Rattle.running_moves.specs.Table.{at}
-use Rattle.running_moves.specs.declared.table.Running.{Running}
+use Rattle.moves.specs.Table.{at}
+use Rattle.moves.specs.declared.table.Running.{Running}
 use Rattle.store_manifest.specs.declared.entry.Entry.{Entry}
 use Rattle.archive_core.specs.Written.{AreWritten, IsWritten, names_of_slot, written_name}
 use Rattle.archive_core.proofs.Lists.{map_in}

@@ -1,7 +1,7 @@
 -- Flushing: what the intake gives up of a batch, whether store 1 lists a batch by where its rows end, and how a flush is answered.
 use Rattle.std.specs.Prelude.{◌≡◌, ◌<◌, ℕ, List, [], ◌∷◌, Option, Some, IfSome, Result, Ok, Err, Vec}
 use Rattle.std.specs.declared.alloc.Global.{Global}
-use Rattle.append_buffer.specs.Tails.{TailState, tail_at, held_bytes}
+use Rattle.intake.specs.Tails.{TailState, tail_at, held_bytes}
 use Rattle.disk_model.specs.declared.disk.DiskErr.{DiskErr}
 use Rattle.series_model.specs.Series.{end_of, since, IsRising}
 use Rattle.series_model.specs.declared.batch.RowSamples.{RowSamples}

@@ -5,12 +5,12 @@ use Rattle.std.specs.Prelude.{◌≡◌, ◌≤◌, ℕ, ◌+◌, ◌-◌, Bool,
 use Rattle.disk_model.specs.Files.{Name, HasFile}
 use Rattle.disk_model.specs.Past.{Passes}
 use Rattle.etl_mover.specs.Move.{MoveState as Moving}
-use Rattle.pinned_pieces.specs.Pieces.{PinOf}
-use Rattle.pinned_pieces.specs.declared.piece.PinnedFile.{PinnedFile}
+use Rattle.pins.specs.Pieces.{PinOf}
+use Rattle.pins.specs.declared.piece.PinnedFile.{PinnedFile}
 use Rattle.pv_catalog.specs.Lines.{line}
 use Rattle.pv_catalog.specs.Rows.{HasName}
-use Rattle.running_moves.specs.Table.{at as move_at}
-use Rattle.running_moves.specs.declared.table.Running.{Running}
+use Rattle.moves.specs.Table.{at as move_at}
+use Rattle.moves.specs.declared.table.Running.{Running}
 use Rattle.store_manifest.specs.Manifest.{ManifestState}
 use Rattle.store_manifest.specs.declared.entry.Entry.{Entry as FileEntry}
 use Rattle.durable_write.specs.Held.{file_of}

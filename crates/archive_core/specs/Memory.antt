@@ -1,19 +1,19 @@
 -- What an archive keeps of its rows in memory, beside the catalogue's rows: of each the first moment that is later than all its accepted
 -- samples, what a sampled row holds, and the tail that the intake holds; and of a batch that is flushed where its rows end.
 use Rattle.std.specs.Prelude.{◌≡◌, ◌≤◌, ◌-◌, ℕ, List, [], length, map, Option, Some, None, option_map, slice_get, slice_set}
-use Rattle.event_types.specs.declared.about.About.{About}
-use Rattle.event_types.specs.declared.about.Method.{Method}
-use Rattle.event_types.specs.declared.about.Method.TheVariants.{Monitor, Scan}
+use Rattle.pb_messages.specs.declared.about.About.{About}
+use Rattle.pb_messages.specs.declared.about.Method.{Method}
+use Rattle.pb_messages.specs.declared.about.Method.TheVariants.{Monitor, Scan}
 use Rattle.pv_catalog.specs.Catalogue.{HasState}
 use Rattle.pv_catalog.specs.declared.row.Row.{Row}
 use Rattle.series_model.specs.Sampling.{Cell, first_cell}
 use Rattle.series_model.specs.declared.batch.RowSamples.{RowSamples}
 use Rattle.series_model.specs.declared.sample.Sample.{Sample}
-use Rattle.sampler.specs.Row.{SampledRow, fresh, after}
+use Rattle.intake.specs.Row.{SampledRow, fresh, after}
 use Rattle.series_model.specs.declared.sampling.ScanEvent.TheVariants.{Cleared}
-use Rattle.event_types.specs.declared.about.State.{State}
-use Rattle.event_types.specs.declared.about.State.TheVariants.{Retired}
-use Rattle.append_buffer.specs.Tails.{TailState, tail_at}
+use Rattle.pb_messages.specs.declared.about.State.{State}
+use Rattle.pb_messages.specs.declared.about.State.TheVariants.{Retired}
+use Rattle.intake.specs.Tails.{TailState, tail_at}
 use Rattle.act_model.specs.Rows.{RowState, period_of}
 use Rattle.archive_core.specs.declared.memory.Doubt.{Doubt}
 use Rattle.archive_core.specs.declared.memory.Doubt.TheVariants as doubt

@@ -1,10 +1,10 @@
 -- Which move is to be made, as the machine has it by samples, from what the stores list.
 use Rattle.std.specs.FinMap.{get}
 use Rattle.std.specs.Prelude.{◌≡◌, ◌<◌, ℕ, List, map, take, true, Option, Some, None, IsSome, IsTrue, slice_index}
-use Rattle.move_choice.specs.Series.{of_series}
-use Rattle.move_choice.specs.declared.parts.MoveRule.{MoveRule}
-use Rattle.move_choice.specs.declared.series.ToMove.{ToMove}
-use Rattle.move_choice.specs.declared.series.ToMove.TheVariants as chosen
+use Rattle.moves.specs.Series.{of_series}
+use Rattle.moves.specs.declared.parts.MoveRule.{MoveRule}
+use Rattle.moves.specs.declared.series.ToMove.{ToMove}
+use Rattle.moves.specs.declared.series.ToMove.TheVariants as chosen
 use Rattle.partition_names.specs.declared.part.Part.{Part}
 use Rattle.pv_catalog.specs.Catalogue.{CatalogueState}
 use Rattle.store_manifest.specs.Manifest.{ManifestState}

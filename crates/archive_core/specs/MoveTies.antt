@@ -12,8 +12,8 @@ use Rattle.std.specs.Prelude.{◌≡◌, ◌≢◌, ◌≤◌, ◌+◌, ℕ, Lis
 use Rattle.etl_mover.specs.Move.{MoveState as Moving, IsCopied}
 use Rattle.etl_mover.specs.declared.moving.Stage.TheVariants.{Published}
 use Rattle.pb_lines.specs.File.{lines_of}
-use Rattle.running_moves.specs.Table.{at}
-use Rattle.running_moves.specs.declared.table.Running.{Running}
+use Rattle.moves.specs.Table.{at}
+use Rattle.moves.specs.declared.table.Running.{Running}
 use Rattle.series_model.specs.Series.{end_of, RisesFrom}
 use Rattle.series_model.specs.declared.sample.Sample.{Sample}
 use Rattle.store_manifest.specs.declared.entry.Entry.{Entry}

@@ -4,11 +4,11 @@ use Rattle.std.specs.FinMap.{FinMap}
 use Rattle.std.specs.Ordering.{nat_cmp}
 use Rattle.std.specs.Prelude.{ℕ, List, Option}
 use Rattle.disk_model.specs.declared.disk.Disk.{Ghosts}
-use Rattle.append_buffer.specs.Tails.{TailState}
+use Rattle.intake.specs.Tails.{TailState}
 use Rattle.etl_rules.specs.Config.{ConfigState}
-use Rattle.pinned_pieces.specs.Pieces.{PinOf}
+use Rattle.pins.specs.Pieces.{PinOf}
 use Rattle.etl_mover.specs.Move.{MoveState as Moving}
-use Rattle.running_moves.specs.declared.table.Running.{Running}
+use Rattle.moves.specs.declared.table.Running.{Running}
 use Rattle.tier_store.specs.Seen.{Seen, seen}
 use Rattle.tier_store.specs.declared.limbo.Retired.{Retired}
 use Rattle.archive_core.specs.declared.memory.RowMemory.{RowMemory}

@@ -2,8 +2,8 @@
 use Rattle.std.specs.FinMap.{FinMap, get}
 use Rattle.std.specs.Ordering.{nat_cmp}
 use Rattle.std.specs.Prelude.{◌≡◌, ◌+◌, ℕ, List, length, Bool, true, Some, None, slice_get}
-use Rattle.pinned_pieces.specs.Pieces.{PinOf}
-use Rattle.pinned_pieces.specs.declared.piece.PinnedFile.{PinnedFile}
+use Rattle.pins.specs.Pieces.{PinOf}
+use Rattle.pins.specs.declared.piece.PinnedFile.{PinnedFile}
 use Rattle.tier_store.specs.Pinned.{SeenAll, Shows, PinsStand}
 use Rattle.act_model.specs.Limbo.{FileState}
 use Rattle.act_model.specs.Machine.{PinState}

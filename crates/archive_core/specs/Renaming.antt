@@ -1,7 +1,7 @@
 -- When a variable gets a new name, by what is in memory, and how that is answered.
 use Rattle.std.specs.Prelude.{◌≡◌, ◌≢◌, ◌-◌, ℕ, List, [], false, IsTrue, Option, Some, None, IfSome, Result, Ok, Err, slice_get}
-use Rattle.append_buffer.specs.Tails.{tail_at}
-use Rattle.event_types.specs.declared.about.State.TheVariants.{Paused}
+use Rattle.intake.specs.Tails.{tail_at}
+use Rattle.pb_messages.specs.declared.about.State.TheVariants.{Paused}
 use Rattle.pv_catalog.specs.Catalogue.{HasState, Refuses}
 use Rattle.pv_catalog.specs.declared.error.RegisterErr.{RegisterErr}
 use Rattle.pv_catalog.specs.declared.error.RegisterErr.TheVariants as refusal

@@ -5,8 +5,8 @@ use Rattle.disk_model.specs.Files.{Files, Rose}
 use Rattle.disk_model.specs.Past.{Passes}
 use Rattle.etl_mover.specs.Move.{MoveState}
 use Rattle.partition_names.specs.declared.granularity.Granularity.{Granularity}
-use Rattle.running_moves.specs.Table.{at}
-use Rattle.running_moves.specs.declared.table.Running.{Running}
+use Rattle.moves.specs.Table.{at}
+use Rattle.moves.specs.declared.table.Running.{Running}
 use Rattle.tier_store.specs.Seen.{granularities}
 use Rattle.act_model.specs.Changes.{made}
 use Rattle.act_model.specs.Machine.{Machine, Change}

@@ -3,8 +3,8 @@ use Rattle.std.specs.Prelude.{◌≡◌, ℕ, Bool, List, [], Option, Some, Cont
 use Rattle.disk_model.specs.Files.{Name}
 use Rattle.etl_mover.specs.Move.{MoveState as Moving}
 use Rattle.etl_mover.specs.declared.moving.Stage.TheVariants.{Copying}
-use Rattle.running_moves.specs.Table.{at as move_at}
-use Rattle.running_moves.specs.declared.table.Running.{Running}
+use Rattle.moves.specs.Table.{at as move_at}
+use Rattle.moves.specs.declared.table.Running.{Running}
 use Rattle.tier_store.specs.Seen.{IsSettled}
 use Rattle.tier_store.specs.Strays.{IsStray, targets}
 use Rattle.act_model.specs.Reply.{Reply}

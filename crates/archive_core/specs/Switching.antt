@@ -1,7 +1,7 @@
 -- Pausing and resuming: the states before and after, and why a row's state isn't set.
 use Rattle.std.specs.Prelude.{◌≡◌, ℕ, List, Option, Some, None, Result, Ok, Err, IfSome}
-use Rattle.event_types.specs.declared.about.State.{State}
-use Rattle.event_types.specs.declared.about.State.TheVariants.{Running, Paused}
+use Rattle.pb_messages.specs.declared.about.State.{State}
+use Rattle.pb_messages.specs.declared.about.State.TheVariants.{Running, Paused}
 use Rattle.pv_catalog.specs.Catalogue.{HasState}
 use Rattle.pv_catalog.specs.Rows.{HasName}
 use Rattle.pv_catalog.specs.declared.error.StateErr.{StateErr}

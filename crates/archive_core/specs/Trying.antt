@@ -1,7 +1,7 @@
 -- A sample is tried: by the last two reasons to drop it, by the room that is left, and by the memory for it.
 use Rattle.std.specs.Prelude.{◌≡◌, ◌≤◌, ◌<◌, ◌+◌, ◌++◌, ◌∷◌, [], ℕ, List, length, true, Some, None, Result, Ok, Err}
-use Rattle.append_buffer.specs.Tails.{TailState, tail_at, held_bytes, KeepsTails, SetsTail}
-use Rattle.sampler.specs.Row.{SampledRow, after}
+use Rattle.intake.specs.Tails.{TailState, tail_at, held_bytes, KeepsTails, SetsTail}
+use Rattle.intake.specs.Row.{SampledRow, after}
 use Rattle.series_model.specs.declared.sample.Sample.{Sample}
 use Rattle.series_model.specs.declared.sampling.ScanEvent.TheVariants.{Offered, Ticked}
 use Rattle.series_model.specs.Admission.{admit_after}

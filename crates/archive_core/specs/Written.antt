@@ -3,8 +3,8 @@ use Rattle.std.specs.Prelude.{◌≡◌, ◌+◌, ◌<◌, ◌≤◌, ℕ, List,
 use Rattle.disk_model.specs.Files.{Name}
 use Rattle.pv_catalog.specs.declared.row.Row.{Row}
 use Rattle.etl_mover.specs.Move.{MoveState as Moving}
-use Rattle.running_moves.specs.Table.{at}
-use Rattle.running_moves.specs.declared.table.Running.{Running}
+use Rattle.moves.specs.Table.{at}
+use Rattle.moves.specs.declared.table.Running.{Running}
 use Rattle.store_manifest.specs.declared.entry.Entry.{Entry}
 use Rattle.durable_write.specs.Held.{file_of}
 

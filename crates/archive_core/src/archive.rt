@@ -1,10 +1,10 @@
 // The archive and what it is made of.
 use crate::memory::{Doubt, RowMemory};
-use append_buffer::Intake;
 use disk_model::Disk;
 use etl_mover::Move;
 use etl_rules::Config;
-use running_moves::RunningMoves;
+use intake::Intake;
+use moves::RunningMoves;
 use std::alloc::Global;
 use tier_store::TierStore;
 

@@ -1,6 +1,6 @@
 // Flushing: what is accepted becomes durable, and the intake gives it up.
 ghost use Rattle.std.specs.Prelude.{◌≡◌, ◌≤◌, ◌<◌, ◌∷◌, ◌↔◌, [], ℕ, List, length, true, IfOk, IfSome, IsTrue};
-ghost use Rattle.append_buffer.specs.Tails.{tail_at, batch_of};
+ghost use Rattle.intake.specs.Tails.{tail_at, batch_of};
 ghost use Rattle.series_model.specs.Series.{end_of, since};
 ghost use Rattle.series_model.specs.declared.batch.RowSamples.{RowSamples};
 ghost use Rattle.act_model.specs.Changes.{of_row};
@@ -19,8 +19,8 @@ use crate::Archive;
 use crate::memory::{Doubt, RowEnd};
 use crate::opening::end_in;
 use act_model::Answer;
-use append_buffer::Intake;
 use disk_model::{Disk, DiskErr};
+use intake::Intake;
 use series_model::LentSamples;
 use std::alloc::{AllocError, Global};
 use tier_store::TierStore;

@@ -26,7 +26,7 @@ mod memory;
 mod moving;
 mod offers;
 mod opening;
-mod pins;
+mod pinning;
 mod registering;
 mod renaming;
 mod running;

@@ -1,6 +1,6 @@
 // What is kept in memory of each row, and of a change that stands in doubt.
-use event_types::State;
-use sampler::Scan;
+use intake::Scan;
+use pb_messages::State;
 
 /// What is kept of a row beside the catalogue and its tail.
 #[derive(Debug, Drop)]

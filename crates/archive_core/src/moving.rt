@@ -18,8 +18,7 @@ use crate::answering::answered;
 use act_model::Answer;
 use disk_model::{Disk, DiskErr};
 use etl_rules::Config;
-use move_choice::MoveRule;
-use running_moves::Running;
+use moves::{MoveRule, Running};
 
 // When partitions of store 1 or 2 move on, at a moment.
 fn rule_at(config: &Config, store: u8, now: u64) -> MoveRule

@@ -17,7 +17,7 @@ use crate::answering::{offered, ticked};
 use crate::trying::{offer_row, reason_by_row, runs, tick_row};
 use act_model::{Answer, Offered};
 use disk_model::Disk;
-use event_types::PayloadType;
+use pb_messages::PayloadType;
 use series_model::{Reason, Sample};
 
 impl<D: Disk> Archive<D> {

@@ -12,12 +12,11 @@ ghost use Rattle.archive_core.specs.Parts.{parts};
 
 use crate::Archive;
 use crate::memory::RowMemory;
-use append_buffer::Intake;
 use disk_model::Disk;
-use event_types::Method;
+use intake::{Intake, Scan};
+use moves::RunningMoves;
+use pb_messages::Method;
 use pv_catalog::Row;
-use running_moves::RunningMoves;
-use sampler::Scan;
 use std::alloc::{AllocError, Global};
 use store_manifest::Entry;
 use tier_store::TierStore;

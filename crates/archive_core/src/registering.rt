@@ -16,7 +16,7 @@ use crate::memory::{Doubt, RowMemory};
 use crate::opening::sampling;
 use act_model::Answer;
 use disk_model::{Disk, DiskErr, ReadAt};
-use event_types::About;
+use pb_messages::About;
 use pv_catalog::{Catalogue, RegisterErr};
 use pv_name::PvName;
 use std::alloc::AllocFailed;

@@ -1,7 +1,7 @@
 // Renaming: a variable gets a new name, and goes on in a new row over its old one.
 ghost use Rattle.std.specs.Prelude.{◌≡◌, ◌<◌, [], ℕ, length, IfOk, IfErr, OnOk, Some};
-ghost use Rattle.append_buffer.specs.Tails.{tail_at};
-ghost use Rattle.event_types.specs.declared.about.State.TheVariants.{Paused};
+ghost use Rattle.intake.specs.Tails.{tail_at};
+ghost use Rattle.pb_messages.specs.declared.about.State.TheVariants.{Paused};
 ghost use Rattle.pv_catalog.specs.Catalogue.{HasState};
 ghost use Rattle.act_model.specs.Machine.{Machine, Renames};
 ghost use Rattle.act_model.specs.Reply.{reply_of};
@@ -19,7 +19,7 @@ use crate::registering::{add_memory, refuse_taken};
 use crate::settling::clear;
 use act_model::Answer;
 use disk_model::{Disk, DiskErr, ReadAt};
-use event_types::State;
+use pb_messages::State;
 use pv_catalog::{Catalogue, RegisterErr, RenameErr};
 use pv_name::PvName;
 

@@ -14,7 +14,7 @@ use crate::Archive;
 use crate::flushing::trim_flushed;
 use crate::memory::{Doubt, RowMemory};
 use disk_model::{Disk, DiskErr};
-use event_types::State;
+use pb_messages::State;
 use pv_catalog::Row;
 
 // Whether the row of this number has the state.

@@ -18,7 +18,7 @@ use crate::memory::Doubt;
 use act_model::Answer;
 use disk_model::{Disk, DiskErr};
 use etl_mover::{Move, Stage};
-use running_moves::Running;
+use moves::Running;
 use std::alloc::{AllocError, Global};
 use tier_store::{CopyEnd, RetireEnd};
 

@@ -1,6 +1,6 @@
 // Pausing and resuming: a row's state is set, and what a sampled row holds is given up.
 ghost use Rattle.std.specs.Prelude.{◌≡◌, ◌<◌, ℕ, length, IfOk, IfErr, Some, OnOk};
-ghost use Rattle.event_types.specs.declared.about.State.{State};
+ghost use Rattle.pb_messages.specs.declared.about.State.{State};
 ghost use Rattle.pv_catalog.specs.Catalogue.{HasState};
 ghost use Rattle.durable_write.specs.Ends.{end_of_switch};
 ghost use Rattle.tier_store.specs.Change.{Has, Changes};
@@ -23,7 +23,7 @@ use crate::memory::Doubt;
 use crate::settling::{clear, has_state};
 use act_model::Answer;
 use disk_model::{Disk, DiskErr, ReadAt};
-use event_types::State;
+use pb_messages::State;
 use pv_catalog::{Catalogue, StateErr};
 use tier_store::TierStore;
 

@@ -1,9 +1,9 @@
 // Samples that are tried: whether one is accepted, and where it goes then.
 ghost use Rattle.std.specs.Prelude.{◌≡◌, ◌⊎◌, true, false, ◌≤◌, ◌<◌, ◌+◌, ◌++◌, ◌∷◌, [], ℕ, length, Some, None, IfSome};
 ghost use Rattle.std.specs.Prelude.{IsSome, OnOk, OnErr};
-ghost use Rattle.append_buffer.specs.Tails.{tail_at, held_bytes, KeepsTails, SetsTail};
+ghost use Rattle.intake.specs.Tails.{tail_at, held_bytes, KeepsTails, SetsTail};
 ghost use Rattle.series_model.specs.Admission.{admit_before, admit_after};
-ghost use Rattle.sampler.specs.Row.{SampledRow};
+ghost use Rattle.intake.specs.Row.{SampledRow};
 ghost use Rattle.act_model.specs.declared.answers.Ticked.TheVariants.{TickNone, NotDue};
 ghost use Rattle.act_model.specs.Rows.{is_running, number_of};
 ghost use Rattle.series_model.specs.declared.sample.Sample.{Sample as SampleValue};
@@ -11,8 +11,8 @@ ghost use Rattle.archive_core.specs.Trying.{IsTried, IsOffered, IsTickedDue, mov
 
 use crate::memory::RowMemory;
 use act_model::{Offered, Ticked};
-use append_buffer::{Intake, ROOM};
-use event_types::{PayloadType, State};
+use intake::{Intake, ROOM};
+use pb_messages::{PayloadType, State};
 use pv_catalog::Row;
 use series_model::{Reason, Sample, Standing, admit};
 

@@ -1,15 +1,15 @@
 // The names of the files that running moves have written to, which a sweep spares.
 ghost use Rattle.std.specs.Prelude.{◌≡◌, ◌++◌, ◌<◌, ℕ, map, All, IfOk, OnOk, Some, length};
 ghost use Rattle.etl_mover.specs.Move.{MoveState as Moving};
-ghost use Rattle.running_moves.specs.Table.{at};
-ghost use Rattle.running_moves.specs.declared.table.Running.{Running as RunningValue};
+ghost use Rattle.moves.specs.Table.{at};
+ghost use Rattle.moves.specs.declared.table.Running.{Running as RunningValue};
 ghost use Rattle.archive_core.specs.Written.{AreWritten, IsListable, written_name};
 
 use disk_model::FileName;
 use durable_write::file_name;
 use etl_mover::Move;
+use moves::Running;
 use pv_catalog::Row;
-use running_moves::Running;
 use std::alloc::{AllocError, Global};
 
 // Adds the names of the files that a move is to list in the next store.

@@ -18,7 +18,7 @@ use archive_core::Archive;
 use disk_model::{Disk, MemDisk};
 use edge_io::MemSink;
 use etl_rules::Config;
-use event_types::State;
+use pb_messages::State;
 use series_model::{Blob, Blobs, Query};
 use std::alloc::Global;
 use std::fmt::Write as _;

@@ -3,7 +3,7 @@ use crate::asking::word;
 use act_model::Answer;
 use anyhow::Result;
 use disk_model::MemFile;
-use event_types::State;
+use pb_messages::State;
 use std::alloc::Global;
 use std::fmt::Write as _;
 

@@ -32,7 +32,7 @@ use Rattle.archive_core.specs.declared.archive.Archive.{Archive}
 use Rattle.archive_core.proofs.RunOfActs.{chain_runs_on}
 use Rattle.archiver_appliance.specs.Acting.{ActsAlone, ActsFrom, IsFresh, IsOpenedOn, OpensAgain, header_by, rule_of}
 use Rattle.archiver_appliance.specs.Outside.{HasNotFallen}
-use Rattle.link_service.proofs.Counting.{runs_counts, runs_rose}
+use Rattle.service.proofs.Counting.{runs_counts, runs_rose}
 
 -- THE RULE
 

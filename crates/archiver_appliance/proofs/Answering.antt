@@ -18,9 +18,9 @@ use Rattle.act_model.specs.Out.{Subject}
 use Rattle.act_model.specs.Rows.{RowState, accepted}
 use Rattle.act_model.specs.Sound.{IsSound}
 use Rattle.act_model.specs.Whole.{whole}
-use Rattle.payload_info.specs.Info.{info_of}
-use Rattle.payload_info.specs.declared.info.PayloadInfo.{PayloadInfo}
-use Rattle.payload_info.specs.declared.error.InfoFault.{InfoFault}
+use Rattle.pb_messages.specs.Info.{info_of}
+use Rattle.pb_messages.specs.declared.info.PayloadInfo.{PayloadInfo}
+use Rattle.pb_messages.specs.declared.info_error.InfoFault.{InfoFault}
 use Rattle.act_model.specs.Rule.{Header}
 use Rattle.retrieval_query.specs.Retrieving.{ReadsHeaders}
 use Rattle.retrieval_query.specs.Raw.{IsRaw}
@@ -28,7 +28,7 @@ use Rattle.retrieval_query.specs.declared.retrieved.Retrieved.{Retrieved}
 use Rattle.retrieval_query.specs.declared.retrieved.Retrieved.TheVariants as got
 use Rattle.archive_core.specs.Parts.{Parts}
 use Rattle.archive_core.specs.Stands.{Stands}
-use Rattle.event_types.specs.declared.about.About.{About}
+use Rattle.pb_messages.specs.declared.about.About.{About}
 use Rattle.command_words.specs.declared.status.Status.{Status}
 use Rattle.command_words.specs.declared.status.Status.TheVariants.{Done as IsDone, NoSuchVariable, SinkFault, DiskFault, Damaged, OutOfMemory}
 use Rattle.archiver_appliance.specs.Acting.{IsOpenedOn, header_by, rule_of}

@@ -6,7 +6,7 @@ use Rattle.std.proofs.lemmas.List.Elements.{Contains-get_or}
 use Rattle.disk_model.specs.Files.{Name}
 use Rattle.disk_model.proofs.Passing.{passes_weaker}
 use Rattle.edge_io.specs.Moments.{Moments}
-use Rattle.payload_info.specs.declared.info.PayloadInfo.{PayloadInfo}
+use Rattle.pb_messages.specs.declared.info.PayloadInfo.{PayloadInfo}
 use Rattle.pb_lines.specs.Stream.{Item, header, sample, chunk_end}
 use Rattle.series_model.specs.declared.sample.Query.{Query}
 use Rattle.store_files.specs.Fronts.{Keeps}

@@ -37,9 +37,9 @@ use Rattle.etl_rules.specs.Config.{ConfigState}
 use Rattle.feed_session.specs.Session.{ReadsOf}
 use Rattle.feed_session.specs.declared.end.Fed.{Fed}
 use Rattle.feed_session.specs.declared.end.Fed.TheVariants as fed
-use Rattle.serving_loops.specs.declared.due.DueMoved.{DueMoved}
-use Rattle.serving_loops.specs.declared.moves.MoveErr.{MoveErr}
-use Rattle.serving_loops.specs.declared.moves.MoveErr.TheVariants as err
+use Rattle.serving.specs.declared.due.DueMoved.{DueMoved}
+use Rattle.serving.specs.declared.moves.MoveErr.{MoveErr}
+use Rattle.serving.specs.declared.moves.MoveErr.TheVariants as err
 use Rattle.tier_store.specs.Change.{IsEither}
 use Rattle.tier_store.specs.Stores.{Stores}
 use Rattle.store_reopen.specs.Reopen.{OpensEither, stores_of}

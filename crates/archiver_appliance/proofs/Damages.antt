@@ -9,15 +9,15 @@ use Rattle.std.proofs.lemmas.Option.{same_Some}
 use Rattle.disk_model.specs.Files.{Name, Files, HasFile}
 use Rattle.disk_model.specs.Past.{MayLeave}
 use Rattle.pb_wire.specs.declared.payload.PayloadType.{PayloadType}
-use Rattle.pinned_pieces.specs.Pieces.{PinOf}
-use Rattle.pinned_pieces.specs.declared.piece.PinnedFile.{PinnedFile}
+use Rattle.pins.specs.Pieces.{PinOf}
+use Rattle.pins.specs.declared.piece.PinnedFile.{PinnedFile}
 use Rattle.pv_catalog.specs.Catalogue.{CatalogueState}
 use Rattle.pv_catalog.specs.Lines.{line, line_known, lines}
 use Rattle.pv_catalog.specs.Rows.{AreRows, HasName}
 use Rattle.pv_catalog.proofs.Lines.{line_over}
 use Rattle.pv_catalog.specs.declared.row.Row.{Row}
 use Rattle.pv_name.specs.Key.{key_of}
-use Rattle.event_types.specs.declared.about.About.{About}
+use Rattle.pb_messages.specs.declared.about.About.{About}
 use Rattle.series_model.specs.declared.sample.Query.{Query}
 use Rattle.series_model.specs.declared.sample.Sample.{Sample}
 use Rattle.store_manifest.specs.Manifest.{ManifestState}

@@ -21,8 +21,8 @@ use Rattle.tier_store.specs.Stored.{HoldsAll}
 use Rattle.tier_store.specs.Stores.{Stores, list_at, tier}
 use Rattle.tier_store.specs.declared.store.TierStore.{TierStore}
 use Rattle.store_reopen.specs.Reopen.{AllIn, HasRead, IsUnopened, OpensEither, stores_of}
-use Rattle.event_types.specs.declared.about.About.{About}
-use Rattle.event_types.specs.declared.about.Method.TheVariants.{Monitor}
+use Rattle.pb_messages.specs.declared.about.About.{About}
+use Rattle.pb_messages.specs.declared.about.Method.TheVariants.{Monitor}
 use Rattle.pb_wire.specs.declared.payload.PayloadType.TheVariants.{ScalarInt}
 use Rattle.act_model.specs.declared.acts.Act.TheVariants.{Register}
 use Rattle.act_model.specs.declared.acts.Answer.TheVariants.{Registered}
@@ -35,15 +35,15 @@ use Rattle.act_model.specs.Register.{RegisterStep}
 use Rattle.act_model.specs.Reply.{Reply}
 use Rattle.act_model.specs.Rule.{Rule}
 use Rattle.act_model.proofs.Histories.{mine-append, runs_append, runs_onward}
-use Rattle.serving_loops.specs.declared.due.DueMoved.{DueMoved}
-use Rattle.serving_loops.specs.Due.{MovesAll}
+use Rattle.serving.specs.declared.due.DueMoved.{DueMoved}
+use Rattle.serving.specs.Due.{MovesAll}
 use Rattle.archive_core.specs.Parts.{parts}
 use Rattle.archive_core.specs.Stands.{HoldsDurable, Stands}
 use Rattle.archive_core.specs.declared.archive.Archive.{Archive}
 use Rattle.retrieval_query.specs.Retrieving.{ReadsHeaders}
-use Rattle.link_service.specs.declared.posts.Post.{Post}
-use Rattle.link_service.specs.declared.service.AllServed.{AllServed}
-use Rattle.link_service.specs.Doors.{IsServed}
+use Rattle.service.specs.declared.posts.Post.{Post}
+use Rattle.service.specs.declared.service.AllServed.{AllServed}
+use Rattle.service.specs.Doors.{IsServed}
 use Rattle.archiver_appliance.specs.Acting.{Acts, ActsAlone, IsOpenedOn, OpensAgain, rule_of}
 use Rattle.archiver_appliance.specs.Drilling.{AreFed, FeedsLeft, HasRegistered, HoldsLeft, IsBegunWith, IsClean, IsDrillText, OfHeld, OpensWell, Tells, TellsOn, WereSpent, feed_posts, none_registered, nothing_held, one_registered, registers, shipped, tiers_of, unmoving}
 use Rattle.archiver_appliance.specs.Serving.{LeavesArchive, PostsLeft}

@@ -25,15 +25,15 @@ use Rattle.retrieval_query.specs.declared.variable.PinErr.TheVariants as pin_err
 use Rattle.retrieval_query.specs.Openings.{PieceTold, openings}
 use Rattle.retrieval_query.specs.Pinning.{FailsToPin, GivesUp}
 use Rattle.retrieval_query.specs.Retrieving.{Ends, IsPinned, ReadsPinned, WritesAnswer, given_up}
-use Rattle.link_service.specs.declared.format.Format.{Format}
-use Rattle.link_service.specs.declared.format.Format.TheVariants.{Raw, Json}
-use Rattle.link_service.specs.declared.replied.Replied.{Replied}
-use Rattle.link_service.specs.declared.served.Kind.{Kind}
-use Rattle.link_service.specs.declared.served.Kind.TheVariants.{Feed, Http}
-use Rattle.link_service.specs.declared.served.Served.{Served}
-use Rattle.link_service.specs.Data.{AnswersData, BreaksBody, FinishesBody, IsWhole, LosesHead, MakesActs, PinsAndLoses, RefusesPin, RepliesData, data_head}
-use Rattle.link_service.specs.Requests.{Ends as EndsCall, Replies, RepliesCall, RepliesTo}
-use Rattle.link_service.specs.Serving.{ServesLink, WasSpent}
+use Rattle.service.specs.declared.format.Format.{Format}
+use Rattle.service.specs.declared.format.Format.TheVariants.{Raw, Json}
+use Rattle.service.specs.declared.replied.Replied.{Replied}
+use Rattle.service.specs.declared.served.Kind.{Kind}
+use Rattle.service.specs.declared.served.Kind.TheVariants.{Feed, Http}
+use Rattle.service.specs.declared.served.Served.{Served}
+use Rattle.service.specs.Data.{AnswersData, BreaksBody, FinishesBody, IsWhole, LosesHead, MakesActs, PinsAndLoses, RefusesPin, RepliesData, data_head}
+use Rattle.service.specs.Requests.{Ends as EndsCall, Replies, RepliesCall, RepliesTo}
+use Rattle.service.specs.Serving.{ServesLink, WasSpent}
 use Rattle.archiver_appliance.specs.Sessions.{Knower, KnowsMost, Learns, acts_under}
 
 -- why a retrieval ended behind its pin, where another thing tells that no act was left

@@ -20,15 +20,15 @@ use Rattle.act_model.specs.declared.actor.Spent.{Spent as NoAct}
 use Rattle.act_model.specs.History.{Entry}
 use Rattle.act_model.specs.Machine.{Machine}
 use Rattle.act_model.specs.Reply.{Reply}
-use Rattle.serving_end.specs.declared.ends.FlushEnd.{FlushEnd}
-use Rattle.serving_end.specs.declared.ends.MoverEnd.{MoverEnd}
-use Rattle.link_service.specs.declared.door.DoorServed.{DoorServed}
-use Rattle.link_service.specs.declared.door.DoorServed.TheVariants as door
-use Rattle.link_service.specs.declared.posts.Post.{Post}
-use Rattle.link_service.specs.declared.served.Kind.{Kind}
-use Rattle.link_service.specs.declared.service.AllServed.{AllServed}
-use Rattle.link_service.specs.Doors.{IsServed, ServesDoorAt}
-use Rattle.link_service.specs.Service.{AllWorked, NumbersSpent, PostWork, ServesAll, ServesPost, at_door, at_flushes, at_moves, fails, finds_none, told_of, told_want}
+use Rattle.serving.specs.declared.ends.FlushEnd.{FlushEnd}
+use Rattle.serving.specs.declared.ends.MoverEnd.{MoverEnd}
+use Rattle.service.specs.declared.door.DoorServed.{DoorServed}
+use Rattle.service.specs.declared.door.DoorServed.TheVariants as door
+use Rattle.service.specs.declared.posts.Post.{Post}
+use Rattle.service.specs.declared.served.Kind.{Kind}
+use Rattle.service.specs.declared.service.AllServed.{AllServed}
+use Rattle.service.specs.Doors.{IsServed, ServesDoorAt}
+use Rattle.service.specs.Service.{AllWorked, NumbersSpent, PostWork, ServesAll, ServesPost, at_door, at_flushes, at_moves, fails, finds_none, told_of, told_want}
 use Rattle.archiver_appliance.specs.Serving.{CameOfPosts, DoorLeft, EachOf, HasFailed, IsUnserved, PostServed, PostsLeft, ServesPosts, are_not, on_archive, first_of, status_of}
 use Rattle.command_words.specs.declared.command.Command.{Command}
 use Rattle.command_words.specs.declared.command.Command.TheVariants.{Drill, Extract, OverStore}

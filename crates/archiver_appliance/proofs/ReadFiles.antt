@@ -4,8 +4,8 @@ use Rattle.std.specs.Prelude.{IsTrue, Contains, slice_get}
 use Rattle.std.specs.Io.KnownBytes.{Appends}
 use Rattle.disk_model.specs.Files.{Name, Files}
 use Rattle.disk_model.specs.declared.disk.Disk.{Ghosts}
-use Rattle.append_buffer.specs.Tails.{TailState, tail_at}
-use Rattle.event_types.specs.declared.about.About.{About}
+use Rattle.intake.specs.Tails.{TailState, tail_at}
+use Rattle.pb_messages.specs.declared.about.About.{About}
 use Rattle.series_model.specs.declared.sample.Query.{Query}
 use Rattle.series_model.specs.declared.sample.Sample.{Sample}
 use Rattle.store_manifest.specs.Manifest.{ManifestState}

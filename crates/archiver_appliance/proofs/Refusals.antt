@@ -8,7 +8,7 @@ use Rattle.disk_model.specs.Files.{Name, Files}
 use Rattle.disk_model.specs.Past.{MayLeave}
 use Rattle.etl_rules.specs.Config.{ConfigState}
 use Rattle.partition_names.specs.declared.granularity.Granularity.{Granularity}
-use Rattle.piece_choice.specs.declared.choosing.Listed.{Listed}
+use Rattle.pins.specs.declared.choosing.Listed.{Listed}
 use Rattle.pv_catalog.specs.declared.row.Row.{Row}
 use Rattle.store_manifest.specs.declared.entry.Entry.{Entry}
 use Rattle.tier_store.specs.Stored.{HoldsAll}

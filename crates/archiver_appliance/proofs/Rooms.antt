@@ -4,9 +4,9 @@ use Rattle.std.specs.Prelude.{All, nat_lt, slice_get}
 use Rattle.std.proofs.lemmas.Bool.{false≢true}
 use Rattle.std.proofs.lemmas.Bool.Decides.{nat_tests}
 use Rattle.std.proofs.lemmas.List.Elements.{All-cons, All-nil}
-use Rattle.event_types.specs.declared.about.Method.{Method}
-use Rattle.event_types.specs.declared.about.Method.TheVariants.{Monitor, Scan}
-use Rattle.payload_info.specs.declared.info.PayloadInfo.{PayloadInfo}
+use Rattle.pb_messages.specs.declared.about.Method.{Method}
+use Rattle.pb_messages.specs.declared.about.Method.TheVariants.{Monitor, Scan}
+use Rattle.pb_messages.specs.declared.info.PayloadInfo.{PayloadInfo}
 use Rattle.pb_wire.specs.declared.payload.PayloadType.{PayloadType}
 use Rattle.pb_lines.specs.Stream.{Item, header, sample, chunk_end}
 use Rattle.series_model.specs.Admission.{admit_after, admit_before}

@@ -45,17 +45,17 @@ use Rattle.archive_core.specs.Running.{HoldsBetween, RunsOn}
 use Rattle.archive_core.specs.Stands.{Stands}
 use Rattle.archive_core.specs.declared.archive.Archive.{Archive}
 use Rattle.archiver_appliance.specs.declared.observed.Observed.{Observed}
-use Rattle.serving_end.specs.End.{EndsWell}
-use Rattle.serving_end.proofs.Works.{own_map}
-use Rattle.turns_end.specs.Acting.{EndsInTurns, HasFlushFault}
-use Rattle.link_service.specs.declared.service.AllServed.{AllServed}
+use Rattle.serving.specs.End.{EndsWell}
+use Rattle.serving.proofs.Works.{own_map}
+use Rattle.serving.specs.Acting.{EndsInTurns, HasFlushFault}
+use Rattle.service.specs.declared.service.AllServed.{AllServed}
 use Rattle.archiver_appliance.specs.Acting.{IsFresh, rule_of}
 use Rattle.archiver_appliance.specs.Drilling.{IsBegunWith}
 use Rattle.archiver_appliance.specs.Outside.{HasNotFallen, IsCausedBy}
 use Rattle.archiver_appliance.specs.Serving.{ArchiveStep, HasFailedFlush, LeavesArchive, LeavesRoom, ServesFrom, first_of, status_of}
 use Rattle.command_words.specs.declared.command.StoreCommand.TheVariants as command
 use Rattle.archiver_appliance.proofs.Acting.{both_hold, count_given, handed, opens_again, rose_given, tells_headers, unopened_given}
-use Rattle.link_service.proofs.Counting.{runs_counts, runs_rose}
+use Rattle.service.proofs.Counting.{runs_counts, runs_rose}
 
 -- a clock that isn't read gives nothing
 pub gives_nothing : (a : Option Moments) → Gives a a []

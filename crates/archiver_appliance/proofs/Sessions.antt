@@ -13,7 +13,7 @@ use Rattle.turn_rooms.specs.Histories.{by, end_of}
 use Rattle.turn_rooms.specs.declared.view.Standing.{Standing}
 use Rattle.turn_rooms.specs.Passes.{IsPassOf, KnowsAllOf, Opens, known, opened, standing, stands}
 use Rattle.turn_rooms.proofs.Lists.{cons_more, has_first, only_element}
-use Rattle.turn_workers.specs.Left.{IsNew}
+use Rattle.workers.specs.Left.{IsNew}
 use Rattle.act_model.specs.declared.acts.Act.{Act}
 use Rattle.act_model.specs.declared.acts.Act.TheVariants.{DoorDone}
 use Rattle.act_model.specs.declared.acts.Answer.{Answer}
@@ -37,18 +37,18 @@ use Rattle.feed_session.specs.Session.{EndsIn, IsFlushed, acts_of}
 use Rattle.feed_session.specs.declared.end.Fed.{Fed}
 use Rattle.feed_session.specs.declared.end.Fed.TheVariants as fed
 use Rattle.feed_session.proofs.Durable.{kept_durable}
-use Rattle.serving_end.proofs.Works.{nothing_since, own_map}
-use Rattle.link_service.specs.declared.door.DoorServed.{DoorServed}
-use Rattle.link_service.specs.declared.door.DoorServed.TheVariants as door
-use Rattle.link_service.specs.declared.posts.Post.{Post}
-use Rattle.link_service.specs.declared.served.Kind.{Kind}
-use Rattle.link_service.specs.declared.served.Kind.TheVariants.{Feed, Http}
-use Rattle.link_service.specs.declared.served.Served.{Served}
-use Rattle.link_service.specs.declared.service.AllServed.{AllServed}
-use Rattle.link_service.specs.Doors.{AsksToEnd, CountsOff, InTurn, IsServed, ServesDoor, ServesLinkTold, Shift, no_link, one_more_link}
-use Rattle.link_service.specs.Seats.{SeatBetween, SeatSpent, SeatStands, ServesDoorSeated, seat_number, seat_pass, seat_rooms}
-use Rattle.link_service.specs.Service.{AllWorked, PostWork, ServesPost, Tends, at_door, at_flushes, at_moves, told_of}
-use Rattle.link_service.specs.Serving.{ServesLink}
+use Rattle.serving.proofs.Works.{nothing_since, own_map}
+use Rattle.service.specs.declared.door.DoorServed.{DoorServed}
+use Rattle.service.specs.declared.door.DoorServed.TheVariants as door
+use Rattle.service.specs.declared.posts.Post.{Post}
+use Rattle.service.specs.declared.served.Kind.{Kind}
+use Rattle.service.specs.declared.served.Kind.TheVariants.{Feed, Http}
+use Rattle.service.specs.declared.served.Served.{Served}
+use Rattle.service.specs.declared.service.AllServed.{AllServed}
+use Rattle.service.specs.Doors.{AsksToEnd, CountsOff, InTurn, IsServed, ServesDoor, ServesLinkTold, Shift, no_link, one_more_link}
+use Rattle.service.specs.Seats.{SeatBetween, SeatSpent, SeatStands, ServesDoorSeated, seat_number, seat_pass, seat_rooms}
+use Rattle.service.specs.Service.{AllWorked, PostWork, ServesPost, Tends, at_door, at_flushes, at_moves, told_of}
+use Rattle.service.specs.Serving.{ServesLink}
 use Rattle.archiver_appliance.specs.Serving.{EachOf}
 use Rattle.archiver_appliance.specs.Sessions.{Given, KeepsAll, Knower, KnowsMost, Learns, PostGiven, ServesFrom, ServesIn, Tended, acts_under}
 use Rattle.archiver_appliance.proofs.Histories.{link_known, link_leads, made_known, spent_known}

@@ -20,17 +20,17 @@ use Rattle.act_model.specs.Machine.{Machine}
 use Rattle.act_model.specs.Reply.{Reply}
 use Rattle.archive_actors.specs.declared.seated.Seated.{Seated}
 use Rattle.archive_actors.specs.declared.shared.Shared.{Shared}
-use Rattle.serving_end.specs.declared.ends.FlushEnd.{FlushEnd}
-use Rattle.serving_end.specs.declared.ends.MoverEnd.{MoverEnd}
-use Rattle.link_service.specs.declared.door.DoorServed.{DoorServed}
-use Rattle.link_service.specs.declared.door.DoorServed.TheVariants as door
-use Rattle.link_service.specs.declared.posts.Post.{Post}
-use Rattle.link_service.specs.declared.served.Kind.{Kind}
-use Rattle.link_service.specs.declared.service.AllServed.{AllServed}
-use Rattle.link_service.specs.Doors.{ServesDoorAt}
-use Rattle.link_service.specs.Seats.{SeatBetween, SeatSpent, seat_number, seat_pass}
-use Rattle.link_service.specs.Service.{AllWorked, PostWork, ServesPost, at_door, at_flushes, at_moves, finds_none}
-use Rattle.link_service.specs.Serving.{WasSpent}
+use Rattle.serving.specs.declared.ends.FlushEnd.{FlushEnd}
+use Rattle.serving.specs.declared.ends.MoverEnd.{MoverEnd}
+use Rattle.service.specs.declared.door.DoorServed.{DoorServed}
+use Rattle.service.specs.declared.door.DoorServed.TheVariants as door
+use Rattle.service.specs.declared.posts.Post.{Post}
+use Rattle.service.specs.declared.served.Kind.{Kind}
+use Rattle.service.specs.declared.service.AllServed.{AllServed}
+use Rattle.service.specs.Doors.{ServesDoorAt}
+use Rattle.service.specs.Seats.{SeatBetween, SeatSpent, seat_number, seat_pass}
+use Rattle.service.specs.Service.{AllWorked, PostWork, ServesPost, at_door, at_flushes, at_moves, finds_none}
+use Rattle.service.specs.Serving.{WasSpent}
 
 -- ONE AT A DOOR
 

@@ -12,12 +12,12 @@ use Rattle.act_model.specs.Reply.{Reply}
 use Rattle.act_model.specs.Sound.{IsSound}
 use Rattle.act_model.specs.Step.{Step}
 use Rattle.act_model.proofs.Histories.{cut_at, runs_onward, steps_at}
-use Rattle.serving_end.specs.Rounds.{EndsMoves, IsOfStore, at_its_begin, at_a_step}
-use Rattle.serving_loops.specs.Due.{MovesDue, StopsIn, in_short, in_medium, at_sweep}
-use Rattle.serving_loops.specs.Moves.{StoppedBy}
-use Rattle.serving_loops.specs.declared.due.DueMoved.{DueMoved}
-use Rattle.serving_loops.specs.declared.moves.MoveErr.{MoveErr}
-use Rattle.serving_loops.specs.declared.moves.MoveErr.TheVariants as err
+use Rattle.serving.specs.Rounds.{EndsMoves, IsOfStore, at_its_begin, at_a_step}
+use Rattle.serving.specs.Due.{MovesDue, StopsIn, in_short, in_medium, at_sweep}
+use Rattle.serving.specs.Moves.{StoppedBy}
+use Rattle.serving.specs.declared.due.DueMoved.{DueMoved}
+use Rattle.serving.specs.declared.moves.MoveErr.{MoveErr}
+use Rattle.serving.specs.declared.moves.MoveErr.TheVariants as err
 use Rattle.archiver_appliance.specs.Moving.{TellsMoved}
 use Rattle.archiver_appliance.specs.Outside.{IsCausedBy}
 use Rattle.command_words.specs.declared.command.StoreCommand.TheVariants as command

@@ -18,7 +18,7 @@ use Rattle.drill_feed.specs.Workload.{name_text, now_of}
 use Rattle.drill_feed.specs.declared.report.Tally.{Tally}
 use Rattle.drill_feed.specs.declared.tiers.Tiers.{Tiers}
 use Rattle.pb_wire.specs.declared.payload.PayloadType.TheVariants.{ScalarInt}
-use Rattle.event_types.specs.declared.about.Method.TheVariants.{Monitor}
+use Rattle.pb_messages.specs.declared.about.Method.TheVariants.{Monitor}
 use Rattle.turn_rooms.specs.Histories.{most_acts}
 use Rattle.tier_store.specs.Change.{IsEither}
 use Rattle.tier_store.specs.Stores.{Stores}
@@ -37,13 +37,13 @@ use Rattle.archive_core.specs.Parts.{parts}
 use Rattle.archive_core.specs.Stands.{HoldsDurable, Stands}
 use Rattle.archive_core.specs.declared.archive.Archive.{Archive}
 use Rattle.retrieval_query.specs.Retrieving.{ReadsHeaders}
-use Rattle.serving_end.specs.End.{EndsWell}
-use Rattle.serving_loops.specs.declared.due.DueMoved.{DueMoved}
-use Rattle.serving_loops.specs.Due.{MovesAll}
-use Rattle.link_service.specs.declared.posts.Post.{Post}
-use Rattle.link_service.specs.declared.served.Kind.TheVariants.{Feed}
-use Rattle.link_service.specs.declared.service.AllServed.{AllServed}
-use Rattle.link_service.specs.Doors.{IsServed}
+use Rattle.serving.specs.End.{EndsWell}
+use Rattle.serving.specs.declared.due.DueMoved.{DueMoved}
+use Rattle.serving.specs.Due.{MovesAll}
+use Rattle.service.specs.declared.posts.Post.{Post}
+use Rattle.service.specs.declared.served.Kind.TheVariants.{Feed}
+use Rattle.service.specs.declared.service.AllServed.{AllServed}
+use Rattle.service.specs.Doors.{IsServed}
 use Rattle.archiver_appliance.specs.Acting.{Acts, IsOpenedOn, OpensAgain}
 use Rattle.archiver_appliance.specs.Serving.{PostsLeft}
 use Rattle.archiver_appliance.specs.Tallying.{AreTallied}

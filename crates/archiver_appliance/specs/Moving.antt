@@ -8,10 +8,10 @@ use Rattle.disk_model.specs.Past.{Past}
 use Rattle.etl_rules.specs.Config.{ConfigState}
 use Rattle.tier_store.specs.Stores.{Stores}
 use Rattle.act_model.specs.History.{Done}
-use Rattle.serving_loops.specs.Due.{MovesDue}
-use Rattle.serving_loops.specs.declared.due.DueMoved.{DueMoved}
-use Rattle.serving_loops.specs.declared.moves.MoveErr.{MoveErr}
-use Rattle.serving_loops.specs.declared.moves.MoveErr.TheVariants as err
+use Rattle.serving.specs.Due.{MovesDue}
+use Rattle.serving.specs.declared.due.DueMoved.{DueMoved}
+use Rattle.serving.specs.declared.moves.MoveErr.{MoveErr}
+use Rattle.serving.specs.declared.moves.MoveErr.TheVariants as err
 use Rattle.command_words.specs.declared.status.Status.{Status}
 use Rattle.command_words.specs.declared.status.Status.TheVariants.{Done as IsDone, SinkFault, DiskFault, Damaged, OutOfMemory}
 use Rattle.archiver_appliance.specs.Acting.{ActsFrom}

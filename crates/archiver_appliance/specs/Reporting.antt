@@ -4,8 +4,8 @@ use Rattle.std.specs.List.{flat_map}
 use Rattle.std.specs.Io.KnownBytes.{Appends}
 use Rattle.edge_io.specs.Stream.{AppendsFront}
 use Rattle.disk_model.specs.Files.{Name, Files}
-use Rattle.piece_choice.specs.Choosing.{listed}
-use Rattle.piece_choice.specs.declared.choosing.Listed.{Listed}
+use Rattle.pins.specs.Choosing.{listed}
+use Rattle.pins.specs.declared.choosing.Listed.{Listed}
 use Rattle.pv_catalog.specs.Lines.{line as line_of}
 use Rattle.pv_catalog.specs.declared.row.Row.{Row}
 use Rattle.store_manifest.specs.declared.entry.Entry.{Entry}

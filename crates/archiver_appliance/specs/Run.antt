@@ -4,8 +4,8 @@ use Rattle.act_model.specs.History.{Entry}
 use Rattle.act_model.specs.Machine.{Machine}
 use Rattle.disk_model.specs.Files.{Files}
 use Rattle.edge_io.specs.Stream.{Rose}
-use Rattle.link_service.specs.declared.posts.Post.{Post}
-use Rattle.link_service.specs.declared.service.AllServed.{AllServed}
+use Rattle.service.specs.declared.posts.Post.{Post}
+use Rattle.service.specs.declared.service.AllServed.{AllServed}
 use Rattle.disk_model.specs.Past.{Past, Passes}
 use Rattle.etl_rules.specs.Config.{ConfigState}
 use Rattle.partition_names.specs.declared.granularity.Granularity.{Granularity}

@@ -26,16 +26,16 @@ use Rattle.archive_core.specs.Running.{HoldsBetween, RunsOn}
 use Rattle.archive_core.specs.Stands.{Stands}
 use Rattle.archive_core.specs.declared.archive.Archive.{Archive}
 use Rattle.archiver_appliance.specs.declared.observed.Observed.{Observed}
-use Rattle.serving_end.specs.End.{EndsWell}
-use Rattle.serving_end.specs.declared.ends.FlushEnd.{FlushEnd}
-use Rattle.serving_end.specs.declared.ends.MoverEnd.{MoverEnd}
-use Rattle.link_service.specs.declared.door.DoorServed.{DoorServed}
-use Rattle.link_service.specs.declared.door.DoorServed.TheVariants as door
-use Rattle.link_service.specs.declared.posts.Post.{Post}
-use Rattle.link_service.specs.declared.served.Kind.{Kind}
-use Rattle.link_service.specs.declared.service.AllServed.{AllServed}
-use Rattle.link_service.specs.Doors.{IsAtEnd, with_back}
-use Rattle.link_service.specs.Service.{at_door, at_flushes, at_moves, told_of, told_want}
+use Rattle.serving.specs.End.{EndsWell}
+use Rattle.serving.specs.declared.ends.FlushEnd.{FlushEnd}
+use Rattle.serving.specs.declared.ends.MoverEnd.{MoverEnd}
+use Rattle.service.specs.declared.door.DoorServed.{DoorServed}
+use Rattle.service.specs.declared.door.DoorServed.TheVariants as door
+use Rattle.service.specs.declared.posts.Post.{Post}
+use Rattle.service.specs.declared.served.Kind.{Kind}
+use Rattle.service.specs.declared.service.AllServed.{AllServed}
+use Rattle.service.specs.Doors.{IsAtEnd, with_back}
+use Rattle.service.specs.Service.{at_door, at_flushes, at_moves, told_of, told_want}
 use Rattle.command_words.specs.declared.status.Status.{Status}
 use Rattle.command_words.specs.declared.status.Status.TheVariants.{Done, DiskFault, Damaged, OutOfMemory, GranularityDiffers, DoorFault, Spent}
 use Rattle.archiver_appliance.specs.Acting.{IsOpenedOn, OpensAgain}

@@ -8,19 +8,19 @@ use Rattle.act_model.specs.History.{Done, Entry, Runs, mine, own}
 use Rattle.act_model.specs.Machine.{Machine}
 use Rattle.feed_session.specs.Durable.{KeptAreDurable, SaysDurable}
 use Rattle.feed_session.specs.Session.{acts_of}
-use Rattle.serving_end.specs.declared.ends.FlushEnd.{FlushEnd}
-use Rattle.serving_end.specs.declared.ends.MoverEnd.{MoverEnd}
-use Rattle.serving_loops.specs.Flushes.{FlushesTo}
-use Rattle.serving_loops.specs.Moves.{MovesTo}
-use Rattle.link_service.specs.declared.door.DoorServed.{DoorServed}
-use Rattle.link_service.specs.declared.posts.Post.{Post}
-use Rattle.link_service.specs.declared.served.Kind.{Kind}
-use Rattle.link_service.specs.declared.served.Kind.TheVariants.{Feed, Http}
-use Rattle.link_service.specs.declared.served.Served.{Served}
-use Rattle.link_service.specs.declared.service.AllServed.{AllServed}
-use Rattle.link_service.specs.Doors.{IsServed, ServesDoor}
-use Rattle.link_service.specs.Service.{at_door, at_flushes, at_moves, told_of}
-use Rattle.link_service.specs.Serving.{ServesLink}
+use Rattle.serving.specs.declared.ends.FlushEnd.{FlushEnd}
+use Rattle.serving.specs.declared.ends.MoverEnd.{MoverEnd}
+use Rattle.serving.specs.Flushes.{FlushesTo}
+use Rattle.serving.specs.Moves.{MovesTo}
+use Rattle.service.specs.declared.door.DoorServed.{DoorServed}
+use Rattle.service.specs.declared.posts.Post.{Post}
+use Rattle.service.specs.declared.served.Kind.{Kind}
+use Rattle.service.specs.declared.served.Kind.TheVariants.{Feed, Http}
+use Rattle.service.specs.declared.served.Served.{Served}
+use Rattle.service.specs.declared.service.AllServed.{AllServed}
+use Rattle.service.specs.Doors.{IsServed, ServesDoor}
+use Rattle.service.specs.Service.{at_door, at_flushes, at_moves, told_of}
+use Rattle.service.specs.Serving.{ServesLink}
 use Rattle.archiver_appliance.specs.Serving.{EachOf}
 
 -- ONE WHO ACTS

@@ -6,7 +6,7 @@ use crate::stopping::{Ports, Stop};
 use crate::telling::Telling;
 use command_words::ServeWords;
 use edge_io::{Door, Limits, Next, TcpDoor, TcpLink};
-use link_service::{Kind, Post};
+use service::{Kind, Post};
 use std::alloc::{AllocError, Global};
 use std::io;
 use std::net::{Net, TcpListener, TcpStream};

@@ -1,7 +1,7 @@
 // The feeds that wait at their port.
 use crate::stopping::{Ports, Stop};
 use crate::telling::tell;
-use link_service::Kind;
+use service::Kind;
 use std::fs;
 
 // So many seconds lie between two lines at least.

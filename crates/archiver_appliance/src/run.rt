@@ -11,7 +11,7 @@ ghost use Rattle.command_words.specs.declared.command.StoreCommand.{StoreCommand
 ghost use Rattle.command_words.specs.declared.command.StoreCommand.TheVariants as asked;
 ghost use Rattle.command_words.specs.declared.service_words.ServeWords.{ServeWords as Numbers};
 ghost use Rattle.command_words.specs.declared.status.Status.{Status as StatusValue};
-ghost use Rattle.link_service.specs.Doors.{IsServed};
+ghost use Rattle.service.specs.Doors.{IsServed};
 ghost use Rattle.archiver_appliance.specs.Serving.{ServesPosts};
 ghost use Rattle.archiver_appliance.specs.Sessions.{Given};
 ghost use Rattle.command_words.specs.Command.{IsCommand, IsFaulty};
@@ -27,7 +27,7 @@ use command_words::{Command, Status, command_of, complain};
 use disk_model::Disk;
 use edge_io::{Clock, Door, Sink, Source};
 use etl_rules::Config;
-use link_service::Post;
+use service::Post;
 use std::alloc::Global;
 use std::sync::Wait;
 use std::thread::Threads;

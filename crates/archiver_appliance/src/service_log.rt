@@ -2,8 +2,8 @@
 use crate::drops::{Drops, Whose};
 use disk_model::FileName;
 use folder_disk::{Faults, Met};
-use link_service::Gate;
 use series_model::Reason;
+use service::Gate;
 use std::alloc::{AllocError, Global};
 use std::sync::{Arc, Mutex, MutexGuard};
 use std::thread::yield_now;

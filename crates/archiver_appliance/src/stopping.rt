@@ -3,7 +3,7 @@ use crate::queue::Queue;
 use crate::service_log::Log;
 use crate::teller::Teller;
 use crate::telling::tell;
-use link_service::Kind;
+use service::Kind;
 use std::alloc::{AllocError, Global};
 use std::fs::{self, Files};
 use std::io::ErrorKind;

@@ -6,7 +6,7 @@ ghost use Rattle.archiver_appliance.specs.Tallying.{AreTallied, IsEarly, IsTally
 use act_model::{Out, OutErr};
 use arch_time::END;
 use drill_feed::Tally;
-use event_types::About;
+use pb_messages::About;
 use series_model::Query;
 
 /// An output that keeps of an answer how many samples it has, and the moments of the first and the last.

@@ -2,7 +2,7 @@
 use Rattle.std.proofs.Common.{ℕ, ◌<◌, None, arith, refl}
 use Rattle.std.specs.Int.{IsInRange}
 use Rattle.line_escape.proofs.EscapingLemmas.{escaped-HasNoNewline}
-use Rattle.payload_info.specs.Spelling.{info_text}
+use Rattle.pb_messages.specs.InfoSpelling.{info_text}
 use Rattle.pb_lines.specs.File.{IsFile}
 use Rattle.pb_lines.specs.Stream.{IsWholeStream}
 use Rattle.drill_feed.specs.Workload.{chunk_text, head_of, header_of, items_of, samples}

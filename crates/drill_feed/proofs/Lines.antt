@@ -10,11 +10,11 @@ use Rattle.pb_wire.specs.Spelling.{number, number_text}
 use Rattle.line_escape.specs.Escaping.{escaped, needs_pair}
 use Rattle.line_escape.proofs.EscapingLemmas.{escaped-Means, length-escaped}
 use Rattle.arch_time.specs.YearTime.{moment}
-use Rattle.event_types.specs.Event.{event_of, stamp_of}
-use Rattle.event_types.specs.Spelling.{event_text, FitsEvent}
-use Rattle.event_types.proofs.RoundTrip.{event_back}
-use Rattle.payload_info.specs.Spelling.{info_text, FitsInfo}
-use Rattle.payload_info.proofs.RoundTrip.{info_back}
+use Rattle.pb_messages.specs.Event.{event_of, stamp_of}
+use Rattle.pb_messages.specs.Spelling.{event_text, FitsEvent}
+use Rattle.pb_messages.proofs.RoundTrip.{event_back}
+use Rattle.pb_messages.specs.InfoSpelling.{info_text, FitsInfo}
+use Rattle.pb_messages.proofs.InfoRoundTrip.{info_back}
 use Rattle.pb_lines.specs.Header.{IsHeaderLine}
 use Rattle.pb_lines.specs.Sample.{IsSampleLine}
 use Rattle.drill_feed.specs.Workload.{event, head_of, header_of}

@@ -11,7 +11,7 @@ use Rattle.arch_time.specs.YearTime.{moment}
 use Rattle.arch_time.proofs.CalendarLemmas.{years_1970}
 use Rattle.series_model.specs.declared.sample.Sample.{Sample}
 use Rattle.series_model.specs.Series.{IsRising}
-use Rattle.event_types.specs.Spelling.{event_text}
+use Rattle.pb_messages.specs.Spelling.{event_text}
 use Rattle.drill_feed.specs.Workload.{event_at, header_of, minutes, now_of, sample_at, samples, second_at, value_at}
 use Rattle.drill_feed.proofs.Drawing.{drawn_small}
 use Rattle.drill_feed.proofs.Lines.{is_sample_line, line_short, line_some}

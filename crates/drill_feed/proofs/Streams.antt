@@ -4,7 +4,7 @@ use Rattle.std.specs.List.{AllByRecursion}
 use Rattle.line_escape.specs.Unescaping.{HasNoNewline}
 use Rattle.edge_io.specs.declared.lines.LineRead.TheVariants.{End}
 use Rattle.series_model.specs.declared.sample.Sample.{Sample}
-use Rattle.payload_info.specs.declared.info.PayloadInfo.{PayloadInfo}
+use Rattle.pb_messages.specs.declared.info.PayloadInfo.{PayloadInfo}
 use Rattle.pb_lines.specs.File.{AreSamples, IsSample, lines_of}
 use Rattle.pb_lines.specs.Header.{IsHeaderLine}
 use Rattle.pb_lines.specs.Stream.{IsItems, IsLines, IsWholeStream, header, sample, chunk_end, within}

@@ -5,11 +5,11 @@ use Rattle.pb_wire.specs.declared.payload.PayloadType.TheVariants.{ScalarInt}
 use Rattle.line_escape.specs.Escaping.{escaped}
 use Rattle.arch_time.specs.YearTime.{moment}
 use Rattle.series_model.specs.declared.sample.Sample.{Sample}
-use Rattle.event_types.specs.declared.event.Event.{Event}
-use Rattle.event_types.specs.declared.value.Value.TheVariants.{Int}
-use Rattle.event_types.specs.Spelling.{event_text}
-use Rattle.payload_info.specs.declared.info.PayloadInfo.{PayloadInfo}
-use Rattle.payload_info.specs.Spelling.{info_text}
+use Rattle.pb_messages.specs.declared.event.Event.{Event}
+use Rattle.pb_messages.specs.declared.value.Value.TheVariants.{Int}
+use Rattle.pb_messages.specs.Spelling.{event_text}
+use Rattle.pb_messages.specs.declared.info.PayloadInfo.{PayloadInfo}
+use Rattle.pb_messages.specs.InfoSpelling.{info_text}
 use Rattle.pb_lines.specs.File.{lines_of}
 use Rattle.pb_lines.specs.Stream.{Item, header, sample, chunk_end}
 

@@ -1,17 +1,16 @@
 // The bytes of a feed: one chunk, of one variable.
 ghost use Rattle.std.specs.Prelude.{◌≡◌, ◌<◌, ◌^◌, ◌∷◌, [], ◌++◌, IfOk, None, OnOk};
 ghost use Rattle.line_escape.specs.Escaping.{escaped};
-ghost use Rattle.event_types.specs.Spelling.{event_text};
+ghost use Rattle.pb_messages.specs.Spelling.{event_text};
 ghost use Rattle.pb_lines.specs.File.{lines_of};
 ghost use Rattle.pb_lines.specs.Stream.{IsWholeStream};
 ghost use Rattle.drill_feed.specs.Workload.{chunk_text, event, header_of, items_of, samples};
 
 use crate::draws::Draws;
 use crate::drill::{Drill, VARIABLES, name_of};
-use event_types::{Event, PayloadType, Value, encode};
 use line_escape::escape;
-use payload_info::PayloadInfo;
 use pb_lines::header_line;
+use pb_messages::{Event, PayloadInfo, PayloadType, Value, encode};
 use series_model::{Blob, Pairs};
 use std::alloc::{AllocError, Global};
 

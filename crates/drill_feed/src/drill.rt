@@ -2,12 +2,12 @@
 ghost use Rattle.std.specs.Prelude.{◌≡◌, ℕ, ◌<◌, ◌↔◌, [], pos, IfOk, IfSome, IsSome, None};
 ghost use Rattle.std.specs.Int.{IsInRange};
 ghost use Rattle.arch_time.specs.YearTime.{moment};
-ghost use Rattle.event_types.specs.declared.about.Method.TheVariants.{Monitor};
+ghost use Rattle.pb_messages.specs.declared.about.Method.TheVariants.{Monitor};
 ghost use Rattle.pb_wire.specs.declared.payload.PayloadType.TheVariants.{ScalarInt};
 ghost use Rattle.drill_feed.specs.Workload.{minutes, name_text, now_of};
 
 use arch_time::NANOS_PER_SECOND;
-use event_types::{About, Method, PayloadType};
+use pb_messages::{About, Method, PayloadType};
 use series_model::Pairs;
 use std::alloc::Global;
 

@@ -10,7 +10,7 @@ use Rattle.std.proofs.lemmas.List.Elements.{All-filter, All-contains, All-nil, C
 use Rattle.line_escape.specs.Escaping.{escaped}
 use Rattle.series_model.specs.declared.sample.Sample.{Sample}
 use Rattle.series_model.specs.Series.{end_of}
-use Rattle.payload_info.specs.Spelling.{info_text}
+use Rattle.pb_messages.specs.InfoSpelling.{info_text}
 use Rattle.partition_names.specs.declared.granularity.Granularity.{Granularity}
 use Rattle.partition_names.specs.declared.part.Part.{Part}
 use Rattle.partition_names.specs.Part.{IsPart, HoldsMoment}

@@ -7,15 +7,15 @@ use Rattle.arch_time.specs.YearTime.{IsSampleYear}
 use Rattle.arch_time.proofs.YearLemmas.{sample_year}
 use Rattle.line_escape.specs.Escaping.{escaped}
 use Rattle.line_escape.proofs.EscapingLemmas.{escaped-HasNoNewline, escaped-Means}
-use Rattle.payload_info.proofs.RoundTrip.{info_back}
+use Rattle.pb_messages.proofs.InfoRoundTrip.{info_back}
 use Rattle.series_model.specs.declared.sample.Sample.{Sample}
 use Rattle.series_model.specs.Series.{end_of, end_from, RisesFrom, IsRising}
 use Rattle.series_model.proofs.RisingLists.{end_from-append, end_from-ge}
 use Rattle.partition_names.specs.declared.granularity.Granularity.{Granularity}
 use Rattle.partition_names.specs.declared.part.Part.{Part}
 use Rattle.partition_names.specs.Part.{IsPart, HoldsMoment}
-use Rattle.payload_info.specs.declared.info.PayloadInfo.{PayloadInfo}
-use Rattle.payload_info.specs.Spelling.{info_text, FitsInfo}
+use Rattle.pb_messages.specs.declared.info.PayloadInfo.{PayloadInfo}
+use Rattle.pb_messages.specs.InfoSpelling.{info_text, FitsInfo}
 use Rattle.pv_catalog.specs.declared.row.Row.{Row}
 use Rattle.pb_lines.specs.File.{IsFile, IsSample, AreSamples, lines_of}
 use Rattle.durable_write.specs.Held.{Filed, IsFiled, bytes_of}

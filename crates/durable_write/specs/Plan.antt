@@ -3,7 +3,7 @@ use Rattle.std.specs.Prelude.{◌≡◌, ◌≢◌, ◌⊎◌, ◌<◌, ◌≤�
 use Rattle.std.specs.List.{AllByRecursion}
 use Rattle.arch_time.specs.YearTime.{IsSampleYear}
 use Rattle.line_escape.specs.Escaping.{escaped}
-use Rattle.payload_info.specs.Spelling.{info_text, FitsInfo}
+use Rattle.pb_messages.specs.InfoSpelling.{info_text, FitsInfo}
 use Rattle.series_model.specs.declared.sample.Sample.{Sample}
 use Rattle.series_model.specs.declared.batch.RowSamples.{RowSamples}
 use Rattle.series_model.specs.Series.{over}

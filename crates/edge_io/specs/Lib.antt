@@ -4,3 +4,4 @@ pub mod Memory
 pub mod Moments
 pub mod Doors
 pub mod Paces
+pub mod Sent

@@ -5,7 +5,7 @@ ghost use Rattle.arch_time.specs.YearTime.{IsSampleYear};
 ghost use Rattle.line_escape.specs.Unescaping.{HasNoNewline};
 ghost use Rattle.pb_wire.specs.declared.payload.PayloadType.{PayloadType as PayloadTypeValue};
 ghost use Rattle.pb_lines.specs.Header.{IsHeaderLine};
-ghost use Rattle.payload_info.specs.declared.info.PayloadInfo.{PayloadInfo as PayloadInfoValue};
+ghost use Rattle.pb_messages.specs.declared.info.PayloadInfo.{PayloadInfo as PayloadInfoValue};
 ghost use Rattle.etl_mover.specs.Lines.{TakesLines};
 ghost use Rattle.etl_mover.specs.Copying.{starts, fresh, anew, after, last_of, SetsLast};
 
@@ -14,8 +14,8 @@ use crate::moving::Move;
 use arch_time::YearStart;
 use line_escape::line_len;
 use partition_names::Part;
-use payload_info::PayloadInfo;
 use pb_lines::{HeadErr, header_of_line};
+use pb_messages::PayloadInfo;
 use std::alloc::{AllocError, Global};
 use store_manifest::Entry;
 

@@ -3,9 +3,9 @@ ghost use Rattle.std.specs.Prelude.{◌≡◌, ◌≤◌, ◌<◌, length, IfOk,
 ghost use Rattle.etl_mover.specs.Lines.{TakesLines, with_line};
 
 use arch_time::YearStart;
-use event_types::PayloadType;
 use line_escape::line_len;
 use pb_lines::{LineErr, moment_of_line};
+use pb_messages::PayloadType;
 use std::alloc::AllocError;
 use store_manifest::Entry;
 

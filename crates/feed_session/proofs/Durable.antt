@@ -4,8 +4,8 @@ use Rattle.std.specs.Prelude.{◌==◌, slice_get}
 use Rattle.std.specs.List.{Contains}
 use Rattle.std.proofs.lemmas.Bool.Decides.{nat_tests}
 use Rattle.std.proofs.lemmas.List.Elements.{Contains-append_left, Contains-append_right, Contains-push}
-use Rattle.event_types.specs.declared.about.Method.{Method}
-use Rattle.event_types.specs.declared.about.Method.TheVariants.{Monitor, Scan}
+use Rattle.pb_messages.specs.declared.about.Method.{Method}
+use Rattle.pb_messages.specs.declared.about.Method.TheVariants.{Monitor, Scan}
 use Rattle.pb_lines.specs.Stream.{Item}
 use Rattle.pb_wire.specs.declared.payload.PayloadType.{PayloadType}
 use Rattle.series_model.specs.Admission.{admit_before}

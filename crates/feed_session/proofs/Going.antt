@@ -6,7 +6,7 @@ use Rattle.std.proofs.lemmas.List.{map-append}
 use Rattle.std.proofs.lemmas.Grind.{flat_map-append}
 use Rattle.edge_io.specs.Moments.{Moments, Gives}
 use Rattle.edge_io.proofs.Clocks.{gives_on}
-use Rattle.payload_info.specs.declared.info.PayloadInfo.{PayloadInfo}
+use Rattle.pb_messages.specs.declared.info.PayloadInfo.{PayloadInfo}
 use Rattle.pb_lines.specs.Stream.{Item, header}
 use Rattle.pb_lines.specs.Reader.{Chunks, IsFresh, Passes, to_come}
 use Rattle.act_model.specs.declared.acts.Act.{Act}

@@ -1,7 +1,7 @@
 -- What was read of a stream, from its start.
 use Rattle.std.proofs.Common.{◌≡◌, ◌∙◌, sym, subst, ℕ, List, [], ◌++◌, append-nil, arith, inl, inr, lit≤, ◌+◌, ◌^◌, ◌≤◌, Option, Some, None}
 use Rattle.std.specs.Prelude.{IfSome}
-use Rattle.payload_info.specs.declared.info.PayloadInfo.{PayloadInfo}
+use Rattle.pb_messages.specs.declared.info.PayloadInfo.{PayloadInfo}
 use Rattle.pb_lines.specs.declared.reader.ChunkItem.TheVariants as it
 use Rattle.pb_lines.specs.Stream.{Item, Stop, IsWholeStream, first_section}
 use Rattle.pb_lines.specs.Reader.{Chunks, IsFresh, Passes, IsLineOf, Stops, bytes_taken, lines_taken, to_come, work_left}

@@ -7,7 +7,7 @@ use Rattle.std.proofs.Math.Seq.{take-nil}
 use Rattle.edge_io.specs.Moments.{Moments}
 use Rattle.edge_io.specs.Stream.{AppendsFront}
 use Rattle.edge_io.proofs.Writes.{appends_more, front_more}
-use Rattle.payload_info.specs.declared.info.PayloadInfo.{PayloadInfo}
+use Rattle.pb_messages.specs.declared.info.PayloadInfo.{PayloadInfo}
 use Rattle.pb_lines.specs.Stream.{Item, header, sample, chunk_end}
 use Rattle.pb_lines.specs.Reader.{Chunks, IsFresh, to_come}
 use Rattle.series_model.specs.declared.sample.Sample.{Sample}

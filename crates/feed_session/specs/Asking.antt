@@ -1,7 +1,7 @@
 -- What one who acts made of what an item asks for: all of it, or as much as was answered before an act failed, no act was left, or memory
 -- was wanting.
 use Rattle.std.specs.Prelude.{◌≡◌, ◌⊎◌, ℕ, ◌+◌, List, [], ◌∷◌, true, Option, Some, None, Result, Ok, Err, MatchResult}
-use Rattle.payload_info.specs.declared.info.PayloadInfo.{PayloadInfo}
+use Rattle.pb_messages.specs.declared.info.PayloadInfo.{PayloadInfo}
 use Rattle.act_model.specs.declared.acts.Act.{Act}
 use Rattle.act_model.specs.declared.acts.Answer.TheVariants as answer
 use Rattle.act_model.specs.History.{Entry, Done, Made}

@@ -3,7 +3,7 @@
 use Rattle.std.specs.Prelude.{◌≡◌, ◌⊎◌, ℕ, List, [], ◌∷◌, ◌++◌, map, Option, Some, None, IfSome, Bool, true, false}
 use Rattle.std.specs.List.{count_by, flat_map}
 use Rattle.edge_io.specs.Moments.{Moments, Gives}
-use Rattle.payload_info.specs.declared.info.PayloadInfo.{PayloadInfo}
+use Rattle.pb_messages.specs.declared.info.PayloadInfo.{PayloadInfo}
 use Rattle.pb_lines.specs.Stream.{Item, Stop, IsWholeStream}
 use Rattle.act_model.specs.declared.acts.Act.{Act}
 use Rattle.act_model.specs.declared.acts.Answer.TheVariants as answer

@@ -105,11 +105,11 @@ pub fn type_name(case: &mut Case<'_>) -> Result<(), AllocError> {
 // The moment alone, the event, and its message.
 pub fn event(case: &mut Case<'_>) -> Result<(), AllocError> {
     let (ty, bytes) = (case.payload_type(), case.bytes());
-    case.tell(format_args!("{:?} ", event_types::stamp(ty, &bytes)))?;
-    match event_types::decode(case.alloc, ty, &bytes) {
+    case.tell(format_args!("{:?} ", pb_messages::stamp(ty, &bytes)))?;
+    match pb_messages::decode(case.alloc, ty, &bytes) {
         Ok(event) => {
             let mut out = Vec::new(case.alloc);
-            event_types::encode(ty, &event, &mut out)?;
+            pb_messages::encode(ty, &event, &mut out)?;
             case.tell(format_args!("{event:?} "))?;
             case.tell_hex(&out)
         }
@@ -120,10 +120,10 @@ pub fn event(case: &mut Case<'_>) -> Result<(), AllocError> {
 // The header, its message and its line.
 pub fn header(case: &mut Case<'_>) -> Result<(), AllocError> {
     let bytes = case.bytes();
-    match payload_info::decode_info(case.alloc, &bytes) {
+    match pb_messages::decode_info(case.alloc, &bytes) {
         Ok(info) => {
             let mut out = Vec::new(case.alloc);
-            payload_info::encode_info(&info, &mut out)?;
+            pb_messages::encode_info(&info, &mut out)?;
             case.tell(format_args!("{info:?} "))?;
             case.tell_hex(&out)?;
             let mut line = Vec::new(case.alloc);

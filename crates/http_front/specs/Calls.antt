@@ -1,7 +1,7 @@
 -- The call that a request asks for. A target is a path, or a path, a question mark and a query.
 use Rattle.std.specs.Prelude.{◌≡◌, ◌≢◌, ℕ, List, [], codes, None, IfSome, Result, Ok, Err, ⊤}
 use Rattle.form_urlencoded.specs.Form.{split_once}
-use Rattle.event_types.specs.declared.about.About.{About}
+use Rattle.pb_messages.specs.declared.about.About.{About}
 use Rattle.sample_bins.specs.Bins.{IsInRange}
 use Rattle.http_front.specs.declared.path.Path.{Path}
 use Rattle.http_front.specs.declared.path.Path.TheVariants as served

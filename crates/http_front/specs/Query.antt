@@ -8,8 +8,8 @@ use Rattle.arch_time.specs.Iso.{IsIso}
 use Rattle.pv_name.specs.Name.{IsName}
 use Rattle.pb_wire.specs.Payload.{row_of}
 use Rattle.pb_wire.specs.declared.payload.PayloadType.{PayloadType}
-use Rattle.event_types.specs.declared.about.Method.{Method}
-use Rattle.event_types.specs.declared.about.Method.TheVariants.{Monitor, Scan}
+use Rattle.pb_messages.specs.declared.about.Method.{Method}
+use Rattle.pb_messages.specs.declared.about.Method.TheVariants.{Monitor, Scan}
 use Rattle.series_model.specs.declared.sample.Query.{Query}
 use Rattle.sample_bins.specs.declared.op.Op.{Op}
 use Rattle.sample_bins.specs.Words.{Asks}

@@ -8,7 +8,7 @@ ghost use Rattle.http_front.specs.Calls.{IsAbout, Asks, path_in, query_in, CallO
 use crate::path::Path;
 use crate::query::{read_asked, read_interval, read_name, read_pv, read_sampling, read_type};
 use crate::request::{HttpErr, Param, Request, WebCall};
-use event_types::About;
+use pb_messages::About;
 use pv_name::PvName;
 use sample_bins::Op;
 use series_model::{Pairs, Query};

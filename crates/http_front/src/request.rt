@@ -3,7 +3,7 @@ ghost use Rattle.std.specs.Prelude.{◌≡◌};
 ghost use Rattle.http_front.specs.Param.{name_of};
 
 use edge_io::Failed;
-use event_types::About;
+use pb_messages::About;
 use pv_name::PvName;
 use sample_bins::Op;
 use series_model::Query;

@@ -7,10 +7,10 @@ use Rattle.line_escape.proofs.EscapingLemmas.{meaning_unique, bad_means_nothing}
 use Rattle.series_model.specs.declared.sample.Sample.{Sample}
 use Rattle.pb_wire.specs.declared.payload.PayloadType.{PayloadType}
 use Rattle.pb_wire.specs.declared.fault.FieldFault.{FieldFault}
-use Rattle.event_types.specs.declared.event.Event.{Event}
-use Rattle.event_types.specs.declared.error.EventErr.{EventErr}
-use Rattle.event_types.specs.declared.error.EventErr.TheVariants.{Fault}
-use Rattle.event_types.specs.Event.{event_of, stamp_of, Gives}
+use Rattle.pb_messages.specs.declared.event.Event.{Event}
+use Rattle.pb_messages.specs.declared.error.EventErr.{EventErr}
+use Rattle.pb_messages.specs.declared.error.EventErr.TheVariants.{Fault}
+use Rattle.pb_messages.specs.Event.{event_of, stamp_of, Gives}
 use Rattle.act_model.specs.Event.{IsEvent}
 use Rattle.json_out.specs.Line.{message_of, event_in}
 

@@ -3,12 +3,12 @@ use Rattle.std.proofs.Common.{◌≡◌, ℕ, Bool, true, List, [], ◌∷◌, �
 use Rattle.std.specs.Io.KnownBytes.{Appends}
 use Rattle.std.proofs.lemmas.List.{append-nil}
 use Rattle.edge_io.specs.Stream.{AppendsFront}
-use Rattle.sink_buffer.specs.Sent.{Sends}
-use Rattle.sink_buffer.proofs.Sending.{front_then, front_longer, sends_then, all_out, front_out}
+use Rattle.edge_io.specs.Sent.{Sends}
+use Rattle.edge_io.proofs.Sending.{front_then, front_longer, sends_then, all_out, front_out}
 use Rattle.series_model.specs.declared.sample.Sample.{Sample}
 use Rattle.pb_wire.specs.declared.payload.PayloadType.{PayloadType}
-use Rattle.event_types.specs.declared.about.About.{About}
-use Rattle.event_types.specs.declared.event.Event.{Event}
+use Rattle.pb_messages.specs.declared.about.About.{About}
+use Rattle.pb_messages.specs.declared.event.Event.{Event}
 use Rattle.act_model.specs.Out.{Subject}
 use Rattle.json_out.specs.Line.{event_in}
 use Rattle.json_out.specs.Json.{read_text, sample_text, samples_text, event_text, head_text, begun_text, json}

@@ -5,7 +5,7 @@ use Rattle.std.specs.Fmt.{signed_decimal}
 use Rattle.std.proofs.lemmas.List.{append-nil}
 use Rattle.std.specs.List.{flat_map}
 use Rattle.series_model.specs.declared.sample.Sample.{Sample}
-use Rattle.event_types.specs.declared.event.Event.{Event}
+use Rattle.pb_messages.specs.declared.event.Event.{Event}
 use Rattle.json_out.specs.Values.{separated, array_text, hex_digits, value_text}
 use Rattle.json_out.specs.Json.{event_text, fields_text}
 use Rattle.json_out.specs.Writing.{has_samples}

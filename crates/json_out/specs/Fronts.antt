@@ -4,10 +4,10 @@ use Rattle.std.specs.List.{flat_map}
 use Rattle.std.proofs.lemmas.List.{append-nil}
 use Rattle.std.proofs.lemmas.Grind.{flat_map-append}
 use Rattle.edge_io.specs.Stream.{AppendsFront}
-use Rattle.sink_buffer.proofs.Sending.{front_kept}
+use Rattle.edge_io.proofs.Sending.{front_kept}
 use Rattle.series_model.specs.declared.sample.Sample.{Sample}
 use Rattle.pb_wire.specs.declared.payload.PayloadType.{PayloadType}
-use Rattle.event_types.specs.declared.about.About.{About}
+use Rattle.pb_messages.specs.declared.about.About.{About}
 use Rattle.act_model.specs.Out.{Subject}
 use Rattle.json_out.specs.Values.{separated}
 use Rattle.json_out.specs.Json.{sample_text, samples_text, head_text, begun_text, json}

@@ -5,8 +5,8 @@ use Rattle.std.specs.Fmt.{signed_decimal}
 use Rattle.series_model.specs.declared.sample.Sample.{Sample}
 use Rattle.pb_wire.specs.declared.payload.PayloadType.{PayloadType}
 use Rattle.pb_wire.specs.declared.fault.FieldFault.{FieldFault}
-use Rattle.event_types.specs.declared.about.About.{About}
-use Rattle.event_types.specs.declared.event.Event.{Event}
+use Rattle.pb_messages.specs.declared.about.About.{About}
+use Rattle.pb_messages.specs.declared.event.Event.{Event}
 use Rattle.json_out.specs.Values.{separated, value_text}
 use Rattle.json_out.specs.Objects.{object_text}
 use Rattle.json_out.specs.Line.{event_in}

@@ -5,8 +5,8 @@ use Rattle.std.specs.Option.{option_to_list}
 use Rattle.line_escape.specs.Unescaping.{byte_of_pair}
 use Rattle.pb_wire.specs.declared.payload.PayloadType.{PayloadType}
 use Rattle.pb_wire.specs.declared.fault.FieldFault.{FieldFault}
-use Rattle.event_types.specs.declared.event.Event.{Event}
-use Rattle.event_types.specs.Event.{event_of}
+use Rattle.pb_messages.specs.declared.event.Event.{Event}
+use Rattle.pb_messages.specs.Event.{event_of}
 
 abbrev pub message_of : List ℕ → List ℕ
 message_of [] = []

@@ -7,8 +7,8 @@ use Rattle.std.specs.Fmt.{signed_decimal}
 use Rattle.std.specs.List.{join_with_byte}
 use Rattle.std.specs.Str.Lossy.{utf8_lossy}
 use Rattle.json.specs.Print.{quoted}
-use Rattle.event_types.specs.declared.value.Value.{Value}
-use Rattle.event_types.specs.declared.value.Value.TheVariants.{Str, Short, Float, Enum, Byte, Int, Double, Strs, Shorts, Floats, Enums, Bytes, IntList, Doubles}
+use Rattle.pb_messages.specs.declared.value.Value.{Value}
+use Rattle.pb_messages.specs.declared.value.Value.TheVariants.{Str, Short, Float, Enum, Byte, Int, Double, Strs, Shorts, Floats, Enums, Bytes, IntList, Doubles}
 
 -- a JSON string of these bytes
 abbrev pub string_text : List ℕ → List ℕ

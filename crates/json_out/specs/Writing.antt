@@ -3,7 +3,7 @@
 use Rattle.std.specs.Prelude.{◌≡◌, ℕ, Bool, true, false, List, [], ◌∷◌, ◌++◌, Option, Some}
 use Rattle.std.specs.Io.KnownBytes.{Appends}
 use Rattle.edge_io.specs.Stream.{AppendsFront}
-use Rattle.sink_buffer.specs.Sent.{Sends}
+use Rattle.edge_io.specs.Sent.{Sends}
 use Rattle.series_model.specs.declared.sample.Sample.{Sample}
 use Rattle.pb_wire.specs.declared.payload.PayloadType.{PayloadType}
 use Rattle.act_model.specs.Out.{Subject}

@@ -9,8 +9,8 @@ use crate::object::put_object;
 use crate::value::{Element, put_number, put_value};
 use act_model::OutErr;
 use arch_time::NANOS_PER_SECOND;
-use event_types::{Event, EventErr, PayloadType, decode};
 use line_escape::{EscapeErr, unescaped};
+use pb_messages::{Event, EventErr, PayloadType, decode};
 use series_model::Blob;
 use std::alloc::{AllocError, Global};
 

@@ -1,16 +1,15 @@
 // An output that writes the JSON text of an answer.
 ghost use Rattle.std.specs.Prelude.{◌≡◌, ◌≤◌, ◌++◌, [], OnOk, OnErr, IsErrOf};
 ghost use Rattle.edge_io.specs.Stream.{Rose, AppendsFront};
-ghost use Rattle.sink_buffer.specs.Sent.{Sends};
+ghost use Rattle.edge_io.specs.Sent.{Sends};
 ghost use Rattle.json_out.specs.Writing.{Gives, Finishes, Breaks};
 ghost use Rattle.json_out.specs.Fronts.{gives_breaks};
 
 use crate::event::{put_head, put_next, read_event};
 use act_model::{Out, OutErr};
-use edge_io::Sink;
-use event_types::{About, PayloadType};
+use edge_io::{PutErr, Sink, SinkBuffer};
+use pb_messages::{About, PayloadType};
 use series_model::Query;
-use sink_buffer::{PutErr, SinkBuffer};
 use std::alloc::Global;
 
 /// The JSON text of an answer, written to a sink in batches.

@@ -5,8 +5,8 @@ ghost use Rattle.std.specs.Fmt.{signed_decimal};
 ghost use Rattle.std.specs.List.{flat_map, list_all};
 ghost use Rattle.json_out.specs.Values.{string_text, is_plain, hex_digits, bits_text, array_text, value_text};
 
-use event_types::Value;
 use itoa::{Buffer, Integer};
+use pb_messages::Value;
 use serde_json::Value as Json;
 use series_model::Blob;
 use std::alloc::{AllocError, Global};

@@ -9,7 +9,7 @@ use Rattle.series_model.specs.declared.sample.Sample.{Sample}
 use Rattle.series_model.specs.Series.{IsRising, RisesFrom, before}
 use Rattle.series_model.proofs.RisingLists.{RisesFrom-front, RisesFrom-rest}
 use Rattle.series_model.proofs.AnswerLemmas.{before-append, before_none}
-use Rattle.payload_info.specs.declared.info.PayloadInfo.{PayloadInfo}
+use Rattle.pb_messages.specs.declared.info.PayloadInfo.{PayloadInfo}
 use Rattle.pb_lines.specs.Sample.{IsSampleLine}
 use Rattle.pb_lines.proofs.Unique.{one_moment}
 use Rattle.pb_file.specs.declared.search.Found.{Found}

@@ -1,7 +1,7 @@
 -- What a read of one line at a place comes to.
 use Rattle.std.proofs.Common.{◌≡◌, ℕ, ◌+◌, ◌≤◌, List, [], ◌∷◌, ◌++◌, Result, Err, length, take, drop, arith, refl, sym, ap, ◌∙◌, append_assoc}
 use Rattle.std.proofs.lemmas.List.{length-take-le, take-append-drop, take-take, drop-append-le, append_cancel_left}
-use Rattle.payload_info.specs.declared.info.PayloadInfo.{PayloadInfo}
+use Rattle.pb_messages.specs.declared.info.PayloadInfo.{PayloadInfo}
 use Rattle.pb_lines.specs.File.{HasNoSample}
 use Rattle.pb_file.specs.Walk.{Walk, Front, with_sample}
 use Rattle.pb_file.specs.declared.search.SearchErr.{SearchErr}

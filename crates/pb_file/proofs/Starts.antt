@@ -4,7 +4,7 @@ use Rattle.std.specs.Prelude.{IfSome}
 use Rattle.std.proofs.lemmas.List.{length-append, length-take-le, take-append-drop, take-take, take_at}
 use Rattle.std.proofs.lemmas.Bool.{cases_lt}
 use Rattle.series_model.specs.declared.sample.Sample.{Sample}
-use Rattle.payload_info.specs.declared.info.PayloadInfo.{PayloadInfo}
+use Rattle.pb_messages.specs.declared.info.PayloadInfo.{PayloadInfo}
 use Rattle.pb_file.specs.declared.search.Found.{Found}
 use Rattle.pb_lines.specs.File.{IsFile, IsBadAt, HasNoHeader, lines_of}
 use Rattle.pb_file.specs.Walk.{Walk, Front, HasWalked}

@@ -4,7 +4,7 @@ use Rattle.std.proofs.lemmas.List.{length-append, length-take-le, take_all}
 use Rattle.series_model.specs.declared.sample.Sample.{Sample}
 use Rattle.series_model.specs.Series.{end_of}
 use Rattle.series_model.proofs.RisingLists.{end_from-append}
-use Rattle.payload_info.specs.declared.info.PayloadInfo.{PayloadInfo}
+use Rattle.pb_messages.specs.declared.info.PayloadInfo.{PayloadInfo}
 use Rattle.partition_names.specs.declared.part.Part.{Part}
 use Rattle.partition_names.specs.Part.{HoldsMoment}
 use Rattle.pb_lines.proofs.Unique.{one_moment}

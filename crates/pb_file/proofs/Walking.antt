@@ -5,7 +5,7 @@ use Rattle.std.proofs.lemmas.List.{length-take-le, length-drop, take-append-drop
 use Rattle.line_escape.specs.Unescaping.{HasNoNewline}
 use Rattle.series_model.specs.declared.sample.Sample.{Sample}
 use Rattle.series_model.proofs.RisingLists.{end_from-append}
-use Rattle.payload_info.specs.declared.info.PayloadInfo.{PayloadInfo}
+use Rattle.pb_messages.specs.declared.info.PayloadInfo.{PayloadInfo}
 use Rattle.pb_lines.specs.Header.{IsHeaderLine}
 use Rattle.pb_lines.specs.Sample.{IsSampleLine}
 use Rattle.pb_file.specs.declared.walk.Walked.{Walked}

@@ -2,7 +2,7 @@
 use Rattle.std.specs.Prelude.{◌≡◌, ◌⊎◌, ℕ, ◌+◌, ◌≤◌, List, ◌∷◌, ◌++◌, None, Some, length, take, drop}
 use Rattle.line_escape.specs.Unescaping.{HasNoNewline}
 use Rattle.series_model.specs.Series.{end_of}
-use Rattle.payload_info.specs.declared.info.PayloadInfo.{PayloadInfo}
+use Rattle.pb_messages.specs.declared.info.PayloadInfo.{PayloadInfo}
 use Rattle.pb_lines.specs.Header.{IsHeaderLine}
 use Rattle.pb_file.specs.declared.walk.Walked.{Walked}
 use Rattle.pb_file.specs.declared.walk.Walked.TheVariants as walked

@@ -8,7 +8,7 @@ use crate::steps::Steps;
 use crate::walk::{FileWalk, Walked};
 use disk_model::ReadAt;
 use partition_names::Part;
-use payload_info::PayloadInfo;
+use pb_messages::PayloadInfo;
 use std::alloc::Global;
 use std::marker::Brand;
 use std::sync::ledger::{Blank, Ledger};

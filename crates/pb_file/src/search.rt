@@ -4,7 +4,7 @@ ghost use Rattle.std.specs.Prelude.{IsTrue, length, take, drop};
 ghost use Rattle.disk_model.specs.Files.{Rose};
 ghost use Rattle.series_model.specs.declared.sample.Sample.{Sample as SampleValue};
 ghost use Rattle.series_model.specs.Series.{before};
-ghost use Rattle.payload_info.specs.declared.info.PayloadInfo.{PayloadInfo as Info};
+ghost use Rattle.pb_messages.specs.declared.info.PayloadInfo.{PayloadInfo as Info};
 ghost use Rattle.pb_file.specs.declared.search.SearchErr.TheVariants.{ReadFault, Damaged};
 ghost use Rattle.pb_lines.specs.File.{IsFile, IsBadAt, HasNoHeader, HasNoSample};
 ghost use Rattle.pb_file.specs.Block.{IsPieceOf};

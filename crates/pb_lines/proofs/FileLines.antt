@@ -6,12 +6,12 @@ use Rattle.pb_wire.specs.declared.payload.PayloadType.{PayloadType}
 use Rattle.arch_time.specs.YearTime.{moment}
 use Rattle.line_escape.specs.Unescaping.{HasNoNewline, Means}
 use Rattle.line_escape.proofs.EscapingLemmas.{lines_apart, every_line}
-use Rattle.event_types.specs.Event.{stamp_of}
+use Rattle.pb_messages.specs.Event.{stamp_of}
 use Rattle.pb_wire.specs.declared.fault.FieldFault.{FieldFault as EventFault}
 use Rattle.series_model.specs.declared.sample.Sample.{Sample}
-use Rattle.payload_info.specs.declared.info.PayloadInfo.{PayloadInfo}
-use Rattle.payload_info.specs.declared.error.InfoFault.{InfoFault}
-use Rattle.payload_info.specs.Info.{info_of}
+use Rattle.pb_messages.specs.declared.info.PayloadInfo.{PayloadInfo}
+use Rattle.pb_messages.specs.declared.info_error.InfoFault.{InfoFault}
+use Rattle.pb_messages.specs.Info.{info_of}
 use Rattle.pb_lines.specs.declared.fault.HeadFault.TheVariants as head_fault
 use Rattle.pb_lines.specs.declared.fault.LineFault.TheVariants as line_fault
 use Rattle.pb_lines.specs.Header.{IsHeaderLine}

@@ -6,7 +6,7 @@ use Rattle.std.proofs.lemmas.List.{length-append}
 use Rattle.edge_io.specs.Lines.{Reader, Stays, Reads, ahead}
 use Rattle.edge_io.specs.declared.lines.LineRead.{LineRead}
 use Rattle.edge_io.specs.declared.lines.LineRead.TheVariants.{Line, End, Torn, TooLong, InputTooLong, SourceFault, Memory}
-use Rattle.payload_info.specs.declared.info.PayloadInfo.{PayloadInfo}
+use Rattle.pb_messages.specs.declared.info.PayloadInfo.{PayloadInfo}
 use Rattle.pb_lines.specs.declared.fault.ChunkFault.{ChunkFault}
 use Rattle.pb_lines.specs.declared.fault.ChunkFault.TheVariants as fault
 use Rattle.pb_lines.specs.declared.reader.ChunkItem.{ChunkItem}

@@ -8,7 +8,7 @@ use Rattle.pb_wire.specs.declared.payload.PayloadType.{PayloadType}
 use Rattle.series_model.specs.declared.sample.Sample.{Sample}
 use Rattle.series_model.specs.Series.{RisesFrom, end_from}
 use Rattle.series_model.proofs.RisingLists.{end_from-append, RisesFrom-append}
-use Rattle.payload_info.specs.declared.info.PayloadInfo.{PayloadInfo}
+use Rattle.pb_messages.specs.declared.info.PayloadInfo.{PayloadInfo}
 use Rattle.pb_lines.specs.declared.run.Run.{Run}
 use Rattle.pb_lines.specs.File.{lines_of}
 use Rattle.pb_lines.specs.Stream.{Item, sample, Section, Stop, IsStream}

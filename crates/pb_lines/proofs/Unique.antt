@@ -5,12 +5,12 @@ use Rattle.std.proofs.lemmas.List.{length-append}
 use Rattle.std.proofs.lemmas.List.Elements.{recursion_from_All}
 use Rattle.line_escape.specs.Unescaping.{Means}
 use Rattle.line_escape.proofs.EscapingLemmas.{meaning_unique, bad_means_nothing, one_bad_place, lines_apart}
-use Rattle.event_types.specs.Event.{stamp_of}
+use Rattle.pb_messages.specs.Event.{stamp_of}
 use Rattle.pb_wire.specs.declared.fault.FieldFault.{FieldFault}
 use Rattle.arch_time.specs.YearTime.{moment}
 use Rattle.pb_wire.specs.declared.payload.PayloadType.{PayloadType}
-use Rattle.payload_info.specs.declared.info.PayloadInfo.{PayloadInfo}
-use Rattle.payload_info.specs.Info.{info_of}
+use Rattle.pb_messages.specs.declared.info.PayloadInfo.{PayloadInfo}
+use Rattle.pb_messages.specs.Info.{info_of}
 use Rattle.edge_io.specs.declared.lines.LineRead.{LineRead}
 use Rattle.edge_io.specs.declared.lines.LineRead.TheVariants.{Line, End, Torn, TooLong, InputTooLong, SourceFault, Memory}
 use Rattle.series_model.specs.declared.sample.Sample.{Sample}

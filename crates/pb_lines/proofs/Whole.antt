@@ -5,13 +5,13 @@ use Rattle.std.proofs.lemmas.Int.{ints}
 use Rattle.std.proofs.lemmas.Bool.{cases_lt}
 use Rattle.line_escape.specs.Unescaping.{Means}
 use Rattle.line_escape.proofs.EscapingLemmas.{every_line}
-use Rattle.event_types.specs.Event.{stamp_of}
+use Rattle.pb_messages.specs.Event.{stamp_of}
 use Rattle.pb_wire.specs.declared.fault.FieldFault.{FieldFault}
 use Rattle.arch_time.specs.YearTime.{moment, IsInYear, IsSampleYear}
 use Rattle.arch_time.specs.Calendar.{days_in_year}
-use Rattle.payload_info.specs.declared.info.PayloadInfo.{PayloadInfo}
-use Rattle.payload_info.specs.declared.error.InfoFault.{InfoFault}
-use Rattle.payload_info.specs.Info.{info_of}
+use Rattle.pb_messages.specs.declared.info.PayloadInfo.{PayloadInfo}
+use Rattle.pb_messages.specs.declared.info_error.InfoFault.{InfoFault}
+use Rattle.pb_messages.specs.Info.{info_of}
 use Rattle.edge_io.specs.declared.lines.LineRead.{LineRead}
 use Rattle.edge_io.specs.declared.lines.LineRead.TheVariants.{Line, End, Torn, TooLong, InputTooLong, SourceFault, Memory}
 use Rattle.pb_lines.specs.declared.fault.LineFault.TheVariants as line_fault

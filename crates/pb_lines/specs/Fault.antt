@@ -4,8 +4,8 @@ use Rattle.pb_wire.specs.declared.error.WireErr.{WireErr}
 use Rattle.pb_wire.specs.declared.error.WireErr.TheVariants.{BadVarint, BadTag, Group, Short}
 use Rattle.pb_wire.specs.declared.fault.FieldFault.{FieldFault}
 use Rattle.pb_wire.specs.declared.fault.FieldFault.TheVariants as event
-use Rattle.payload_info.specs.declared.error.InfoFault.{InfoFault}
-use Rattle.payload_info.specs.declared.error.InfoFault.TheVariants as info
+use Rattle.pb_messages.specs.declared.info_error.InfoFault.{InfoFault}
+use Rattle.pb_messages.specs.declared.info_error.InfoFault.TheVariants as info
 use Rattle.pb_lines.specs.declared.fault.LineFault.{LineFault}
 use Rattle.pb_lines.specs.declared.fault.LineFault.TheVariants as line
 use Rattle.pb_lines.specs.declared.fault.HeadFault.{HeadFault}

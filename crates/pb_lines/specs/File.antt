@@ -5,7 +5,7 @@ use Rattle.pb_wire.specs.declared.payload.PayloadType.{PayloadType}
 use Rattle.line_escape.specs.Unescaping.{HasNoNewline}
 use Rattle.series_model.specs.declared.sample.Sample.{Sample}
 use Rattle.series_model.specs.Series.{IsRising, end_of}
-use Rattle.payload_info.specs.declared.info.PayloadInfo.{PayloadInfo}
+use Rattle.pb_messages.specs.declared.info.PayloadInfo.{PayloadInfo}
 use Rattle.pb_lines.specs.Header.{IsHeaderLine}
 use Rattle.pb_lines.specs.Sample.{IsSampleLine}
 

@@ -1,8 +1,8 @@
 -- What a header's line says, and why a line is no header.
 use Rattle.std.specs.Prelude.{◌≡◌, ℕ, List, Ok, Err}
 use Rattle.line_escape.specs.Unescaping.{Means, IsBadPlace}
-use Rattle.payload_info.specs.declared.info.PayloadInfo.{PayloadInfo}
-use Rattle.payload_info.specs.Info.{info_of}
+use Rattle.pb_messages.specs.declared.info.PayloadInfo.{PayloadInfo}
+use Rattle.pb_messages.specs.Info.{info_of}
 use Rattle.pb_lines.specs.declared.fault.HeadFault.{HeadFault}
 use Rattle.pb_lines.specs.declared.fault.HeadFault.TheVariants.{Escape, Info}
 use Rattle.pb_lines.specs.declared.header.HeadErr.{HeadErr}

@@ -3,7 +3,7 @@ use Rattle.std.specs.Prelude.{◌≡◌, ◌≢◌, ◌⊎◌, ℕ, ◌+◌, ◌
 use Rattle.std.specs.Io.KnownBytes.{Keeps, prepend_known}
 use Rattle.edge_io.specs.Lines.{Reader, HoldsAnswer, ahead}
 use Rattle.line_escape.specs.Unescaping.{HasNoNewline}
-use Rattle.payload_info.specs.declared.info.PayloadInfo.{PayloadInfo}
+use Rattle.pb_messages.specs.declared.info.PayloadInfo.{PayloadInfo}
 use Rattle.pb_lines.specs.declared.fault.ChunkFault.{ChunkFault}
 use Rattle.pb_lines.specs.declared.fault.ChunkFault.TheVariants as fault
 use Rattle.pb_lines.specs.declared.reader.ChunkItem.{ChunkItem}

@@ -5,7 +5,7 @@ use Rattle.pb_wire.specs.declared.payload.PayloadType.{PayloadType}
 use Rattle.line_escape.specs.Unescaping.{HasNoNewline}
 use Rattle.series_model.specs.declared.sample.Sample.{Sample}
 use Rattle.series_model.specs.Series.{RisesFrom}
-use Rattle.payload_info.specs.declared.info.PayloadInfo.{PayloadInfo}
+use Rattle.pb_messages.specs.declared.info.PayloadInfo.{PayloadInfo}
 use Rattle.pb_lines.specs.Sample.{IsSampleLine}
 use Rattle.pb_lines.specs.File.{lines_of}
 use Rattle.pb_lines.specs.Reader.{Chunks, lines_taken, bytes_taken, work_left}

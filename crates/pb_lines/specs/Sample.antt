@@ -2,7 +2,7 @@
 use Rattle.std.specs.Prelude.{◌≡◌, ℕ, List, ℤ, Ok, Err}
 use Rattle.pb_wire.specs.declared.payload.PayloadType.{PayloadType}
 use Rattle.line_escape.specs.Unescaping.{Means, IsBadPlace}
-use Rattle.event_types.specs.Event.{stamp_of}
+use Rattle.pb_messages.specs.Event.{stamp_of}
 use Rattle.arch_time.specs.YearTime.{moment, IsInYear, IsSampleYear}
 use Rattle.pb_lines.specs.declared.fault.LineFault.{LineFault}
 use Rattle.pb_lines.specs.declared.fault.LineFault.TheVariants.{Escape, Event, Time}

@@ -2,8 +2,7 @@
 ghost use Rattle.std.specs.Prelude.{◌≡◌};
 ghost use Rattle.pb_lines.specs.Fault.{wire_number, event_number, info_number, line_number, head_number, fault_number};
 
-use event_types::EventFault;
-use payload_info::InfoFault;
+use pb_messages::{EventFault, InfoFault};
 use pb_wire::WireErr;
 
 /// Why a line is no sample of its chunk: the first of these that applies.

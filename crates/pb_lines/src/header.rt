@@ -3,14 +3,14 @@ ghost use Rattle.std.specs.Prelude.{◌≡◌, ◌++◌, ◌∷◌, [], Ok, IfOk
 ghost use Rattle.std.specs.Io.{StartsWith};
 ghost use Rattle.line_escape.specs.Escaping.{escaped};
 ghost use Rattle.line_escape.specs.Unescaping.{HasNoNewline};
-ghost use Rattle.payload_info.specs.Info.{info_of};
-ghost use Rattle.payload_info.specs.Spelling.{info_text};
+ghost use Rattle.pb_messages.specs.Info.{info_of};
+ghost use Rattle.pb_messages.specs.InfoSpelling.{info_text};
 ghost use Rattle.arch_time.specs.YearTime.{IsSampleYear};
 ghost use Rattle.pb_lines.specs.Header.{IsHeaderLine, IsHeadErr};
 
 use crate::fault::HeadFault;
 use line_escape::{EscapeErr, escape, unescape};
-use payload_info::{InfoErr, PayloadInfo, decode_info, encode_info};
+use pb_messages::{InfoErr, PayloadInfo, decode_info, encode_info};
 use std::alloc::{AllocError, Global};
 
 /// Why a header's line wasn't read.

@@ -15,7 +15,7 @@ use crate::run::{Run, run_of};
 use crate::sample::moment_of_line;
 use arch_time::YearStart;
 use edge_io::{LineRead, Lines, Source};
-use payload_info::PayloadInfo;
+use pb_messages::PayloadInfo;
 use std::alloc::{AllocError, Global};
 use std::marker::Model;
 

@@ -7,7 +7,7 @@ ghost use Rattle.pb_lines.specs.Run.{IsRunLine, IsRun};
 use crate::sample::{moment_of_line, moment_of_plain_line};
 use arch_time::YearStart;
 use edge_io::{MAX_LINE, line_end};
-use event_types::PayloadType;
+use pb_messages::PayloadType;
 
 // A line in which it doesn't stand means its own bytes.
 const ESCAPE: u8 = 0x1b;

@@ -5,8 +5,8 @@ ghost use Rattle.pb_lines.specs.Sample.{IsSampleLine, IsStamp, IsLineErr, IsStam
 
 use crate::fault::{LineErr, LineFault};
 use arch_time::{BadTime, YearStart, instant};
-use event_types::{PayloadType, stamp};
 use line_escape::{EscapeErr, unescaped};
+use pb_messages::{PayloadType, stamp};
 
 /// The moment of a sample's line, in nanoseconds since 1970: the time of the event of type `ty`
 /// that the escaped line means, in its header's year. The event is validated whole.

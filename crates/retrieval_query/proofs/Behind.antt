@@ -14,7 +14,7 @@ use Rattle.act_model.specs.Out.{Subject}
 use Rattle.stream_merge.specs.Reads.{AnswersRead}
 use Rattle.retrieval_query.specs.Giving.{Gives, GivesBy, GivesRead, GivesReadAt}
 use Rattle.series_model.specs.declared.sample.Query.{Query}
-use Rattle.event_types.specs.declared.about.About.{About}
+use Rattle.pb_messages.specs.declared.about.About.{About}
 use Rattle.act_model.specs.declared.acts.Act.TheVariants.{Pin}
 use Rattle.act_model.specs.declared.acts.Answer.TheVariants as answer
 use Rattle.act_model.specs.History.{MadeOne}

@@ -4,10 +4,10 @@ use Rattle.std.specs.Prelude.{is_some, false}
 use Rattle.std.specs.Io.KnownBytes.{Appends}
 use Rattle.std.proofs.KnownBytes.{Appends-nil}
 use Rattle.edge_io.specs.Stream.{AppendsFront}
-use Rattle.sink_buffer.specs.Sent.{Sends}
-use Rattle.sink_buffer.proofs.Sending.{front_then, front_longer, front_kept, sends_none, sends_then, all_out, front_out}
+use Rattle.edge_io.specs.Sent.{Sends}
+use Rattle.edge_io.proofs.Sending.{front_then, front_longer, front_kept, sends_none, sends_then, all_out, front_out}
 use Rattle.pb_lines.proofs.FileLines.{all_rest}
-use Rattle.payload_info.specs.declared.info.PayloadInfo.{PayloadInfo}
+use Rattle.pb_messages.specs.declared.info.PayloadInfo.{PayloadInfo}
 use Rattle.series_model.specs.declared.sample.Sample.{Sample}
 use Rattle.act_model.specs.Event.{IsEvent, AreEvents}
 use Rattle.act_model.specs.Out.{Subject}

@@ -3,7 +3,7 @@ use Rattle.std.proofs.Common.{◌≡◌, ℕ, ℤ, ◌<◌, ◌^◌, List, [], �
 use Rattle.std.specs.Prelude.{slice_get, map, filter}
 use Rattle.std.specs.List.{AllByRecursion, AllZip}
 use Rattle.pb_wire.specs.declared.payload.PayloadType.{PayloadType}
-use Rattle.event_types.specs.declared.about.About.{About}
+use Rattle.pb_messages.specs.declared.about.About.{About}
 use Rattle.series_model.specs.declared.sample.Query.{Query}
 use Rattle.series_model.specs.declared.sample.Sample.{Sample}
 use Rattle.series_model.specs.Series.{IsRising, over, since, before, end_of}

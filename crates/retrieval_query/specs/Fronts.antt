@@ -1,6 +1,6 @@
 -- Why a text as far as some samples is a front of the whole text, whatever events follow. An output owes this with its definitions.
 use Rattle.std.proofs.Common.{ℕ, List, ◌++◌, Option, sym, append_assoc}
-use Rattle.sink_buffer.proofs.Sending.{front_kept}
+use Rattle.edge_io.proofs.Sending.{front_kept}
 use Rattle.pb_lines.proofs.FileLines.{all_rest}
 use Rattle.series_model.specs.declared.sample.Sample.{Sample}
 use Rattle.act_model.specs.Event.{IsEvent, AreEvents}

@@ -4,8 +4,8 @@ use Rattle.std.specs.Prelude.{◌≡◌, ◌≢◌, ◌⊎◌, ◌≤◌, ◌<�
 use Rattle.std.specs.List.{flat_map}
 use Rattle.arch_time.specs.YearTime.{moment, IsInYear, IsSampleYear, start, end}
 use Rattle.line_escape.specs.Escaping.{escaped}
-use Rattle.payload_info.specs.declared.info.PayloadInfo.{PayloadInfo}
-use Rattle.payload_info.specs.Spelling.{info_text}
+use Rattle.pb_messages.specs.declared.info.PayloadInfo.{PayloadInfo}
+use Rattle.pb_messages.specs.InfoSpelling.{info_text}
 use Rattle.series_model.specs.declared.sample.Sample.{Sample}
 use Rattle.pb_lines.specs.File.{lines_of}
 use Rattle.act_model.specs.Out.{Subject}

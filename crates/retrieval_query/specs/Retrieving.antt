@@ -1,9 +1,9 @@
 -- What a retrieval asks for and writes. It pins the variable; where a pin was made it opens some of its pieces and gives the pin up.
 use Rattle.std.specs.Prelude.{◌≡◌, ◌≢◌, ◌⊎◌, ◌+◌, ℕ, Bool, IsTrue, List, [], ◌∷◌, ◌++◌, length, map, None, Some, Result, Ok, Err, slice_get}
 use Rattle.pb_wire.specs.declared.payload.PayloadType.{PayloadType}
-use Rattle.event_types.specs.declared.about.About.{About}
-use Rattle.payload_info.specs.declared.info.PayloadInfo.{PayloadInfo}
-use Rattle.payload_info.specs.Info.{info_of}
+use Rattle.pb_messages.specs.declared.about.About.{About}
+use Rattle.pb_messages.specs.declared.info.PayloadInfo.{PayloadInfo}
+use Rattle.pb_messages.specs.Info.{info_of}
 use Rattle.series_model.specs.declared.sample.Query.{Query}
 use Rattle.series_model.specs.declared.sample.Sample.{Sample}
 use Rattle.series_model.specs.Series.{IsRising}

@@ -10,8 +10,8 @@ ghost use Rattle.retrieval_query.specs.Giving.{GivesBy, Gives, GivesReadAt, Give
 
 use crate::retrieved::{Retrieved, stopped_by};
 use act_model::Out;
-use event_types::About;
 use pb_file::Steps;
+use pb_messages::About;
 use series_model::Query;
 use std::alloc::Global;
 use std::sync::ledger::{Blank, Ledger};

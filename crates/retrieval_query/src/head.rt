@@ -8,12 +8,10 @@ ghost use Rattle.retrieval_query.specs.Writing.{IsHeader, HasHead, Opens, OpensF
 
 use crate::put::put;
 use act_model::OutErr;
-use edge_io::Sink;
-use event_types::About;
-use payload_info::PayloadInfo;
+use edge_io::{Sink, SinkBuffer};
 use pb_lines::header_line;
+use pb_messages::{About, PayloadInfo};
 use series_model::Blob;
-use sink_buffer::SinkBuffer;
 use std::alloc::{AllocError, Global};
 
 /// What the header lines of a variable are made of.

@@ -1,11 +1,10 @@
 // What a buffer takes for a sink, told as an output tells it.
 ghost use Rattle.std.specs.Prelude.{◌≡◌, ◌≤◌, ◌∷◌, ◌++◌, [], OnOk, OnErr, IsErrOf};
 ghost use Rattle.edge_io.specs.Stream.{Rose, AppendsFront};
-ghost use Rattle.sink_buffer.specs.Sent.{Sends};
+ghost use Rattle.edge_io.specs.Sent.{Sends};
 
 use act_model::OutErr;
-use edge_io::Sink;
-use sink_buffer::{PutErr, SinkBuffer};
+use edge_io::{PutErr, Sink, SinkBuffer};
 
 /// Takes a piece of the text.
 pub(crate) fn put<K: Sink>(

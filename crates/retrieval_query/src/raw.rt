@@ -7,10 +7,9 @@ use crate::head::{Head, close};
 use crate::put::put_line;
 use crate::year::nearest_year;
 use act_model::{Out, OutErr};
-use edge_io::Sink;
-use event_types::About;
+use edge_io::{Sink, SinkBuffer};
+use pb_messages::About;
 use series_model::Query;
-use sink_buffer::SinkBuffer;
 use std::alloc::Global;
 
 /// The raw text of an answer, written to a sink in batches.

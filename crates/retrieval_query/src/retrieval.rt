@@ -28,7 +28,7 @@ use crate::retrieved::Retrieved;
 use crate::variable::{PinnedVariable, pin_variable};
 use act_model::{Actor, Out, Spent, Unpinned, ask_unpin};
 use disk_model::ReadAt;
-use event_types::About;
+use pb_messages::About;
 use series_model::{Query, Samples};
 use std::alloc::Global;
 use std::marker::Brand;

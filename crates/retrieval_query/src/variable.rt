@@ -7,7 +7,7 @@ ghost use Rattle.act_model.specs.Machine.{Machine};
 ghost use Rattle.retrieval_query.specs.Pinning.{FailsToPin, IsHeld};
 
 use act_model::{Actor, Pinned, Spent, ask_pin};
-use event_types::About;
+use pb_messages::About;
 use pv_name::PvName;
 use series_model::{Blob, Query, Samples};
 use std::alloc::Global;

@@ -2,8 +2,8 @@
 use Rattle.std.proofs.Common.{◌≡◌, ℕ, ◌%◌, ◌<◌, ◌≤◌, ℤ, pos, List, [], None, ◌∙◌}
 use Rattle.arch_time.specs.YearTime.{moment, start, end, IsInYear, IsMomentYear}
 use Rattle.arch_time.proofs.YearLemmas.{same_year_time, sample_year}
-use Rattle.event_types.specs.declared.event.Event.{Event}
-use Rattle.event_types.specs.declared.value.Value.TheVariants.{Int}
+use Rattle.pb_messages.specs.declared.event.Event.{Event}
+use Rattle.pb_messages.specs.declared.value.Value.TheVariants.{Int}
 use Rattle.sample_bins.specs.Counts.{count_event, second_of_year}
 use Rattle.sample_bins.specs.CountEvents.{has_stamp}
 

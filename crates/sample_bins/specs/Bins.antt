@@ -5,8 +5,8 @@ use Rattle.series_model.specs.declared.sample.Query.{Query}
 use Rattle.series_model.specs.declared.sample.Sample.{Sample}
 use Rattle.series_model.specs.Retrieval.{within}
 use Rattle.pb_wire.specs.declared.payload.PayloadType.TheVariants.{ScalarInt}
-use Rattle.event_types.specs.declared.about.About.{About}
-use Rattle.event_types.specs.declared.about.Method.TheVariants.{Monitor}
+use Rattle.pb_messages.specs.declared.about.About.{About}
+use Rattle.pb_messages.specs.declared.about.Method.TheVariants.{Monitor}
 use Rattle.act_model.specs.Out.{Subject}
 use Rattle.sample_bins.specs.declared.op.Op.{Op}
 use Rattle.sample_bins.specs.declared.op.Op.TheVariants.{FirstSample, LastSample, Count, Nth, NCount}

@@ -11,9 +11,9 @@ use Rattle.arch_time.specs.Calendar.{days_in_year, days_of_years}
 use Rattle.arch_time.specs.YearTime.{moment, start, end, IsInYear, IsSampleYear}
 use Rattle.arch_time.proofs.CalendarLemmas.{year_bounds, later_year, years_mono, more_years, years_1970, years_1991, years_2500}
 use Rattle.arch_time.proofs.YearLemmas.{start_days, sample_year}
-use Rattle.event_types.specs.Event.{stamp_of}
-use Rattle.event_types.specs.Spelling.{event_text, FitsEvent}
-use Rattle.event_types.proofs.RoundTrip.{event_back}
+use Rattle.pb_messages.specs.Event.{stamp_of}
+use Rattle.pb_messages.specs.Spelling.{event_text, FitsEvent}
+use Rattle.pb_messages.proofs.RoundTrip.{event_back}
 use Rattle.series_model.specs.declared.sample.Sample.{Sample}
 use Rattle.act_model.specs.Event.{IsEvent}
 use Rattle.sample_bins.specs.Counts.{day_of_year, second_of_year, count_event, counted}

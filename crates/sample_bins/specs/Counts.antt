@@ -3,9 +3,9 @@ use Rattle.std.specs.Prelude.{ℕ, zero, suc, ◌+◌, ◌-◌, ◌*◌, ◌/◌
 use Rattle.arch_time.specs.Calendar.{days_in_year}
 use Rattle.arch_time.specs.YearTime.{start, end}
 use Rattle.line_escape.specs.Escaping.{escaped}
-use Rattle.event_types.specs.declared.event.Event.{Event}
-use Rattle.event_types.specs.declared.value.Value.TheVariants.{Int}
-use Rattle.event_types.specs.Spelling.{event_text}
+use Rattle.pb_messages.specs.declared.event.Event.{Event}
+use Rattle.pb_messages.specs.declared.value.Value.TheVariants.{Int}
+use Rattle.pb_messages.specs.Spelling.{event_text}
 use Rattle.series_model.specs.declared.sample.Sample.{Sample}
 
 -- a count that doesn't fit is told as the greatest number that does

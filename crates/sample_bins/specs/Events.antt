@@ -7,7 +7,7 @@ use Rattle.std.proofs.lemmas.List.Elements.{filter-append}
 use Rattle.arch_time.specs.YearTime.{start, end}
 use Rattle.pb_wire.specs.declared.payload.PayloadType.{PayloadType}
 use Rattle.pb_wire.specs.declared.payload.PayloadType.TheVariants.{ScalarInt}
-use Rattle.event_types.specs.declared.about.About.{About}
+use Rattle.pb_messages.specs.declared.about.About.{About}
 use Rattle.series_model.specs.declared.sample.Query.{Query}
 use Rattle.series_model.specs.declared.sample.Sample.{Sample}
 use Rattle.series_model.specs.Retrieval.{within}

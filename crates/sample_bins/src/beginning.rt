@@ -7,7 +7,7 @@ ghost use Rattle.sample_bins.specs.Bins.{about_counts, about_of, binned_subject,
 
 use crate::op::Op;
 use act_model::{Out, OutErr};
-use event_types::{About, Method, PayloadType};
+use pb_messages::{About, Method, PayloadType};
 use series_model::{Pairs, Query};
 use std::alloc::Global;
 

@@ -4,8 +4,8 @@ ghost use Rattle.arch_time.specs.YearTime.{start, end};
 ghost use Rattle.sample_bins.specs.Counts.{count_event, counted, nearest_moment};
 
 use arch_time::{END, START, split};
-use event_types::{Event, PayloadType, Value, encode};
 use line_escape::escape;
+use pb_messages::{Event, PayloadType, Value, encode};
 use series_model::Pairs;
 use std::alloc::{AllocError, Global};
 

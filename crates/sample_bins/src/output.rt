@@ -9,7 +9,7 @@ use crate::giving::{give_at_end, give_due};
 use crate::kept::{Kept, keep};
 use crate::op::Op;
 use act_model::{Out, OutErr};
-use event_types::About;
+use pb_messages::About;
 use series_model::Query;
 use std::alloc::Global;
 

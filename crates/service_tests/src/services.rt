@@ -3,8 +3,8 @@ ghost use Rattle.std.specs.Prelude.{◌<◌, ◌^◌, length, None};
 
 use archive_actors::Shared;
 use edge_io::{Clock, ListClock, ListDoor, MemLink};
-use link_service::{AllServed, Gate, Kind, NoGate, Post, serve_all};
-use serving_loops::{FLUSHER_RESTS, MOVER_RESTS};
+use service::{AllServed, Gate, Kind, NoGate, Post, serve_all};
+use serving::{FLUSHER_RESTS, MOVER_RESTS};
 use std::alloc::Global;
 use std::sync::Wait;
 use std::sync::atomic::{AtomicU64, Ordering};

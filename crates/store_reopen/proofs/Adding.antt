@@ -10,7 +10,7 @@ use Rattle.disk_model.specs.declared.disk.Disk.{Ghosts}
 use Rattle.disk_model.proofs.Passing.{passes_weaker}
 use Rattle.gate_journal.specs.Generations.{AtOwn, IsOwn}
 use Rattle.disk_model.specs.declared.disk.DiskErr.TheVariants.{Memory}
-use Rattle.event_types.specs.declared.about.About.{About}
+use Rattle.pb_messages.specs.declared.about.About.{About}
 use Rattle.partition_names.specs.declared.granularity.Granularity.{Granularity}
 use Rattle.pv_name.specs.Name.{IsName}
 use Rattle.pv_name.specs.Key.{key_of}

@@ -12,7 +12,7 @@ use Rattle.std.proofs.lemmas.Slice.Eq.{slice_eq-Decides}
 use Rattle.disk_model.specs.declared.disk.DiskErr.{DiskErr}
 use Rattle.disk_model.specs.declared.disk.DiskErr.TheVariants.{Fault, Memory}
 use Rattle.disk_model.specs.declared.disk.Disk.{Ghosts}
-use Rattle.event_types.specs.declared.about.About.{About}
+use Rattle.pb_messages.specs.declared.about.About.{About}
 use Rattle.found_files.specs.declared.finding.Candidate.{Candidate}
 use Rattle.pv_catalog.specs.Catalogue.{CatalogueState, IsRefusal, Refuses, registered}
 use Rattle.pv_catalog.specs.Format.{entry, header, string}

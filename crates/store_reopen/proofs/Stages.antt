@@ -5,7 +5,7 @@ use Rattle.disk_model.specs.Files.{Files}
 use Rattle.disk_model.specs.Past.{Passes}
 use Rattle.disk_model.specs.declared.disk.Disk.{Ghosts}
 use Rattle.disk_model.proofs.Passing.{passes_none, passes_then, passes_weaker}
-use Rattle.event_types.specs.declared.about.About.{About}
+use Rattle.pb_messages.specs.declared.about.About.{About}
 use Rattle.partition_names.specs.declared.granularity.Granularity.{Granularity}
 use Rattle.pv_catalog.specs.Catalogue.{CatalogueState}
 use Rattle.store_manifest.specs.Manifest.{ManifestState}

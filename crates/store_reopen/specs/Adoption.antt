@@ -6,9 +6,9 @@ use Rattle.disk_model.specs.Files.{Name, Files, Lists as HasNames}
 use Rattle.disk_model.specs.Past.{Past, Passes}
 use Rattle.disk_model.specs.declared.disk.Disk.{Ghosts}
 use Rattle.etl_rules.specs.Config.{ConfigState}
-use Rattle.event_types.specs.declared.about.About.{About}
-use Rattle.event_types.specs.declared.about.Method.TheVariants.{Monitor}
-use Rattle.event_types.specs.declared.about.State.TheVariants.{Retired}
+use Rattle.pb_messages.specs.declared.about.About.{About}
+use Rattle.pb_messages.specs.declared.about.Method.TheVariants.{Monitor}
+use Rattle.pb_messages.specs.declared.about.State.TheVariants.{Retired}
 use Rattle.found_files.specs.Candidate.{IsCandidate}
 use Rattle.found_files.specs.Reading.{bytes_in}
 use Rattle.found_files.specs.declared.finding.Candidate.{Candidate}

@@ -1,7 +1,7 @@
 -- The steps of an adoption, each one commit, and what a front of them makes of stores.
 use Rattle.std.specs.Prelude.{◌≡◌, ◌⊎◌, ◌≤◌, ◌<◌, ℕ, suc, Bool, true, false, IsTrue, List, [], ◌∷◌, ◌++◌, length, take}
 use Rattle.disk_model.specs.Past.{Passes}
-use Rattle.event_types.specs.declared.about.About.{About}
+use Rattle.pb_messages.specs.declared.about.About.{About}
 use Rattle.pv_catalog.specs.Catalogue.{registered}
 use Rattle.durable_write.specs.Flush.{put_all}
 use Rattle.durable_write.specs.Held.{Filed}

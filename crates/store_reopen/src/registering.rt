@@ -18,9 +18,9 @@ ghost use Rattle.store_reopen.specs.declared.finding.Unlisted.{Unlisted as Unlis
 use crate::finding::Unlisted;
 use crate::stepping::add_row;
 use disk_model::{Disk, DiskErr};
-use event_types::{About, Method};
 use found_files::Candidate;
 use gate_journal::GREATEST_BATCH;
+use pb_messages::{About, Method};
 use pv_catalog::{Catalogue, RegisterErr};
 use pv_name::PvName;
 use series_model::Blob;

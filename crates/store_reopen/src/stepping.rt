@@ -22,7 +22,7 @@ ghost use Rattle.store_reopen.specs.Verdict.{HasRow};
 
 use disk_model::{Disk, DiskErr};
 use durable_write::relist;
-use event_types::About;
+use pb_messages::About;
 use pv_catalog::{Catalogue, RegisterErr};
 use pv_name::PvName;
 use store_manifest::{Change, Manifest};

@@ -10,8 +10,8 @@ ghost use Rattle.store_reopen.specs.Turns.{IsOfTurn, ListNone, TakesIn, TakesOf,
 ghost use Rattle.store_reopen.specs.declared.finding.Taken.{Taken as TakenValue};
 
 use crate::finding::{Taken, Unlisted};
-use event_types::State;
 use found_files::Candidate;
+use pb_messages::State;
 use pb_wire::PayloadType;
 use pv_catalog::{Catalogue, Row};
 use std::alloc::{AllocError, Global};

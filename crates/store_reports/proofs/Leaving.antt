@@ -10,8 +10,8 @@ use Rattle.pv_catalog.specs.declared.row.Row.{Row}
 use Rattle.durable_write.specs.Ends.{IsFailed, end_of_disk}
 use Rattle.tier_store.specs.Seen.{seen}
 use Rattle.tier_store.specs.declared.store.TierStore.{TierStore}
-use Rattle.sink_buffer.specs.declared.buffer.PutErr.{PutErr}
-use Rattle.sink_buffer.specs.declared.buffer.PutErr.TheVariants as put
+use Rattle.edge_io.specs.declared.buffer.PutErr.{PutErr}
+use Rattle.edge_io.specs.declared.buffer.PutErr.TheVariants as put
 use Rattle.store_reports.specs.declared.inspection.CheckErr.{CheckErr}
 use Rattle.store_reports.specs.declared.inspection.CheckErr.TheVariants.{SinkFault, DiskFault, ReadFault, OutOfMemory}
 use Rattle.store_reports.specs.Keeping.{KeepsStores}

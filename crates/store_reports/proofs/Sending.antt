@@ -2,8 +2,8 @@
 use Rattle.std.proofs.Common.{◌≡◌, List, ℕ, ◌++◌, Option, sym, ap, subst, ◌∙◌, append_assoc}
 use Rattle.std.proofs.KnownBytes.{Appends-trans}
 use Rattle.edge_io.specs.Stream.{AppendsFront}
-use Rattle.sink_buffer.specs.Sent.{Sends}
-use Rattle.sink_buffer.proofs.Sending as behind
+use Rattle.edge_io.specs.Sent.{Sends}
+use Rattle.edge_io.proofs.Sending as behind
 
 pub sends_still : (a b c : Option (List ℕ)) (text left new : List ℕ) → Sends a b text left → Sends b c left new → Sends a c text new
 sends_still a b c text left new old next =

@@ -11,10 +11,10 @@ use Rattle.disk_model.specs.declared.disk.Disk.{Ghosts}
 use Rattle.disk_model.specs.declared.disk.DiskErr.TheVariants.{Memory}
 use Rattle.pv_catalog.specs.Catalogue.{CatalogueState}
 use Rattle.pv_catalog.specs.declared.row.Row.{Row}
-use Rattle.sink_buffer.specs.declared.buffer.PutErr.{PutErr}
-use Rattle.sink_buffer.specs.declared.buffer.PutErr.TheVariants as put
-use Rattle.sink_buffer.specs.Sent.{Sends}
-use Rattle.sink_buffer.proofs.Sending.{front_longer, front_out}
+use Rattle.edge_io.specs.declared.buffer.PutErr.{PutErr}
+use Rattle.edge_io.specs.declared.buffer.PutErr.TheVariants as put
+use Rattle.edge_io.specs.Sent.{Sends}
+use Rattle.edge_io.proofs.Sending.{front_longer, front_out}
 use Rattle.store_manifest.specs.Manifest.{ManifestState}
 use Rattle.store_manifest.specs.declared.entry.Entry.{Entry}
 use Rattle.durable_write.specs.Ends.{End, IsFailed}

@@ -17,16 +17,16 @@ use Rattle.pb_file.specs.declared.check.Verdict.TheVariants as verdict
 use Rattle.pb_file.specs.Verdict.{IsGood, IsDamaged}
 use Rattle.pb_file.proofs.Verdicts.{one_verdict}
 use Rattle.series_model.specs.declared.sample.Sample.{Sample}
-use Rattle.piece_choice.specs.declared.choosing.Listed.{Listed}
+use Rattle.pins.specs.declared.choosing.Listed.{Listed}
 use Rattle.durable_write.specs.Held.{Filed, IsFiled, bytes_of}
 use Rattle.tier_store.specs.Change.{Has, IsListedIn}
 use Rattle.tier_store.specs.Seen.{Seen}
 use Rattle.tier_store.specs.Stores.{Stores, list_at}
 use Rattle.tier_store.proofs.There.{listed_file, front_there}
-use Rattle.sink_buffer.specs.declared.buffer.PutErr.{PutErr}
-use Rattle.sink_buffer.specs.declared.buffer.PutErr.TheVariants as fault
-use Rattle.sink_buffer.specs.Sent.{Sends}
-use Rattle.sink_buffer.proofs.Sending.{sends_none, sends_then, front_out}
+use Rattle.edge_io.specs.declared.buffer.PutErr.{PutErr}
+use Rattle.edge_io.specs.declared.buffer.PutErr.TheVariants as fault
+use Rattle.edge_io.specs.Sent.{Sends}
+use Rattle.edge_io.proofs.Sending.{sends_none, sends_then, front_out}
 use Rattle.store_reports.specs.declared.report.Damage.{Damage}
 use Rattle.store_reports.specs.declared.report.Finding.{Finding}
 use Rattle.store_reports.specs.declared.report.Finding.TheVariants as found

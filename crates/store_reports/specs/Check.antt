@@ -6,7 +6,7 @@ use Rattle.edge_io.specs.Stream.{AppendsFront}
 use Rattle.disk_model.specs.Files.{Name, Files, HasFile}
 use Rattle.partition_names.specs.declared.part.Part.{Part}
 use Rattle.pb_file.specs.Verdict.{IsGood, IsDamaged}
-use Rattle.piece_choice.specs.declared.choosing.Listed.{Listed}
+use Rattle.pins.specs.declared.choosing.Listed.{Listed}
 use Rattle.pv_catalog.specs.declared.row.Row.{Row}
 use Rattle.store_reports.specs.Listing.{name_of}
 use Rattle.store_reports.specs.declared.report.Damage.{Damage}

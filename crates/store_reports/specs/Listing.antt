@@ -1,8 +1,8 @@
 -- What the stores list, one store after another.
 use Rattle.std.specs.Prelude.{◌-◌, ℕ, List, [], ◌++◌, Option, None, Some, slice_get}
 use Rattle.disk_model.specs.Files.{Name}
-use Rattle.piece_choice.specs.Choosing.{listed}
-use Rattle.piece_choice.specs.declared.choosing.Listed.{Listed}
+use Rattle.pins.specs.Choosing.{listed}
+use Rattle.pins.specs.declared.choosing.Listed.{Listed}
 use Rattle.pv_catalog.specs.declared.row.Row.{Row}
 use Rattle.store_manifest.specs.Manifest.{ManifestState}
 use Rattle.store_manifest.specs.declared.entry.Entry.{Entry}

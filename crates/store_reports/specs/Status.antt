@@ -5,13 +5,13 @@ use Rattle.std.specs.Io.KnownBytes.{Appends}
 use Rattle.edge_io.specs.Stream.{Rose, AppendsFront}
 use Rattle.disk_model.specs.declared.disk.DiskErr.{DiskErr}
 use Rattle.disk_model.specs.declared.disk.DiskErr.TheVariants as disk_err
-use Rattle.event_types.specs.declared.about.State.{State}
-use Rattle.event_types.specs.declared.about.State.TheVariants.{Running, Paused, Retired}
+use Rattle.pb_messages.specs.declared.about.State.{State}
+use Rattle.pb_messages.specs.declared.about.State.TheVariants.{Running, Paused, Retired}
 use Rattle.pb_wire.specs.Payload.{row_of}
 use Rattle.pv_catalog.specs.declared.row.Row.{Row}
-use Rattle.sink_buffer.specs.declared.buffer.PutErr.{PutErr}
-use Rattle.sink_buffer.specs.declared.buffer.PutErr.TheVariants as put
-use Rattle.sink_buffer.specs.Sent.{Sends}
+use Rattle.edge_io.specs.declared.buffer.PutErr.{PutErr}
+use Rattle.edge_io.specs.declared.buffer.PutErr.TheVariants as put
+use Rattle.edge_io.specs.Sent.{Sends}
 use Rattle.durable_write.specs.Ends.{End, Done, Failed, Spent}
 use Rattle.durable_write.specs.Plan.{of_row}
 use Rattle.tier_store.specs.Change.{Has}

@@ -5,14 +5,14 @@ use Rattle.disk_model.specs.Files.{Files}
 use Rattle.disk_model.specs.declared.disk.Disk.{Ghosts}
 use Rattle.disk_model.specs.declared.disk.DiskErr.{DiskErr}
 use Rattle.disk_model.specs.declared.disk.DiskErr.TheVariants as disk_err
-use Rattle.piece_choice.specs.declared.choosing.Listed.{Listed}
+use Rattle.pins.specs.declared.choosing.Listed.{Listed}
 use Rattle.pv_catalog.specs.declared.row.Row.{Row}
 use Rattle.durable_write.specs.Ends.{End, Done, Failed, Spent}
 use Rattle.tier_store.specs.Seen.{Seen}
 use Rattle.tier_store.specs.declared.store.TierStore.{TierStore}
-use Rattle.sink_buffer.specs.declared.buffer.PutErr.{PutErr}
-use Rattle.sink_buffer.specs.declared.buffer.PutErr.TheVariants as put
-use Rattle.sink_buffer.specs.Sent.{Sends}
+use Rattle.edge_io.specs.declared.buffer.PutErr.{PutErr}
+use Rattle.edge_io.specs.declared.buffer.PutErr.TheVariants as put
+use Rattle.edge_io.specs.Sent.{Sends}
 use Rattle.store_reports.specs.Check.{Inspects, InspectsSome}
 use Rattle.store_reports.specs.Keeping.{KeepsStores}
 use Rattle.store_reports.specs.declared.report.Damage.{Damage}

@@ -4,8 +4,8 @@ ghost use Rattle.std.specs.Prelude.{IsTrue};
 ghost use Rattle.edge_io.specs.Stream.{Rose, AppendsFront};
 ghost use Rattle.disk_model.specs.Files.{Files};
 ghost use Rattle.pv_catalog.specs.declared.row.Row.{Row as RowValue};
-ghost use Rattle.piece_choice.specs.Choosing.{listed};
-ghost use Rattle.piece_choice.specs.declared.choosing.Listed.{Listed};
+ghost use Rattle.pins.specs.Choosing.{listed};
+ghost use Rattle.pins.specs.declared.choosing.Listed.{Listed};
 ghost use Rattle.tier_store.specs.Stores.{Stores};
 ghost use Rattle.tier_store.specs.Seen.{seen};
 ghost use Rattle.tier_store.specs.Change.{Has, IsListedIn};
@@ -17,9 +17,8 @@ ghost use Rattle.store_reports.specs.Telling.{AreTold, EndsAs, Leaves, Remains, 
 
 use crate::report::{Damage, Finding, Report};
 use disk_model::{Disk, DiskErr, ReadAt};
-use edge_io::Sink;
+use edge_io::{PutErr, Sink, SinkBuffer};
 use pb_file::{Verdict, check_file};
-use sink_buffer::{PutErr, SinkBuffer};
 use std::alloc::Global;
 use store_manifest::Entry;
 use tier_store::TierStore;

@@ -2,16 +2,15 @@
 ghost use Rattle.std.specs.Prelude.{◌≡◌, ◌≤◌, ◌<◌, [], ◌++◌, length, codes, decimal, None, OnOk, IsErrOf};
 ghost use Rattle.std.specs.Option.{option_or};
 ghost use Rattle.edge_io.specs.Stream.{Rose, AppendsFront};
-ghost use Rattle.sink_buffer.specs.Sent.{Sends};
+ghost use Rattle.edge_io.specs.Sent.{Sends};
 ghost use Rattle.durable_write.specs.Held.{file_of};
 ghost use Rattle.store_reports.specs.Check.{damage_of, file_line, finding_text};
 
 use disk_model::FileName;
 use durable_write::file_name;
-use edge_io::Sink;
+use edge_io::{PutErr, Sink, SinkBuffer};
 use itoa::Buffer;
 use pv_catalog::Row;
-use sink_buffer::{PutErr, SinkBuffer};
 use std::alloc::{AllocError, Global};
 use store_manifest::Entry;
 

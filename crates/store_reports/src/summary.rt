@@ -10,11 +10,10 @@ ghost use Rattle.store_reports.specs.Status.{state_name, status_of_disk, status_
 ghost use Rattle.store_reports.specs.declared.summary.StatusErr.TheVariants.{SinkFault, OutOfMemory};
 
 use disk_model::{Disk, DiskErr};
-use edge_io::Sink;
-use event_types::State;
+use edge_io::{PutErr, Sink, SinkBuffer};
 use itoa::Buffer;
+use pb_messages::State;
 use pv_catalog::Row;
-use sink_buffer::{PutErr, SinkBuffer};
 use std::alloc::{AllocError, Global};
 use tier_store::TierStore;
 

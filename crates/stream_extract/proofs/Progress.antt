@@ -9,7 +9,7 @@ use Rattle.series_model.specs.declared.sample.Sample.{Sample}
 use Rattle.series_model.specs.declared.sample.Query.{Query}
 use Rattle.series_model.specs.Series.{taken}
 use Rattle.series_model.specs.Retrieval.{answer}
-use Rattle.payload_info.specs.declared.info.PayloadInfo.{PayloadInfo}
+use Rattle.pb_messages.specs.declared.info.PayloadInfo.{PayloadInfo}
 use Rattle.pb_lines.specs.declared.reader.ChunkItem.TheVariants as it
 use Rattle.pb_lines.specs.Stream.{Item, header, sample, chunk_end, Section, Stop, first_section, between}
 use Rattle.pb_lines.specs.Reader.{Chunks, Passes, Stops, ReadsItem, ReadsLine, IsFresh, to_come, lines_taken, bytes_taken}

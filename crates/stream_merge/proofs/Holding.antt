@@ -4,7 +4,7 @@ use Rattle.series_model.specs.declared.sample.Sample.{Sample}
 use Rattle.series_model.specs.Series.{RisesFrom, taken_from}
 use Rattle.series_model.specs.Retrieval.{answer}
 use Rattle.pb_wire.specs.declared.payload.PayloadType.{PayloadType}
-use Rattle.payload_info.specs.declared.info.PayloadInfo.{PayloadInfo}
+use Rattle.pb_messages.specs.declared.info.PayloadInfo.{PayloadInfo}
 use Rattle.pb_lines.specs.File.{IsSample}
 use Rattle.pb_file.specs.declared.walk.Walked.TheVariants as walked
 use Rattle.pb_file.specs.Walk.{Front, HoldsSample, behind}

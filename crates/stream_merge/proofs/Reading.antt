@@ -8,7 +8,7 @@ use Rattle.line_escape.specs.Unescaping.{HasNoNewline}
 use Rattle.series_model.specs.declared.sample.Sample.{Sample}
 use Rattle.series_model.specs.Series.{end_of, end_from}
 use Rattle.series_model.proofs.RisingLists.{RisesFrom-rest, RisesFrom-lower}
-use Rattle.payload_info.specs.declared.info.PayloadInfo.{PayloadInfo}
+use Rattle.pb_messages.specs.declared.info.PayloadInfo.{PayloadInfo}
 use Rattle.pb_wire.specs.declared.payload.PayloadType.{PayloadType}
 use Rattle.pb_lines.specs.Header.{IsHeaderLine}
 use Rattle.pb_lines.proofs.Unique.{one_header}

@@ -5,7 +5,7 @@ use Rattle.std.proofs.lemmas.Grind.{flat_map-append}
 use Rattle.std.proofs.lemmas.List.{length-take-le, take-append-drop, take-take, append_cancel_right}
 use Rattle.std.proofs.Math.Seq.{take-length}
 use Rattle.series_model.specs.declared.sample.Sample.{Sample}
-use Rattle.payload_info.specs.declared.info.PayloadInfo.{PayloadInfo}
+use Rattle.pb_messages.specs.declared.info.PayloadInfo.{PayloadInfo}
 use Rattle.pb_wire.specs.declared.payload.PayloadType.{PayloadType}
 use Rattle.pb_file.specs.declared.walk.Walked.TheVariants as walked
 use Rattle.pb_lines.specs.File.{IsFile}

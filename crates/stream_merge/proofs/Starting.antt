@@ -7,7 +7,7 @@ use Rattle.series_model.specs.declared.sample.Sample.{Sample}
 use Rattle.series_model.specs.declared.sample.Query.{Query}
 use Rattle.series_model.specs.Series.{RisesFrom, IsRising, before, since, end_from}
 use Rattle.series_model.proofs.RisingLists.{RisesFrom-front, RisesFrom-rest, RisesFrom-lower, RisesFrom-since, end_from-ge}
-use Rattle.payload_info.specs.declared.info.PayloadInfo.{PayloadInfo}
+use Rattle.pb_messages.specs.declared.info.PayloadInfo.{PayloadInfo}
 use Rattle.pb_lines.proofs.FileLines.{all_rest}
 use Rattle.pb_file.specs.Walk.{Walk, behind}
 use Rattle.pb_file.specs.Search.{end_place, place_from, BeginsWithHeader, IsLastLine, IsLineStart, MayBegin}

@@ -6,7 +6,7 @@ use Rattle.series_model.specs.declared.sample.Sample.{Sample}
 use Rattle.series_model.specs.declared.sample.Query.{Query}
 use Rattle.series_model.specs.Series.{RisesFrom, IsRising, before, end_of, taken_from}
 use Rattle.series_model.specs.Retrieval.{answer}
-use Rattle.payload_info.specs.declared.info.PayloadInfo.{PayloadInfo}
+use Rattle.pb_messages.specs.declared.info.PayloadInfo.{PayloadInfo}
 use Rattle.pb_file.specs.declared.search.SearchErr.{SearchErr}
 use Rattle.pb_file.specs.declared.search.SearchErr.TheVariants as refused
 use Rattle.pb_file.specs.Walk.{Walk}

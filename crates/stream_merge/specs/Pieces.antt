@@ -2,7 +2,7 @@
 use Rattle.std.specs.Prelude.{◌≡◌, ℕ, ◌+◌, ◌≤◌, List, [], ◌∷◌, length, take}
 use Rattle.disk_model.specs.Files.{Name}
 use Rattle.series_model.specs.declared.sample.Sample.{Sample}
-use Rattle.payload_info.specs.declared.info.PayloadInfo.{PayloadInfo}
+use Rattle.pb_messages.specs.declared.info.PayloadInfo.{PayloadInfo}
 use Rattle.pb_lines.specs.File.{IsFile}
 use Rattle.stream_merge.specs.declared.pieces.Opened.{Opened}
 use Rattle.stream_merge.specs.declared.pieces.Opened.TheVariants.{Piece, NoMore, ReadFault, Spent, Memory}

@@ -6,7 +6,7 @@ use Rattle.pb_wire.specs.declared.payload.PayloadType.{PayloadType}
 use Rattle.disk_model.specs.Files.{Name}
 use Rattle.series_model.specs.declared.sample.Sample.{Sample}
 use Rattle.series_model.specs.Series.{end_of}
-use Rattle.payload_info.specs.declared.info.PayloadInfo.{PayloadInfo}
+use Rattle.pb_messages.specs.declared.info.PayloadInfo.{PayloadInfo}
 use Rattle.pb_lines.specs.Header.{IsHeaderLine}
 use Rattle.pb_lines.specs.File.{IsFile, IsSample, HasNoHeader, HasNoSample}
 use Rattle.pb_file.specs.Search.{HasSampleAt, IsLineStart}

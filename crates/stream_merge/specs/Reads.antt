@@ -6,7 +6,7 @@ use Rattle.series_model.specs.declared.sample.Sample.{Sample}
 use Rattle.series_model.specs.declared.sample.Query.{Query}
 use Rattle.series_model.specs.Series.{taken, taken_from}
 use Rattle.series_model.specs.Retrieval.{answer}
-use Rattle.payload_info.specs.declared.info.PayloadInfo.{PayloadInfo}
+use Rattle.pb_messages.specs.declared.info.PayloadInfo.{PayloadInfo}
 use Rattle.pb_lines.specs.File.{IsFile}
 use Rattle.pb_file.specs.Walk.{Front, behind}
 use Rattle.pb_file.specs.Search.{IsLineStart}

@@ -7,7 +7,7 @@ use Rattle.disk_model.specs.Files.{Name, Rose}
 use Rattle.std.specs.Int.Digits.{digits_of}
 use Rattle.series_model.specs.declared.sample.Sample.{Sample}
 use Rattle.series_model.specs.declared.sample.Query.{Query}
-use Rattle.payload_info.specs.declared.info.PayloadInfo.{PayloadInfo}
+use Rattle.pb_messages.specs.declared.info.PayloadInfo.{PayloadInfo}
 use Rattle.pb_file.specs.declared.walk.Walked.{Walked}
 use Rattle.pb_file.specs.declared.walk.Walked.TheVariants as walked
 use Rattle.pb_lines.specs.File.{IsFile}

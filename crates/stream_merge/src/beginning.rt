@@ -3,7 +3,7 @@ ghost use Rattle.std.specs.Prelude.{◌≡◌, ◌≤◌, ◌<◌, ◌+◌, ◌*
 ghost use Rattle.std.specs.Prelude.{take};
 ghost use Rattle.disk_model.specs.Files.{Rose};
 ghost use Rattle.series_model.specs.declared.sample.Sample.{Sample};
-ghost use Rattle.payload_info.specs.declared.info.PayloadInfo.{PayloadInfo};
+ghost use Rattle.pb_messages.specs.declared.info.PayloadInfo.{PayloadInfo};
 ghost use Rattle.pb_lines.specs.File.{IsFile, HasNoHeader};
 ghost use Rattle.pb_file.specs.declared.search.SearchErr.TheVariants.{ReadFault, Damaged};
 ghost use Rattle.pb_file.specs.Walk.{behind};

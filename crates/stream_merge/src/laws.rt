@@ -5,7 +5,7 @@ ghost use Rattle.series_model.specs.declared.sample.Sample.{Sample};
 ghost use Rattle.series_model.specs.declared.sample.Query.{Query};
 ghost use Rattle.series_model.specs.Series.{end_of, taken};
 ghost use Rattle.series_model.specs.Retrieval.{answer};
-ghost use Rattle.payload_info.specs.declared.info.PayloadInfo.{PayloadInfo};
+ghost use Rattle.pb_messages.specs.declared.info.PayloadInfo.{PayloadInfo};
 ghost use Rattle.pb_lines.specs.File.{IsFile};
 ghost use Rattle.stream_merge.specs.Reading.{IsReadAs, IsBadFor};
 

@@ -3,7 +3,7 @@ ghost use Rattle.std.specs.Prelude.{◌≡◌, ◌≢◌, ◌≤◌, ◌<◌, �
 ghost use Rattle.std.specs.Prelude.{None, IfSome, IsSome, IsTrue, IfOk, IfErr, Err, length, take, drop};
 ghost use Rattle.disk_model.specs.Files.{Name, Rose};
 ghost use Rattle.series_model.specs.declared.sample.Sample.{Sample as SampleValue};
-ghost use Rattle.payload_info.specs.declared.info.PayloadInfo.{PayloadInfo as Info};
+ghost use Rattle.pb_messages.specs.declared.info.PayloadInfo.{PayloadInfo as Info};
 ghost use Rattle.stream_merge.specs.declared.pieces.Merged.TheVariants as merged;
 ghost use Rattle.stream_merge.specs.Pieces.{NamedBytes};
 ghost use Rattle.stream_merge.specs.Reading.{IsSampleOf, AreSamplesOf, IsBadFor, IsReadAs, IsDamaged};

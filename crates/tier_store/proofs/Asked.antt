@@ -11,7 +11,7 @@ use Rattle.disk_model.proofs.Passing.{passes_then, passes_weaker}
 use Rattle.durable_write.specs.Ends.{End, Done, end_of_disk}
 use Rattle.durable_write.proofs.Rises.{rose_after}
 use Rattle.partition_names.specs.declared.granularity.Granularity.{Granularity}
-use Rattle.pinned_pieces.specs.Pieces.{PinOf}
+use Rattle.pins.specs.Pieces.{PinOf}
 use Rattle.pv_catalog.specs.Catalogue.{CatalogueState}
 use Rattle.store_manifest.specs.Manifest.{ManifestState}
 use Rattle.tier_store.specs.Change.{Call, Changes, Has, HoldsBy}

@@ -7,12 +7,12 @@ use Rattle.std.proofs.lemmas.List.Sums.{count_by-le-length}
 use Rattle.std.proofs.lemmas.Option.{slice_get-get_or}
 use Rattle.etl_mover.specs.Move.{MoveState}
 use Rattle.etl_rules.specs.Choosing.{chosen, ripe}
-use Rattle.move_choice.specs.Parts.{covered, end_of, is_covered}
-use Rattle.move_choice.specs.Series.{IsToMove, of_series, parts_in}
-use Rattle.move_choice.specs.declared.parts.MoveRule.{MoveRule}
-use Rattle.move_choice.specs.declared.series.ToMove.{ToMove}
-use Rattle.move_choice.specs.declared.series.ToMove.TheVariants.{Begin}
-use Rattle.move_choice.specs.declared.series.ToMove.TheVariants as to_move
+use Rattle.moves.specs.Parts.{covered, end_of, is_covered}
+use Rattle.moves.specs.Series.{IsToMove, of_series, parts_in}
+use Rattle.moves.specs.declared.parts.MoveRule.{MoveRule}
+use Rattle.moves.specs.declared.series.ToMove.{ToMove}
+use Rattle.moves.specs.declared.series.ToMove.TheVariants.{Begin}
+use Rattle.moves.specs.declared.series.ToMove.TheVariants as to_move
 use Rattle.partition_names.specs.Part.{IsPart}
 use Rattle.pv_catalog.specs.declared.row.Row.{Row}
 use Rattle.store_manifest.specs.declared.entry.Entry.{Entry}

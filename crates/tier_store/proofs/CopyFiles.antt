@@ -32,7 +32,7 @@ use Rattle.etl_mover.specs.Lines.{IsSampleStart, with_line, with_lines}
 use Rattle.etl_mover.specs.Move.{MoveState, IsMove}
 use Rattle.etl_mover.specs.Step.{GoesTo, AreTaken, Takes, between, written_at}
 use Rattle.etl_mover.proofs.Advancing.{last_all}
-use Rattle.payload_info.specs.declared.info.PayloadInfo.{PayloadInfo}
+use Rattle.pb_messages.specs.declared.info.PayloadInfo.{PayloadInfo}
 use Rattle.pb_wire.specs.declared.payload.PayloadType.{PayloadType}
 use Rattle.durable_write.specs.Stored.{AreHeld}
 use Rattle.durable_write.proofs.Ending.{filter-map}

@@ -8,7 +8,7 @@ use Rattle.std.proofs.Math.Seq.{take-add, take-append_seam}
 use Rattle.disk_model.specs.Files.{Name, Files, HasFile}
 use Rattle.disk_model.specs.declared.disk.DiskErr.{DiskErr}
 use Rattle.line_escape.specs.Unescaping.{HasNoNewline}
-use Rattle.payload_info.specs.declared.info.PayloadInfo.{PayloadInfo}
+use Rattle.pb_messages.specs.declared.info.PayloadInfo.{PayloadInfo}
 use Rattle.pb_lines.specs.File.{IsSample, AreSamples, lines_of}
 use Rattle.pb_lines.specs.Header.{IsHeaderLine}
 use Rattle.pb_lines.specs.Sample.{IsSampleLine}

@@ -9,7 +9,7 @@ use Rattle.disk_model.specs.Past.{Passes}
 use Rattle.disk_model.proofs.Passing.{passes_none, passes_then, passes_weaker}
 use Rattle.gate_journal.specs.Generations.{IsOwn, AtOwn}
 use Rattle.gate_journal.proofs.Owning.{own_store}
-use Rattle.pinned_pieces.specs.Pieces.{PinOf}
+use Rattle.pins.specs.Pieces.{PinOf}
 use Rattle.durable_write.specs.Held.{Filed, Shelf, file_of}
 use Rattle.durable_write.specs.Three.{Beside}
 use Rattle.tier_store.specs.Limbo.{IsNeeded, Removes, Spares}

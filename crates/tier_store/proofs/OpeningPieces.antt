@@ -10,10 +10,10 @@ use Rattle.disk_model.specs.Files.{Name, Files, HasFile}
 use Rattle.disk_model.specs.Past.{Past, Passes}
 use Rattle.partition_names.specs.declared.granularity.Granularity.{Granularity}
 use Rattle.pv_catalog.specs.Catalogue.{CatalogueState, catalogue_name}
-use Rattle.pin_table.specs.declared.table.PinErr.{PinErr}
-use Rattle.pin_table.specs.declared.table.PinErr.TheVariants.{NotYours}
-use Rattle.pinned_pieces.specs.Pieces.{PinOf, asked}
-use Rattle.pinned_pieces.specs.declared.piece.PinnedFile.{PinnedFile}
+use Rattle.pins.specs.declared.table.PinErr.{PinErr}
+use Rattle.pins.specs.declared.table.PinErr.TheVariants.{NotYours}
+use Rattle.pins.specs.Pieces.{PinOf, asked}
+use Rattle.pins.specs.declared.piece.PinnedFile.{PinnedFile}
 use Rattle.store_manifest.specs.Manifest.{ManifestState, manifest_name}
 use Rattle.store_manifest.specs.declared.entry.Entry.{Entry}
 use Rattle.durable_write.specs.Held.{entry_of, file_of, shelf_of}

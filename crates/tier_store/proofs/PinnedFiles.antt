@@ -33,10 +33,10 @@ use Rattle.act_model.specs.Pin.{over_pieces}
 use Rattle.std.proofs.lemmas.Bool.{cases_lt}
 use Rattle.act_model.specs.Rule.{index_of}
 use Rattle.pb_lines.specs.File.{lines_of}
-use Rattle.piece_choice.specs.Choosing.{IsChoice, IsChosen, StartsBehind, StartsPast, ends_before, listed}
-use Rattle.piece_choice.specs.declared.choosing.Choice.{Choice}
-use Rattle.piece_choice.specs.declared.choosing.Listed.{Listed}
-use Rattle.pinned_pieces.specs.declared.piece.PinnedFile.{PinnedFile}
+use Rattle.pins.specs.Choosing.{IsChoice, IsChosen, StartsBehind, StartsPast, ends_before, listed}
+use Rattle.pins.specs.declared.choosing.Choice.{Choice}
+use Rattle.pins.specs.declared.choosing.Listed.{Listed}
+use Rattle.pins.specs.declared.piece.PinnedFile.{PinnedFile}
 use Rattle.store_manifest.specs.declared.entry.Entry.{Entry}
 use Rattle.durable_write.proofs.Ending.{filter-map}
 use Rattle.std.specs.FinMap.{FinMap, get, get-insert, insert}
@@ -48,8 +48,8 @@ use Rattle.act_model.specs.declared.acts.Answer.TheVariants.{NoSuchVariable, Pin
 use Rattle.disk_model.specs.Files.{Files, HasFile, Name}
 use Rattle.disk_model.specs.declared.disk.DiskErr.{DiskErr}
 use Rattle.disk_model.specs.declared.disk.DiskErr.TheVariants.{Memory}
-use Rattle.event_types.specs.declared.about.About.{About}
-use Rattle.pinned_pieces.specs.Pieces.{PinOf}
+use Rattle.pb_messages.specs.declared.about.About.{About}
+use Rattle.pins.specs.Pieces.{PinOf}
 use Rattle.pv_catalog.specs.Rows.{HasName}
 use Rattle.store_files.specs.Fronts.{Begins}
 use Rattle.durable_write.specs.Ends.{IsCut}

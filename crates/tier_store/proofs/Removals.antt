@@ -27,8 +27,8 @@ use Rattle.disk_model.specs.Past.{Past, Passes, Only}
 use Rattle.disk_model.specs.declared.disk.DiskErr.{DiskErr}
 use Rattle.disk_model.proofs.Passing.{passes_weaker, passes_none, passes_then}
 use Rattle.disk_model.specs.Record.{is_same}
-use Rattle.pin_table.specs.Pinned.{PinState, IsPinned}
-use Rattle.pinned_pieces.specs.Pieces.{PinOf, Agree}
+use Rattle.pins.specs.Pinned.{PinState, IsPinned}
+use Rattle.pins.specs.Pieces.{PinOf, Agree}
 use Rattle.pv_catalog.specs.Catalogue.{CatalogueState}
 use Rattle.store_manifest.specs.declared.entry.Entry.{Entry}
 use Rattle.store_manifest.specs.Entries.{place, comes_before, is_listed, InOrder}

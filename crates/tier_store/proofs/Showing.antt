@@ -4,8 +4,8 @@ use Rattle.std.specs.Prelude.{Contains, IsTrue, slice_get}
 use Rattle.std.proofs.lemmas.List.Elements.{All-contains, Contains-get_or}
 use Rattle.disk_model.specs.Files.{Name, Files}
 use Rattle.disk_model.specs.Past.{Past}
-use Rattle.event_types.specs.declared.about.About.{About}
-use Rattle.event_types.specs.declared.about.State.{State}
+use Rattle.pb_messages.specs.declared.about.About.{About}
+use Rattle.pb_messages.specs.declared.about.State.{State}
 use Rattle.gate_journal.specs.Generations.{IsOwn}
 use Rattle.gate_journal.proofs.Owning.{own_store}
 use Rattle.pv_catalog.specs.Catalogue.{CatalogueState, registered, renamed}

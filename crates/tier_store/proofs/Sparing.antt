@@ -13,8 +13,8 @@ use Rattle.gate_journal.specs.Journal.{JournalState}
 use Rattle.gate_journal.proofs.Keeping.{says_stays}
 use Rattle.gate_journal.proofs.Owning.{own_store}
 use Rattle.partition_names.specs.declared.granularity.Granularity.{Granularity}
-use Rattle.pinned_pieces.specs.Pieces.{PinOf, file_of as piece_file}
-use Rattle.pinned_pieces.specs.declared.piece.PinnedFile.{PinnedFile}
+use Rattle.pins.specs.Pieces.{PinOf, file_of as piece_file}
+use Rattle.pins.specs.declared.piece.PinnedFile.{PinnedFile}
 use Rattle.pv_catalog.specs.declared.row.Row.{Row}
 use Rattle.pv_catalog.specs.Catalogue.{CatalogueState, catalogue_name}
 use Rattle.pv_catalog.specs.Rows.{IsCatalogue}

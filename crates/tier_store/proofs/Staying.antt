@@ -14,9 +14,9 @@ use Rattle.disk_model.specs.Files.{Name, Content, Files, HasFile, size_of}
 use Rattle.disk_model.specs.Past.{Past, Passes, Only}
 use Rattle.disk_model.proofs.Passing.{passes_then}
 use Rattle.partition_names.specs.declared.granularity.Granularity.{Granularity}
-use Rattle.pinned_pieces.specs.Pieces.{PinOf, named, Agree}
-use Rattle.pinned_pieces.specs.Pieces.{file_of as piece_file}
-use Rattle.pin_table.specs.Pinned.{PinState, IsPinned}
+use Rattle.pins.specs.Pieces.{PinOf, named, Agree}
+use Rattle.pins.specs.Pieces.{file_of as piece_file}
+use Rattle.pins.specs.Pinned.{PinState, IsPinned}
 use Rattle.store_manifest.specs.Manifest.{ManifestState}
 use Rattle.durable_write.specs.Held.{Filed, IsListed, file_of, filed_at}
 use Rattle.durable_write.specs.Stored.{KeysDiffer}

@@ -16,7 +16,7 @@ use Rattle.partition_names.specs.Path.{path_of}
 use Rattle.partition_names.specs.declared.part.Part.{Part}
 use Rattle.partition_names.proofs.PartLemmas as parts
 use Rattle.partition_names.specs.declared.granularity.Granularity.{Granularity}
-use Rattle.pinned_pieces.specs.Pieces.{PinOf}
+use Rattle.pins.specs.Pieces.{PinOf}
 use Rattle.pv_catalog.specs.Catalogue.{CatalogueState}
 use Rattle.pv_catalog.specs.declared.row.Row.{Row}
 use Rattle.store_manifest.specs.Manifest.{ManifestState}

@@ -2,10 +2,10 @@
 use Rattle.std.specs.Prelude.{◌≡◌, ◌<◌, ◌+◌, ℕ, List, map, length, Option, Some, slice_get, Bool, IsTrue}
 use Rattle.etl_mover.specs.Move.{MoveState, HasBegun, IsMove, StillLists, IsOfRow}
 use Rattle.etl_mover.specs.Step.{IsToRow}
-use Rattle.move_choice.specs.Series.{IsToMove, parts_in}
-use Rattle.move_choice.specs.declared.parts.MoveRule.{MoveRule}
-use Rattle.move_choice.specs.declared.series.ToMove.{ToMove}
-use Rattle.move_choice.specs.declared.series.ToMove.TheVariants as chosen
+use Rattle.moves.specs.Series.{IsToMove, parts_in}
+use Rattle.moves.specs.declared.parts.MoveRule.{MoveRule}
+use Rattle.moves.specs.declared.series.ToMove.{ToMove}
+use Rattle.moves.specs.declared.series.ToMove.TheVariants as chosen
 use Rattle.partition_names.specs.declared.granularity.Granularity.{Granularity}
 use Rattle.partition_names.specs.Granularity.{Holds}
 use Rattle.pv_catalog.specs.declared.row.Row.{Row}

@@ -2,7 +2,7 @@
 use Rattle.std.specs.Prelude.{◌≡◌, ◌≤◌, ◌+◌, ◌-◌, ℕ, ℤ, Bool, List, [], ◌∷◌, ◌++◌, length, take, drop, true, false}
 use Rattle.disk_model.specs.Files.{Name, Files, HasFile}
 use Rattle.line_escape.specs.Unescaping.{HasNoNewline}
-use Rattle.payload_info.specs.declared.info.PayloadInfo.{PayloadInfo}
+use Rattle.pb_messages.specs.declared.info.PayloadInfo.{PayloadInfo}
 use Rattle.pb_wire.specs.declared.payload.PayloadType.{PayloadType}
 use Rattle.pb_lines.specs.File.{IsSample, AreSamples, lines_of}
 use Rattle.pb_lines.specs.Header.{IsHeaderLine}

@@ -7,8 +7,8 @@ use Rattle.disk_model.specs.Files.{Name, Files}
 use Rattle.disk_model.specs.Past.{Past, Passes, Only}
 use Rattle.partition_names.specs.declared.granularity.Granularity.{Granularity}
 use Rattle.partition_names.specs.Part.{IsPart}
-use Rattle.pinned_pieces.specs.Pieces.{PinOf}
-use Rattle.pinned_pieces.specs.Pieces.{file_of as piece_file}
+use Rattle.pins.specs.Pieces.{PinOf}
+use Rattle.pins.specs.Pieces.{file_of as piece_file}
 use Rattle.pv_catalog.specs.declared.row.Row.{Row}
 use Rattle.store_manifest.specs.Manifest.{ManifestState}
 use Rattle.store_manifest.specs.declared.entry.Entry.{Entry}

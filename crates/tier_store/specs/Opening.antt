@@ -7,10 +7,10 @@ use Rattle.act_model.specs.declared.acts.Answer.TheVariants.{Piece, DiskFault, M
 use Rattle.act_model.specs.declared.acts.Answer.TheVariants as answers
 use Rattle.disk_model.specs.declared.disk.DiskErr.{DiskErr}
 use Rattle.disk_model.specs.declared.disk.DiskErr.TheVariants as disk
-use Rattle.pin_table.specs.declared.table.PinErr.{PinErr}
-use Rattle.pin_table.specs.declared.table.PinErr.TheVariants.{NoPin, NotYours}
-use Rattle.pinned_pieces.specs.Pieces.{PinOf}
-use Rattle.pinned_pieces.specs.declared.piece.PinnedFile.{PinnedFile}
+use Rattle.pins.specs.declared.table.PinErr.{PinErr}
+use Rattle.pins.specs.declared.table.PinErr.TheVariants.{NoPin, NotYours}
+use Rattle.pins.specs.Pieces.{PinOf}
+use Rattle.pins.specs.declared.piece.PinnedFile.{PinnedFile}
 use Rattle.durable_write.specs.Ends.{End, Done, Failed, Spent}
 use Rattle.tier_store.specs.Pinned.{SeenAll, Shows}
 

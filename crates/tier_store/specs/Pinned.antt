@@ -6,8 +6,8 @@ use Rattle.std.specs.Prelude.{◌≡◌, ◌≢◌, ◌⊎◌, ◌≤◌, ◌+�
 use Rattle.disk_model.specs.Files.{Name}
 use Rattle.disk_model.specs.Past.{Passes}
 use Rattle.disk_model.specs.declared.disk.Disk.{Ghosts}
-use Rattle.pinned_pieces.specs.Pieces.{PinOf}
-use Rattle.pinned_pieces.specs.declared.piece.PinnedFile.{PinnedFile}
+use Rattle.pins.specs.Pieces.{PinOf}
+use Rattle.pins.specs.declared.piece.PinnedFile.{PinnedFile}
 use Rattle.store_files.specs.Fronts.{Begins, Keeps}
 use Rattle.store_manifest.specs.Manifest.{ManifestState}
 use Rattle.store_manifest.specs.declared.entry.Entry.{Entry}

@@ -9,11 +9,11 @@ use Rattle.act_model.specs.Rows.{Store, Short, Medium, Long}
 use Rattle.act_model.specs.Rule.{index_of}
 use Rattle.act_model.specs.declared.acts.Answer.{Answer}
 use Rattle.act_model.specs.declared.acts.Answer.TheVariants.{Pinned, NoSuchVariable}
-use Rattle.event_types.specs.declared.about.About.{About}
-use Rattle.piece_choice.specs.Choosing.{IsChosen, listed}
-use Rattle.piece_choice.specs.declared.choosing.Listed.{Listed}
-use Rattle.pinned_pieces.specs.Pieces.{PinOf}
-use Rattle.pinned_pieces.specs.declared.piece.PinnedFile.{PinnedFile}
+use Rattle.pb_messages.specs.declared.about.About.{About}
+use Rattle.pins.specs.Choosing.{IsChosen, listed}
+use Rattle.pins.specs.declared.choosing.Listed.{Listed}
+use Rattle.pins.specs.Pieces.{PinOf}
+use Rattle.pins.specs.declared.piece.PinnedFile.{PinnedFile}
 use Rattle.pv_catalog.specs.Lines.{line}
 use Rattle.pv_catalog.specs.Rows.{HasName}
 use Rattle.pv_catalog.specs.declared.row.Row.{Row}

@@ -4,7 +4,7 @@ ghost use Rattle.std.specs.Prelude.{IsErrOf, IsTrue};
 ghost use Rattle.arch_time.specs.YearTime.{IsSampleYear};
 ghost use Rattle.disk_model.specs.Files.{HasFile, Rose};
 ghost use Rattle.line_escape.specs.Unescaping.{HasNoNewline};
-ghost use Rattle.payload_info.specs.declared.info.PayloadInfo.{PayloadInfo as PayloadInfoValue};
+ghost use Rattle.pb_messages.specs.declared.info.PayloadInfo.{PayloadInfo as PayloadInfoValue};
 ghost use Rattle.pb_lines.specs.File.{IsFile};
 ghost use Rattle.pb_lines.specs.Header.{IsHeaderLine};
 ghost use Rattle.series_model.specs.Series.{since};
@@ -13,10 +13,9 @@ ghost use Rattle.tier_store.specs.Counting.{CountsLines, HasLines, ReadsDisk};
 
 use arch_time::YearStart;
 use disk_model::{Disk, DiskErr, FileName};
-use event_types::PayloadType;
 use line_escape::line_len;
-use payload_info::PayloadInfo;
 use pb_lines::{HeadErr, LineErr, header_of_line, moment_of_line};
+use pb_messages::{PayloadInfo, PayloadType};
 use std::alloc::{AllocError, Global};
 use store_manifest::Entry;
 

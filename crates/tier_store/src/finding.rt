@@ -1,7 +1,7 @@
 // Where the lines of a listed file begin that are later than a moment: they are read in pieces, one after another.
 ghost use Rattle.std.specs.Prelude.{◌≡◌, ◌≤◌, ◌+◌, ℕ, List, Contains, IfOk, IsErrOf, IsTrue, false, length, take};
 ghost use Rattle.disk_model.specs.Files.{HasFile, Rose};
-ghost use Rattle.payload_info.specs.declared.info.PayloadInfo.{PayloadInfo as PayloadInfoValue};
+ghost use Rattle.pb_messages.specs.declared.info.PayloadInfo.{PayloadInfo as PayloadInfoValue};
 ghost use Rattle.pb_lines.specs.File.{IsFile};
 ghost use Rattle.series_model.specs.declared.sample.Sample.{Sample};
 ghost use Rattle.durable_write.specs.Ends.{end_of_disk};
@@ -19,9 +19,9 @@ use crate::counting::{PIECE, header_of, read};
 use arch_time::YearStart;
 use disk_model::{Disk, DiskErr, FileName};
 use durable_write::file_name;
-use event_types::PayloadType;
 use line_escape::line_len;
 use pb_lines::{LineErr, moment_of_line};
+use pb_messages::PayloadType;
 use std::alloc::{AllocError, Global};
 use store_manifest::Entry;
 

@@ -24,7 +24,7 @@ ghost use Rattle.tier_store.specs.Seen.{seen_on, AtEach, granularities};
 ghost use Rattle.tier_store.specs.Stored.{HoldsAll};
 ghost use Rattle.std.specs.FinMap.{FinMap, empty, remove};
 ghost use Rattle.std.specs.Ordering.{nat_cmp};
-ghost use Rattle.pinned_pieces.specs.Pieces.{PinOf};
+ghost use Rattle.pins.specs.Pieces.{PinOf};
 ghost use Rattle.pv_catalog.specs.Rows.{AreRows, KeepsRows};
 ghost use Rattle.tier_store.specs.Copied.{IsPartFile, WritesNext, end_after};
 ghost use Rattle.tier_store.specs.Copying.{CopiesBeside, KnowsHeads};

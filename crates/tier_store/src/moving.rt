@@ -11,7 +11,7 @@ ghost use Rattle.tier_store.specs.Change.{Has};
 use crate::TierStore;
 use disk_model::{Disk, DiskErr};
 use etl_mover::Move;
-use move_choice::{MoveRule, ToMove, move_to_make};
+use moves::{MoveRule, ToMove, move_to_make};
 use pv_catalog::Row;
 use std::alloc::{AllocError, Global};
 use std::collections::BTreeMap;

@@ -2,9 +2,9 @@
 ghost use Rattle.std.specs.Prelude.{◌≡◌, length, slice_get, Some, None, Ok, Err};
 ghost use Rattle.std.specs.FinMap.{get};
 ghost use Rattle.act_model.specs.declared.acts.Answer.TheVariants.{NoPiece};
-ghost use Rattle.pin_table.specs.declared.table.PinErr.{PinErr as PinErrValue};
-ghost use Rattle.pinned_pieces.specs.Pieces.{PinOf, asked};
-ghost use Rattle.pinned_pieces.specs.declared.piece.PinnedFile.{PinnedFile as Piece};
+ghost use Rattle.pins.specs.declared.table.PinErr.{PinErr as PinErrValue};
+ghost use Rattle.pins.specs.Pieces.{PinOf, asked};
+ghost use Rattle.pins.specs.declared.piece.PinnedFile.{PinnedFile as Piece};
 ghost use Rattle.tier_store.specs.Stores.{Stores};
 ghost use Rattle.tier_store.specs.Seen.{seen};
 ghost use Rattle.tier_store.specs.Change.{IsOpen, OnlyReads};
@@ -17,7 +17,7 @@ ghost use Rattle.tier_store.specs.Revival.{KeepsWhole};
 use crate::TierStore;
 use act_model::Answer;
 use disk_model::{Disk, DiskErr};
-use pin_table::PinErr;
+use pins::PinErr;
 
 // How one is answered who asks for a pin that isn't there, or is another's.
 fn refused<R: Drop>(e: PinErr) -> Answer<R>

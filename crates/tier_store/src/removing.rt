@@ -18,7 +18,7 @@ ghost use Rattle.tier_store.specs.Seen.{AtEach};
 
 use crate::limbo::{Retired, is_unlisted};
 use disk_model::{Disk, DiskErr, FileName};
-use pinned_pieces::PinnedPieces;
+use pins::PinnedPieces;
 use std::alloc::Global;
 use store_manifest::Manifest;
 

@@ -28,7 +28,7 @@ use crate::limbo::{Retired, leave_listed};
 use crate::removing::{find_removable, is_needed, remove_for_good};
 use disk_model::{Disk, DiskErr, FileName};
 use durable_write::file_name;
-use pinned_pieces::PinnedPieces;
+use pins::PinnedPieces;
 use pv_catalog::Row;
 use std::alloc::{AllocError, Global};
 use store_manifest::{Change, Entry};

@@ -4,8 +4,8 @@ use Rattle.std.specs.Prelude.{◌==◌, filter, nat_le, slice_get, if◌then◌e
 use Rattle.std.specs.FinMap.{FinMap, empty, get, insert, remove, get-empty, gets}
 use Rattle.std.specs.Ordering.{nat_cmp}
 use Rattle.std.proofs.lemmas.Bool.Decides.{nat_tests}
-use Rattle.event_types.specs.declared.about.About.{About}
-use Rattle.event_types.specs.declared.about.Method.TheVariants.{Monitor}
+use Rattle.pb_messages.specs.declared.about.About.{About}
+use Rattle.pb_messages.specs.declared.about.Method.TheVariants.{Monitor}
 use Rattle.series_model.specs.declared.sample.Query.{Query}
 use Rattle.act_model.specs.declared.acts.Act.{Act}
 use Rattle.act_model.specs.declared.acts.Act.TheVariants.{Register, Pause, Resume, Rename, Offer, Tick, Flush, MoveBegin, MoveStep, Sweep, Pin, OpenPiece, Unpin, Names, Details, Doors, DoorDone}

@@ -9,7 +9,7 @@ ghost use Rattle.turn_tests.specs.Boards.{BoardStands, BoardLeaves, StepsTo};
 use act_model::{Act, Answer};
 use archive_actors::Applies;
 use disk_model::{MemFile, ReadAt};
-use event_types::{About, Method};
+use pb_messages::{About, Method};
 use pb_wire::PayloadType;
 use pv_name::PvName;
 use series_model::{Blob, Pairs, Query, Samples};

@@ -1,4 +1,4 @@
-//! The tests of `turn_rooms`, `pair_work` and `archive_actors`: rooms and pairs in threads, and, over a board on which
+//! The tests of `turn_rooms`, `workers` and `archive_actors`: rooms and pairs in threads, and, over a board on which
 //! one pin can be made, two who share it and act on it in turn, and two passes of it that meet.
 #![tactic(auto)]
 

@@ -1,5 +1,5 @@
 // Pairs over threads: each pair is called on once, with its partner, and nothing else changes.
-use pair_work::{run_all, run_with};
+use workers::{run_all, run_with};
 
 // Counts the call, and takes in the partner.
 fn add(sum: &mut (u64, u64), other: &mut u64) {

@@ -1,5 +1,5 @@
 // Tests of the tails of rows: what is held, given up and taken out.
-use append_buffer::{Intake, OfferErr, ROOM};
+use intake::{Intake, OfferErr, ROOM};
 use series_model::{Blob, Sample};
 use std::alloc::{AllocError, Global};
 use std::test::Fail;

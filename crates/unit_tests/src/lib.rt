@@ -1,4 +1,4 @@
-//! The tests of `append_buffer`, `sampler` and `stream_merge`.
+//! The tests of `intake` and `stream_merge`.
 //!
 //! They stand apart from the crates that they test, since a crate with tests of its own is proved twice.
 #![tactic(auto)]

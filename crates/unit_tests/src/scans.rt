@@ -1,5 +1,5 @@
 // Tests of a row that is sampled at a period.
-use sampler::Scan;
+use intake::Scan;
 use series_model::{Blob, Sample};
 use std::alloc::{AllocError, Global};
 use std::test::Fail;

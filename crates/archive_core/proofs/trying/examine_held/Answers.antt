@@ -1,7 +1,7 @@
 use Rattle.std.proofs.Common.{◌≡◌, Some, ◌∙◌, ap, sym}
 use Rattle.std.specs.Option.{option_copied}
 use Rattle.std.proofs.lemmas.Option.{same_Some}
-use Rattle.sampler.specs.Row.{SampledRow}
+use Rattle.intake.specs.Row.{SampledRow}
 use Rattle.archive_core.proofs.trying.examine_held.Goals as goal
 
 pub returns-clause-tried : goal.returns-clause-tried

@@ -1,7 +1,7 @@
 use Rattle.std.proofs.Common.{◌≡◌, ◌≤◌, ◌<◌, ◌+◌, ℕ, Result, Ok, Err, refl, arith, ◌↔◌}
 use Rattle.std.specs.Prelude.{OnOk}
-use Rattle.append_buffer.specs.declared.intake.OfferErr.{OfferErr}
-use Rattle.append_buffer.specs.declared.intake.OfferErr.TheVariants.{IntakeFull, Memory}
+use Rattle.intake.specs.declared.intake.OfferErr.{OfferErr}
+use Rattle.intake.specs.declared.intake.OfferErr.TheVariants.{IntakeFull, Memory}
 use Rattle.archive_core.proofs.trying.keep.Goals as goal
 
 -- an offer for which there is room and memory is held

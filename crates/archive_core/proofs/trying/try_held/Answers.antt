@@ -1,7 +1,7 @@
 use Rattle.std.proofs.Common.{◌≡◌, ◌+◌, ◌++◌, ◌∷◌, [], ℕ, length, List, Option, Some, None, Result, Ok, refl, sym, ◌∙◌, ap, subst, arith}
 use Rattle.std.specs.Prelude.{IsSome}
 use Rattle.std.proofs.lemmas.Option.{same_Some}
-use Rattle.append_buffer.specs.Tails.{TailState, tail_at, KeepsTails, SetsTail}
+use Rattle.intake.specs.Tails.{TailState, tail_at, KeepsTails, SetsTail}
 use Rattle.series_model.specs.declared.sample.Sample.{Sample}
 use Rattle.archive_core.specs.declared.memory.RowMemory.{RowMemory}
 use Rattle.archive_core.specs.declared.trying.Refusal.{Refusal}

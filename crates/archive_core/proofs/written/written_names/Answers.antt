@@ -1,7 +1,7 @@
 use Rattle.std.proofs.Common.{ap, ◌∙◌}
 use Rattle.std.specs.List.{flat_map}
 use Rattle.std.proofs.lemmas.List.{take_all}
-use Rattle.running_moves.specs.Table.{inner}
+use Rattle.moves.specs.Table.{inner}
 use Rattle.archive_core.specs.Written.{names_of_slot}
 use Rattle.archive_core.proofs.Lists.{read_at}
 use Rattle.archive_core.proofs.WrittenNames.{are_written}

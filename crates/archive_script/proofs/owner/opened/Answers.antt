@@ -1,7 +1,7 @@
 use Rattle.std.proofs.Common.{List, None, Some, Option, refl, sym, subst, ap}
 use Rattle.std.specs.Prelude.{Result, Ok, Err}
-use Rattle.payload_info.specs.Info.{info_of}
-use Rattle.payload_info.specs.declared.info.PayloadInfo.{PayloadInfo}
+use Rattle.pb_messages.specs.Info.{info_of}
+use Rattle.pb_messages.specs.declared.info.PayloadInfo.{PayloadInfo}
 use Rattle.etl_rules.specs.Config.{ConfigState}
 use Rattle.partition_names.specs.declared.granularity.Granularity.{Granularity}
 use Rattle.act_model.specs.Rule.{Rule, Header}

@@ -1,6 +1,6 @@
 use Rattle.std.proofs.Common.{ℕ, sym, subst}
 use Rattle.etl_rules.specs.Config.{ConfigState}
-use Rattle.serving_loops.specs.Due.{MovesAll}
+use Rattle.serving.specs.Due.{MovesAll}
 use Rattle.store_reopen.specs.Reopen.{stores_of}
 use Rattle.archiver_appliance.specs.Drilling.{OpensWell}
 use Rattle.archiver_appliance.proofs.DrillReads.{stands_behind}

@@ -8,7 +8,7 @@ use Rattle.archiver_appliance.specs.Judging.{FindsPart}
 use Rattle.archiver_appliance.proofs.Chained.{done_alone}
 use Rattle.archiver_appliance.proofs.MovedParts.{finds_part, part_damaged}
 use Rattle.act_model.specs.declared.acts.Answer.TheVariants as answer
-use Rattle.serving_loops.specs.declared.moves.MoveErr.TheVariants as err
+use Rattle.serving.specs.declared.moves.MoveErr.TheVariants as err
 use Rattle.archiver_appliance.proofs.Acting.{acts_from, acts_given, begins, both_hold, count_given, handed, has_not_fallen, has_risen, nested_in, ran, rose_given, stands_at_first, unopened_back, unopened_given}
 use Rattle.archiver_appliance.proofs.StoppedMoves.{last_answered, moved_caused, moved_damaged, moved_last, run_undamaged}
 use Rattle.archiver_appliance.proofs.moving.move_due.Goals as goal

@@ -1,6 +1,6 @@
 use Rattle.std.proofs.Common.{arith}
 use Rattle.line_escape.proofs.EscapingLemmas.{escaped-Means}
-use Rattle.event_types.specs.Spelling.{event_text}
+use Rattle.pb_messages.specs.Spelling.{event_text}
 use Rattle.drill_feed.specs.Workload.{event_at, second_at, value_at}
 use Rattle.drill_feed.proofs.Lines.{event_read}
 use Rattle.drill_feed.proofs.Moments.{value_small}

@@ -2,7 +2,7 @@ use Rattle.std.proofs.Common.{◌≡◌, ◌+◌, ◌++◌, ◌∷◌, [], ℕ, 
 use Rattle.std.proofs.lemmas.Int.{ints}
 use Rattle.std.proofs.lemmas.List.{length-append}
 use Rattle.line_escape.specs.Escaping.{escaped}
-use Rattle.payload_info.specs.Spelling.{info_text}
+use Rattle.pb_messages.specs.InfoSpelling.{info_text}
 use Rattle.store_manifest.specs.declared.entry.Entry.{Entry}
 use Rattle.durable_write.specs.Flush.{header_of}
 use Rattle.durable_write.proofs.Headers.{fits_in_memory}

@@ -1,5 +1,5 @@
 use Rattle.std.proofs.Common.{◌<◌, List, length, take, Some, sym, ap, subst, arith}
-use Rattle.payload_info.specs.declared.info.PayloadInfo.{PayloadInfo}
+use Rattle.pb_messages.specs.declared.info.PayloadInfo.{PayloadInfo}
 use Rattle.pb_lines.specs.Header.{IsHeaderLine}
 use Rattle.pb_lines.proofs.Unique.{one_header, header_or_fault}
 use Rattle.etl_mover.proofs.Parts.{header_ends}

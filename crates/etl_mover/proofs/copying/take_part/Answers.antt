@@ -4,7 +4,7 @@ use Rattle.std.specs.Int.{w32}
 use Rattle.std.proofs.lemmas.Int.{to_z-of_z, ints}
 use Rattle.std.proofs.lemmas.List.{length-take}
 use Rattle.arch_time.specs.YearTime.{IsSampleYear}
-use Rattle.payload_info.specs.declared.info.PayloadInfo.{PayloadInfo}
+use Rattle.pb_messages.specs.declared.info.PayloadInfo.{PayloadInfo}
 use Rattle.store_manifest.specs.declared.entry.Entry.{Entry}
 use Rattle.etl_mover.specs.Lines.{TakesLines}
 use Rattle.etl_mover.proofs.Parts.{keeps_part, lines_long}

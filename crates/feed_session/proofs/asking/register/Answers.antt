@@ -1,6 +1,6 @@
 use Rattle.std.proofs.Common.{◌≡◌, ◌∙◌, ap, sym, subst, refl, inl, inr, List, [], ◌∷◌, ℕ, Some, true}
 use Rattle.std.specs.Option.{option_copied}
-use Rattle.payload_info.specs.declared.info.PayloadInfo.{PayloadInfo}
+use Rattle.pb_messages.specs.declared.info.PayloadInfo.{PayloadInfo}
 use Rattle.act_model.specs.declared.acts.Act.TheVariants.{Register}
 use Rattle.act_model.specs.History.{Done}
 use Rattle.act_model.proofs.Histories.{made_nothing}

@@ -1,6 +1,6 @@
 use Rattle.std.proofs.Common.{◌≡◌, ◌∙◌, ap, sym, List, [], ◌∷◌, ℕ, Some}
 use Rattle.std.specs.Option.{option_copied}
-use Rattle.payload_info.specs.declared.info.PayloadInfo.{PayloadInfo}
+use Rattle.pb_messages.specs.declared.info.PayloadInfo.{PayloadInfo}
 use Rattle.act_model.specs.History.{Done}
 use Rattle.feed_session.specs.Asks.{offer_of}
 use Rattle.feed_session.specs.Asking.{both, none, one_more, tally_of}

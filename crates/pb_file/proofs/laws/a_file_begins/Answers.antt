@@ -1,7 +1,7 @@
 use Rattle.line_escape.specs.Escaping.{escaped}
 use Rattle.line_escape.proofs.EscapingLemmas.{escaped-HasNoNewline, escaped-Means}
-use Rattle.payload_info.specs.Spelling.{info_text}
-use Rattle.payload_info.proofs.RoundTrip.{info_back}
+use Rattle.pb_messages.specs.InfoSpelling.{info_text}
+use Rattle.pb_messages.proofs.InfoRoundTrip.{info_back}
 use Rattle.pb_lines.proofs.FileMeaning as meaning
 use Rattle.pb_file.proofs.laws.a_file_begins.Goals as goal
 

@@ -1,7 +1,7 @@
 use Rattle.std.proofs.Common.{◌≡◌, ◌≤◌, ◌<◌, ◌+◌, ◌-◌, ◌*◌, ◌^◌, ℕ, List, IsTrue, length, take}
 use Rattle.std.specs.Prelude.{IfSome}
 use Rattle.series_model.specs.declared.sample.Sample.{Sample}
-use Rattle.payload_info.specs.declared.info.PayloadInfo.{PayloadInfo}
+use Rattle.pb_messages.specs.declared.info.PayloadInfo.{PayloadInfo}
 use Rattle.pb_lines.specs.File.{IsFile}
 use Rattle.pb_file.specs.Skip.{HasHeader}
 use Rattle.pb_file.specs.Search.{HasSampleAt, IsLineStart, MayBegin}

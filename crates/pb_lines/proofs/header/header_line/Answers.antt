@@ -2,8 +2,8 @@ use Rattle.std.proofs.Common.{◌≡◌, Ok}
 use Rattle.std.proofs.lemmas.Result.{on_ok_weaker}
 use Rattle.arch_time.specs.YearTime.{IsSampleYear}
 use Rattle.line_escape.proofs.EscapingLemmas.{escaped-Means}
-use Rattle.payload_info.specs.Info.{info_of}
-use Rattle.payload_info.specs.Spelling.{info_text}
+use Rattle.pb_messages.specs.Info.{info_of}
+use Rattle.pb_messages.specs.InfoSpelling.{info_text}
 use Rattle.pb_lines.proofs.header.header_line.Goals as goal
 
 pub returns-else-is_err-clause-back : goal.returns-else-is_err-clause-back

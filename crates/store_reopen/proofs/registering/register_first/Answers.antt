@@ -1,5 +1,5 @@
 use Rattle.std.proofs.Common.{◌∷◌, [], true, false, subst}
-use Rattle.event_types.specs.declared.about.About.{About}
+use Rattle.pb_messages.specs.declared.about.About.{About}
 use Rattle.store_reopen.specs.Adoption.{about_of}
 use Rattle.store_reopen.specs.Reopen.{loaded}
 use Rattle.store_reopen.specs.Steps.{MakesSteps, NewRow}

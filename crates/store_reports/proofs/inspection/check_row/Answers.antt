@@ -3,8 +3,8 @@ use Rattle.std.specs.Prelude.{Contains, slice_get}
 use Rattle.std.proofs.lemmas.List.{append-nil, take_all}
 use Rattle.std.proofs.lemmas.List.Elements.{All-get_or}
 use Rattle.std.proofs.lemmas.Result.{err_from_is_err_and}
-use Rattle.piece_choice.specs.Choosing.{listed}
-use Rattle.piece_choice.specs.declared.choosing.Listed.{Listed}
+use Rattle.pins.specs.Choosing.{listed}
+use Rattle.pins.specs.declared.choosing.Listed.{Listed}
 use Rattle.store_manifest.specs.Manifest.{ManifestState}
 use Rattle.store_manifest.specs.declared.entry.Entry.{Entry}
 use Rattle.tier_store.specs.Pinning.{entries_of}

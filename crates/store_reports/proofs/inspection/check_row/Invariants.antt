@@ -1,8 +1,8 @@
 use Rattle.std.proofs.Common.{ℕ, List, ◌++◌, ◌-◌, take, Option, Ok}
 use Rattle.std.specs.Prelude.{slice_get}
 use Rattle.disk_model.specs.Files.{Files}
-use Rattle.piece_choice.specs.Choosing.{listed}
-use Rattle.piece_choice.specs.declared.choosing.Listed.{Listed}
+use Rattle.pins.specs.Choosing.{listed}
+use Rattle.pins.specs.declared.choosing.Listed.{Listed}
 use Rattle.pv_catalog.specs.declared.row.Row.{Row}
 use Rattle.tier_store.specs.Pinning.{entries_of}
 use Rattle.tier_store.specs.Seen.{seen}

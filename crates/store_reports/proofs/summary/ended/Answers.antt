@@ -1,5 +1,5 @@
 use Rattle.std.proofs.Common.{subst}
-use Rattle.sink_buffer.proofs.Sending.{front_out}
+use Rattle.edge_io.proofs.Sending.{front_out}
 use Rattle.store_reports.specs.Status.{Gathers}
 use Rattle.store_reports.proofs.summary.ended.Goals as goal
 

@@ -1,8 +1,8 @@
 use Rattle.std.proofs.Common.{◌≡◌, List, [], ℕ, length, Err, sym, ◌∙◌, ap, subst, arith}
 use Rattle.std.proofs.lemmas.Result.{err_from_is_err_and}
 use Rattle.pv_catalog.specs.Catalogue.{CatalogueState}
-use Rattle.sink_buffer.specs.Sent.{Sends}
-use Rattle.sink_buffer.proofs.Sending.{sends_none, sends_then}
+use Rattle.edge_io.specs.Sent.{Sends}
+use Rattle.edge_io.proofs.Sending.{sends_none, sends_then}
 use Rattle.tier_store.specs.Seen.{seen}
 use Rattle.store_reports.specs.Status.{IsLine, RowLines, end_of_status, status_of_put}
 use Rattle.store_reports.proofs.Keeping.{keeps_as, keeps_none, keeps_then}

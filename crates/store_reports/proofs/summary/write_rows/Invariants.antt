@@ -1,5 +1,5 @@
 use Rattle.std.proofs.Common.{◌≡◌, ◌≤◌, []}
-use Rattle.sink_buffer.specs.Sent.{Sends}
+use Rattle.edge_io.specs.Sent.{Sends}
 use Rattle.durable_write.specs.Ends.{Done}
 use Rattle.tier_store.specs.Seen.{seen}
 use Rattle.store_reports.specs.Keeping.{KeepsStores}

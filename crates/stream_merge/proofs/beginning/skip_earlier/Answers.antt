@@ -5,7 +5,7 @@ use Rattle.pb_file.specs.declared.search.SearchErr.TheVariants as search_err
 use Rattle.pb_file.proofs.Reading.{same_err}
 use Rattle.std.specs.Prelude.{IfSome}
 use Rattle.series_model.specs.Series.{before}
-use Rattle.payload_info.specs.declared.info.PayloadInfo.{PayloadInfo}
+use Rattle.pb_messages.specs.declared.info.PayloadInfo.{PayloadInfo}
 use Rattle.pb_file.specs.Search.{BeginsWithHeader, HasSampleAt, IsLastLine, IsLineStart, MayBegin}
 use Rattle.stream_merge.proofs.Starting.{went, at_line, begins_first, begins_last}
 use Rattle.stream_merge.proofs.beginning.skip_earlier.Goals as goal

@@ -3,7 +3,7 @@ use Rattle.std.proofs.lemmas.Result.{err_from_is_err_and}
 use Rattle.pb_file.specs.declared.search.SearchErr.{SearchErr}
 use Rattle.pb_file.specs.declared.search.SearchErr.TheVariants as search_err
 use Rattle.pb_file.proofs.Reading.{same_err}
-use Rattle.payload_info.specs.declared.info.PayloadInfo.{PayloadInfo}
+use Rattle.pb_messages.specs.declared.info.PayloadInfo.{PayloadInfo}
 use Rattle.pb_file.specs.Search.{BeginsWithHeader, IsLineStart, MayBegin}
 use Rattle.stream_merge.proofs.Starting.{went, at_line, begins_from}
 use Rattle.stream_merge.proofs.beginning.skip_taken.Goals as goal

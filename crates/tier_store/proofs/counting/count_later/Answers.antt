@@ -4,7 +4,7 @@ use Rattle.std.specs.Int.{w32}
 use Rattle.std.proofs.lemmas.Int.{to_z-of_z, ints}
 use Rattle.arch_time.specs.YearTime.{IsSampleYear}
 use Rattle.disk_model.specs.Files.{Files}
-use Rattle.payload_info.specs.declared.info.PayloadInfo.{PayloadInfo}
+use Rattle.pb_messages.specs.declared.info.PayloadInfo.{PayloadInfo}
 use Rattle.pb_lines.specs.File.{AreSamples}
 use Rattle.tier_store.specs.Counting.{HasLines}
 use Rattle.tier_store.proofs.CountingPieces.{is_split, then_reads}

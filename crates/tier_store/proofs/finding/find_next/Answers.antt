@@ -5,7 +5,7 @@ use Rattle.std.specs.Int.{w32}
 use Rattle.std.proofs.lemmas.Int.{to_z-of_z, ints}
 use Rattle.arch_time.specs.YearTime.{IsSampleYear}
 use Rattle.disk_model.specs.Files.{Files}
-use Rattle.payload_info.specs.declared.info.PayloadInfo.{PayloadInfo}
+use Rattle.pb_messages.specs.declared.info.PayloadInfo.{PayloadInfo}
 use Rattle.line_escape.specs.Unescaping.{HasNoNewline}
 use Rattle.pb_lines.specs.File.{AreSamples, lines_of}
 use Rattle.pb_lines.specs.Header.{IsHeaderLine}

@@ -1,7 +1,7 @@
 use Rattle.std.proofs.Common.{◌≡◌, ◌++◌, ◌∙◌, List, ap, append_assoc, arith, subst}
 use Rattle.std.specs.Prelude.{OnOk}
-use Rattle.piece_choice.specs.Choosing.{IsChoice, listed}
-use Rattle.piece_choice.specs.declared.choosing.Listed.{Listed}
+use Rattle.pins.specs.Choosing.{IsChoice, listed}
+use Rattle.pins.specs.declared.choosing.Listed.{Listed}
 use Rattle.tier_store.specs.Pinning.{listed_in}
 use Rattle.tier_store.proofs.PinnedFiles.{entries_at}
 use Rattle.tier_store.proofs.pinning.add_row.Goals as goal

@@ -1,7 +1,7 @@
 use Rattle.std.proofs.Common.{◌∙◌, List, subst, take, ℕ}
 use Rattle.std.specs.List.{flat_map}
 use Rattle.std.proofs.lemmas.List.{take_all}
-use Rattle.piece_choice.specs.Choosing.{IsChoice}
+use Rattle.pins.specs.Choosing.{IsChoice}
 use Rattle.tier_store.specs.Pinning.{listed_in}
 use Rattle.tier_store.proofs.PinnedFiles.{told_more}
 use Rattle.tier_store.proofs.pinning.chosen.Goals as goal

@@ -1,6 +1,6 @@
 use Rattle.std.proofs.Common.{◌≡◌, ℕ, take}
 use Rattle.std.specs.List.{flat_map}
-use Rattle.piece_choice.specs.Choosing.{IsChoice}
+use Rattle.pins.specs.Choosing.{IsChoice}
 use Rattle.tier_store.specs.Pinning.{files_to, listed_in}
 use Rattle.tier_store.proofs.pinning.chosen.Given as goal
 

@@ -2,7 +2,7 @@ use Rattle.std.proofs.Common.{ℕ, Some, Err, Result, sym, ◌∙◌, ap, subst}
 use Rattle.std.specs.Prelude.{IfErr}
 use Rattle.std.proofs.lemmas.Option.{slice_get_within}
 use Rattle.std.proofs.lemmas.Result.{err_from_is_err_and}
-use Rattle.event_types.specs.declared.about.State.TheVariants.{Paused}
+use Rattle.pb_messages.specs.declared.about.State.TheVariants.{Paused}
 use Rattle.pv_catalog.specs.Catalogue.{CatalogueState, HasState, Refuses}
 use Rattle.pv_catalog.specs.declared.error.RegisterErr.{RegisterErr}
 use Rattle.archive_core.specs.Parts.{parts}

@@ -1,6 +1,6 @@
 use Rattle.std.proofs.Common.{◌≡◌, inl, inr, List, Option, None, Result, Err, refl, ap, subst, sym, ◌∙◌}
 use Rattle.std.proofs.lemmas.Result.{err_from_is_err_and}
-use Rattle.append_buffer.specs.Tails.{TailState}
+use Rattle.intake.specs.Tails.{TailState}
 use Rattle.disk_model.specs.declared.disk.DiskErr.{DiskErr}
 use Rattle.durable_write.specs.Ends.{end_of_disk}
 use Rattle.pv_catalog.specs.Catalogue.{CatalogueState}

@@ -2,8 +2,8 @@ use Rattle.std.proofs.Common.{List, Option, Some, ◌≡◌, ap, subst, sym, ◌
 use Rattle.etl_mover.specs.Move.{MoveState}
 use Rattle.pv_catalog.specs.Catalogue.{CatalogueState}
 use Rattle.pv_catalog.specs.declared.row.Row.{Row}
-use Rattle.running_moves.specs.Table.{at}
-use Rattle.running_moves.specs.declared.table.Running.{Running}
+use Rattle.moves.specs.Table.{at}
+use Rattle.moves.specs.declared.table.Running.{Running}
 use Rattle.archive_core.specs.Parts.{parts}
 use Rattle.archive_core.specs.Written.{IsListable}
 use Rattle.archive_core.proofs.SweptMoves.{listable}

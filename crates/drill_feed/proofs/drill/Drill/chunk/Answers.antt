@@ -1,7 +1,7 @@
 use Rattle.std.proofs.Common.{◌≡◌, List, [], ◌∷◌, ◌++◌, ℕ, None, append_assoc, ap, sym, subst, ◌∙◌}
 use Rattle.line_escape.specs.Escaping.{escaped}
-use Rattle.payload_info.specs.declared.info.PayloadInfo.{PayloadInfo}
-use Rattle.payload_info.specs.Spelling.{info_text}
+use Rattle.pb_messages.specs.declared.info.PayloadInfo.{PayloadInfo}
+use Rattle.pb_messages.specs.InfoSpelling.{info_text}
 use Rattle.pb_lines.specs.File.{lines_of}
 use Rattle.pb_lines.specs.Stream.{IsWholeStream}
 use Rattle.drill_feed.specs.Workload.{chunk_text, head_of, items_of, samples}

@@ -1,7 +1,7 @@
 use Rattle.std.proofs.Common.{◌≡◌, ◌+◌, ◌*◌, List, [], ◌∷◌, ◌++◌, ℕ, map, append-nil, append_assoc, arith, ap, sym, subst, ◌∙◌}
 use Rattle.std.specs.List.{range_with_len}
 use Rattle.line_escape.specs.Escaping.{escaped}
-use Rattle.event_types.specs.Spelling.{event_text}
+use Rattle.pb_messages.specs.Spelling.{event_text}
 use Rattle.pb_lines.specs.File.{lines_of}
 use Rattle.drill_feed.specs.Workload.{drawn, event, minutes, next_draw, sample_at, value_at}
 use Rattle.drill_feed.proofs.Drawing.{drawn_more, drawn_on}

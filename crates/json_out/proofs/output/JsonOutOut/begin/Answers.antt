@@ -1,5 +1,5 @@
 use Rattle.std.proofs.Common.{refl, ap, ◌∙◌}
-use Rattle.sink_buffer.proofs.Sending.{on_err}
+use Rattle.edge_io.proofs.Sending.{on_err}
 use Rattle.act_model.specs.Out.{Subject}
 use Rattle.json_out.specs.Json.{head_text}
 use Rattle.json_out.proofs.Sending.{put_alone, begin_broken}

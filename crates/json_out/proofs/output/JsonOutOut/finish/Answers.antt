@@ -1,4 +1,4 @@
-use Rattle.sink_buffer.proofs.Sending.{on_err}
+use Rattle.edge_io.proofs.Sending.{on_err}
 use Rattle.json_out.proofs.Sending.{finished, end_broken, finish_broken}
 use Rattle.json_out.proofs.output.JsonOutOut.finish.Goals as goal
 

@@ -1,5 +1,5 @@
 use Rattle.std.proofs.Common.{[], ◌∷◌, ◌++◌, codes, if◌then◌else◌, refl}
-use Rattle.sink_buffer.proofs.Sending.{on_err}
+use Rattle.edge_io.proofs.Sending.{on_err}
 use Rattle.series_model.specs.declared.sample.Sample.{Sample}
 use Rattle.json_out.specs.Json.{event_text}
 use Rattle.json_out.specs.Fronts.{gives_breaks}

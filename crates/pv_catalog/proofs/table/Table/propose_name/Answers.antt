@@ -1,5 +1,5 @@
 use Rattle.std.proofs.Common.{◌≡◌, ◌^◌, ◌<◌, ◌++◌, ◌∷◌, [], List, ℕ, Err, length, get_or, sym, ◌∙◌, ap, subst, arith}
-use Rattle.event_types.specs.declared.about.State.TheVariants.{Retired}
+use Rattle.pb_messages.specs.declared.about.State.TheVariants.{Retired}
 use Rattle.pv_catalog.specs.declared.error.RenameErr.{RenameErr}
 use Rattle.pv_catalog.specs.declared.row.Row.{Row}
 use Rattle.pv_catalog.specs.Rows.{IsBatch, switched}

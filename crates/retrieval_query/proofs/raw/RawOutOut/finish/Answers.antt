@@ -1,4 +1,4 @@
-use Rattle.sink_buffer.proofs.Sending.{on_err}
+use Rattle.edge_io.proofs.Sending.{on_err}
 use Rattle.retrieval_query.proofs.Sending.{end_breaks, finish_breaks, finishes}
 use Rattle.retrieval_query.proofs.raw.RawOutOut.finish.Goals as goal
 

@@ -1,6 +1,6 @@
 use Rattle.std.proofs.Common.{w32, to_z, of_z}
 use Rattle.std.proofs.lemmas.Result.{on_ok_weaker, on_err_weaker}
-use Rattle.sink_buffer.proofs.Sending.{on_err}
+use Rattle.edge_io.proofs.Sending.{on_err}
 use Rattle.series_model.specs.declared.sample.Sample.{Sample}
 use Rattle.retrieval_query.proofs.Years.{near_is_of, nearest_back}
 use Rattle.retrieval_query.proofs.Sending.{here_is, some_here, opening_breaks, line_breaks, given}

@@ -1,8 +1,8 @@
 use Rattle.std.proofs.Common.{◌≡◌, ◌≤◌, max, Some, ◌∙◌, ap, subst}
 use Rattle.std.specs.Prelude.{IsTrue, slice_get}
-use Rattle.pinned_pieces.specs.declared.piece.PinnedFile.{PinnedFile}
+use Rattle.pins.specs.declared.piece.PinnedFile.{PinnedFile}
 use Rattle.std.specs.FinMap.{get}
-use Rattle.pinned_pieces.specs.Pieces.{asked}
+use Rattle.pins.specs.Pieces.{asked}
 use Rattle.tier_store.specs.Change.{IsOpen}
 use Rattle.tier_store.specs.Limbo.{LimboStands}
 use Rattle.tier_store.specs.Moving.{KeepsBeside}

@@ -8,7 +8,7 @@ use Rattle.std.proofs.lemmas.List.Elements.{Contains-append_right}
 use Rattle.disk_model.specs.Files.{Name}
 use Rattle.disk_model.specs.declared.disk.DiskErr.{DiskErr}
 use Rattle.disk_model.specs.declared.disk.DiskErr.TheVariants.{Fault, Memory}
-use Rattle.pinned_pieces.specs.Pieces.{PinOf}
+use Rattle.pins.specs.Pieces.{PinOf}
 use Rattle.store_manifest.specs.declared.entry.Entry.{Entry}
 use Rattle.durable_write.specs.Ends.{Done, end_of_disk}
 use Rattle.durable_write.specs.Held.{entry_of}

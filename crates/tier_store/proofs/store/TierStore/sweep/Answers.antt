@@ -5,7 +5,7 @@ use Rattle.std.specs.Prelude.{OnOk}
 use Rattle.std.proofs.lemmas.Result.{err_from_is_err_and}
 use Rattle.disk_model.specs.Files.{Name}
 use Rattle.disk_model.specs.declared.disk.DiskErr.{DiskErr}
-use Rattle.pinned_pieces.specs.Pieces.{PinOf}
+use Rattle.pins.specs.Pieces.{PinOf}
 use Rattle.durable_write.specs.Ends.{Done}
 use Rattle.durable_write.proofs.Rises.{rose_after}
 use Rattle.tier_store.specs.Limbo.{AreGone, AreRemovable, IsLeftOver, IsSwept, LeavesKept, staying}

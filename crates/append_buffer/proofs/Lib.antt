@@ -1,2 +1,0 @@
-pub mod TailLemmas
-mod BatchLemmas

@@ -1,6 +1,0 @@
-pub mod Store
-pub mod Intake
-pub mod StoreStep
-pub mod IntakeStep
-pub mod TwoHistories
-pub mod Laws

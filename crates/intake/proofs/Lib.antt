@@ -1,0 +1,3 @@
+pub mod TailLemmas
+mod BatchLemmas
+mod HistoryLemmas

@@ -1,0 +1,4 @@
+pub mod Tails
+pub mod BatchLaws
+pub mod Row
+pub mod HistoryLaws

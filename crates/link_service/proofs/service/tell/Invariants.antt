@@ -1,6 +1,0 @@
-use Rattle.std.proofs.Common.{◌≡◌, map, take}
-use Rattle.link_service.specs.Service.{told_of}
-use Rattle.link_service.proofs.service.tell.Given as goal
-
-abbrev pub invariant-loop-worker : goal.invariant-loop-worker
-invariant-loop-worker g l = l.told ≡ told_of (map (λ w. w.end) (take l.worker-index l.workers))

@@ -1,3 +1,0 @@
-pub mod TypeLemmas
-pub mod SpellingLemmas
-pub mod RoundTrip

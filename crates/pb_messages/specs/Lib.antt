@@ -1,0 +1,9 @@
+pub mod Layout
+pub mod Element
+pub mod Event
+pub mod Adding
+pub mod Singular
+pub mod Reading
+pub mod Spelling
+pub mod Info
+pub mod InfoSpelling

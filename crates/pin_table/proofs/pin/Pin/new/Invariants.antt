@@ -1,6 +1,0 @@
-use Rattle.std.proofs.Common.{◌≡◌, take}
-use Rattle.pin_table.proofs.pin.Pin.new.Given as goal
-
--- the files so far are copied
-abbrev pub invariant-loop-file : goal.invariant-loop-file
-invariant-loop-file l = l.names.items ≡ take l.file-index l.files

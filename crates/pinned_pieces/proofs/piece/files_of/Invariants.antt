@@ -1,8 +1,0 @@
-use Rattle.std.proofs.Common.{◌≡◌, take}
-use Rattle.std.specs.Prelude.{map}
-use Rattle.pinned_pieces.specs.Pieces.{file_of}
-use Rattle.pinned_pieces.proofs.piece.files_of.Given as goal
-
--- the names so far are copied
-abbrev pub invariant-loop-piece : goal.invariant-loop-piece
-invariant-loop-piece l = l.files.items ≡ map file_of (take l.piece-index l.pieces)

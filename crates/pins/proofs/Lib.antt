@@ -1,0 +1,3 @@
+mod EntryLemmas
+pub mod PinLemmas
+pub mod ChoosingLemmas

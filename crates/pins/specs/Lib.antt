@@ -1,0 +1,3 @@
+pub mod Pinned
+pub mod Pieces
+pub mod Choosing

@@ -1,7 +1,0 @@
-use Rattle.std.proofs.Common.{ℕ, ◌<◌}
-use Rattle.std.specs.Prelude.{IsSome}
-use Rattle.running_moves.specs.Table.{at}
-use Rattle.running_moves.proofs.table.free_place.Given as goal
-
-abbrev pub invariant-loop-place : goal.invariant-loop-place
-invariant-loop-place g l = (k : ℕ) → k < l.place → IsSome (at l.slots k)

@@ -1,0 +1,46 @@
+-- What one who acts by a pass did, and how the history of all ends.
+use Rattle.std.specs.Prelude.{◌≡◌, ℕ, List, [], ◌∷◌, ◌++◌}
+use Rattle.turn_rooms.specs.declared.room.Entry.{Entry as RoomEntry}
+use Rattle.turn_rooms.specs.declared.rooms.Pass.{Pass}
+use Rattle.turn_rooms.specs.declared.rooms.Rooms.{Rooms}
+use Rattle.turn_rooms.specs.Histories.{by}
+use Rattle.turn_rooms.specs.Passes.{Goes, known}
+use Rattle.act_model.specs.declared.acts.Act.{Act}
+use Rattle.act_model.specs.declared.acts.Act.TheVariants.{Flush}
+use Rattle.act_model.specs.declared.acts.Answer.TheVariants.{DiskFault}
+use Rattle.act_model.specs.History.{Done, Runs, mine}
+use Rattle.act_model.specs.Machine.{Machine}
+use Rattle.act_model.specs.Reply.{Reply}
+use Rattle.archive_actors.specs.Seats.{StandsFor}
+use Rattle.archive_actors.specs.Steps.{all_kept}
+use Rattle.serving.specs.End.{EndsWell}
+
+module _ {S B : Type 0} (steps : S → ℕ → ℕ → Act → B → S → Type 0) where
+  -- Between two moments of a pass by turns of its own, the acts made under its number were such.
+  pub record Acts (reply : B → Reply) (rooms : Rooms S Act B) (old : Pass S Act B) (Such : List Done → Type 0) (new : Pass S Act B) : Type 0 where
+    pub goes : Goes steps rooms old new
+    pub more : List (RoomEntry S Act B)
+    pub goes_on : known new ≡ known old ++ more
+    pub such : Such (mine old.number (all_kept reply more))
+
+  -- What a pass has come to know is a run from a state that it stood for, and ends well.
+  pub record EndsInTurns (stands : S → Machine → Type 0) (reply : B → Reply) (rooms : Rooms S Act B) (old new : Pass S Act B) (m : Machine) (mover : ℕ) : Type 0 where
+    pub more : List (RoomEntry S Act B)
+    pub goes_on : known new ≡ known old ++ more
+    pub after : Machine
+    pub runs : Runs m (all_kept reply more) after
+    pub stands_for : StandsFor steps stands rooms new after
+    pub ends : EndsWell m (all_kept reply more) after mover
+
+-- What a pass has come to know has a flush that the disk failed, and whoever made it made no act after it.
+pub record HasFlushFault {S B : Type 0} (reply : B → Reply) (old new : Pass S Act B) : Type 0 where
+  pub more : List (RoomEntry S Act B)
+  pub goes_on : known new ≡ known old ++ more
+  pub front : List (RoomEntry S Act B)
+  pub flush : RoomEntry S Act B
+  pub back : List (RoomEntry S Act B)
+  pub is : more ≡ front ++ flush ∷ back
+  pub last : by flush.who back ≡ []
+  pub limit : ℕ
+  pub act : flush.act ≡ Flush limit
+  pub answer : reply flush.answer ≡ DiskFault

@@ -1,4 +1,0 @@
-mod Joins
-mod Moving
-mod Dues
-pub mod Timed

@@ -1,9 +1,0 @@
-use Rattle.act_model.specs.Machine.{Machine}
-use Rattle.serving_loops.specs.Does.{Does}
-use Rattle.serving_loops.proofs.Joins.{TicksTo}
-use Rattle.serving_loops.proofs.flusher.tick_all.Given as goal
-
-abbrev pub invariant-loop-row : goal.invariant-loop-row
-invariant-loop-row g l =
-    ((m : Machine) × g.A.Actor.stands l.actor m)
-    × Does g.A.Actor.number g.A.Actor.between l.fn.actor (TicksTo l.now l.row) l.actor

@@ -1,5 +1,0 @@
-pub mod Does
-pub mod Timed
-pub mod Flushes
-pub mod Moves
-pub mod Due

@@ -1,0 +1,99 @@
+-- A pin and details over the tail of a Look keep the machine sound.
+use Rattle.std.proofs.Common.{◌≡◌, ◌≢◌, ℕ, ◌+◌, List, Option, Some, None, Bool, true, false, refl, ap, sym, ◌∙◌, subst, arith, inl, inr}
+use Rattle.std.specs.Prelude.{slice_get, ◌⊎◌, ◌==◌, if◌then◌else◌}
+use Rattle.std.specs.FinMap.{get, insert}
+use Rattle.std.specs.List.{AllByRecursion}
+use Rattle.series_model.specs.declared.sample.Query.{Query}
+use Rattle.series_model.specs.declared.sample.Sample.{Sample}
+use Rattle.act_model.specs.Changes.{each, at}
+use Rattle.act_model.specs.Details.{details_refused, Describes}
+use Rattle.act_model.specs.Limbo.{FileState}
+use Rattle.act_model.specs.Machine.{Machine, PinState, Change, find_row}
+use Rattle.act_model.specs.Outcome.{Acts, all_go}
+use Rattle.act_model.specs.Pin.{Pins, pins, IsListedPiece, IsPieceOf}
+use Rattle.act_model.specs.Reply.{Reply}
+use Rattle.act_model.specs.Rows.{RowState, Store, Short, Medium, Long, tier, window}
+use Rattle.act_model.specs.Rule.{Rule}
+use Rattle.act_model.specs.Sound.{MayMake, EndedMove, PieceSound, IsSound}
+use Rattle.act_model.proofs.PinActs.{pin_inserted, other_pins, listed_sound}
+use Rattle.act_model.proofs.Rows.{of_all, each_get}
+use Rattle.act_model.proofs.StepLaws.{Acts-sound, same_sound}
+use Rattle.two_histories.specs.ArchiveIntake.{RowLook}
+use Rattle.two_histories.specs.StoreStep.{tail_rows, tail_of, OverTail}
+use Rattle.act_model.proofs.RowActs.{all_fewer}
+
+-- the row without the tail of the Look: another tail is no matter to its pieces
+other_tail : (xs : List Sample) (row : RowState) (store : Store) → tier (record row { tail = xs }) store ≡ tier row store
+other_tail xs row Short = refl
+other_tail xs row Medium = refl
+other_tail xs row Long = refl
+
+listed_piece : (rule : Rule) (i : ℕ) (xs : List Sample) (row : RowState) (f : FileState) → IsListedPiece rule i (record row { tail = xs }) f → IsListedPiece rule i row f
+listed_piece rule i xs row f l =
+    record {
+      own = l.own;
+      partition = l.partition;
+      samples = l.samples ∙ ap (λ w. window f.part w) (other_tail xs row f.store);
+      some = l.some;
+      file = record { whole = l.file.whole; message = l.file.message; means = l.file.means; header = l.file.header; says = l.file.says; ty = l.file.ty; lines = l.file.lines; rising = l.file.rising };
+    }
+
+-- the row of the Look's machine, and what it is in the machine itself
+record OwnRow (m : Machine) (look : RowLook) (i : ℕ) (row : RowState) : Type 0 where
+  own : RowState
+  here : slice_get m.rows i ≡ Some own
+  xs : List Sample
+  is : row ≡ record own { tail = xs }
+
+own_row : (m : Machine) (look : RowLook) (i : ℕ) (row : RowState) → slice_get (tail_rows look m) i ≡ Some row → OwnRow m look i row
+own_row m look i row there = by_name (find_row m look.name) refl
+  where
+    by_at : (k : ℕ) (b : Bool) → (i == k) ≡ b → (own : RowState) → slice_get m.rows i ≡ Some own → row ≡ (if b then record own { tail = look.tail } else own) → OwnRow m look i row
+    by_at k true is own here same = record { own = own; here = here; xs = look.tail; is = same }
+    by_at k false is own here same = record { own = own; here = here; xs = own.tail; is = same }
+
+    by_name : (o : Option ℕ) → find_row m look.name ≡ o → OwnRow m look i row
+    by_name None none = record { own = row; here = (let same : tail_rows look m ≡ m.rows = rw none refl in sym (ap (λ w. slice_get w i) same) ∙ there); xs = row.tail; is = refl }
+    by_name (Some k) found =
+        let f = at k (λ (r : RowState). record r { tail = look.tail }) in
+        let same : tail_rows look m ≡ each f 0 m.rows = rw found refl in
+        let o = each_get f 0 m.rows i row (sym (ap (λ w. slice_get w i) same) ∙ there) in
+        let plain : 0 + i ≡ i = omega arith in
+        by_at k (i == k) refl o.0 o.1 (o.2 ∙ ap (λ n. f n o.0) plain)
+
+-- PARTS
+
+none_may : (look : RowLook) (mid : Machine) (one : Change) → IsSound mid → mid.doubt ≡ None → details_refused look.name mid ≡ None → None ≡ Some one → MayMake mid.rule mid.told mid.rows mid.limbo one × EndedMove mid.moves one
+none_may look mid one s none free is = absurd cc
+
+pinned_sound : {who : ℕ} {name : List ℕ} {query : Query} {reply : Reply} (look : RowLook) (mid end new : Machine) → IsSound mid → Pins who name query (tail_of look mid) reply end → new ≡ record end { rows = mid.rows } → IsSound new
+pinned_sound {who} look mid end new s (pins i row pin pieces found here free least listed order gives few same) is =
+    let made : PinState = record { owner = who; pieces = pieces } in
+    let all : new ≡ record mid { pins = insert mid.pins pin made; faults = end.faults } = is ∙ ap (λ (m : Machine). record m { rows = mid.rows }) same in
+    let sound : IsSound (record mid { pins = insert mid.pins pin made }) = other_pins mid (insert mid.pins pin made) s (λ t n other there. by_case made t n other (pin_inserted mid.pins pin n made other there) refl) in
+    subst (λ m. IsSound m) (sym all) sound
+  where
+    own_sound : (f : FileState) → IsPieceOf mid.rule (tail_rows look mid) i row f → PieceSound mid.rule mid.rows mid.limbo f
+    own_sound f p =
+        let own = own_row mid look f.row p.own p.here in
+        listed_sound mid.rule mid.rows mid.limbo f.row own.own own.here s.each_unlisted f (listed_piece mid.rule f.row own.xs own.own f (subst (λ r. IsListedPiece mid.rule f.row r f) own.is p.listed))
+
+    by_case : (made : PinState) → mid.told ≡ true → (n : ℕ) (other : PinState) → ((n ≡ pin) × (other ≡ made)) ⊎ ((n ≢ pin) × (get mid.pins n ≡ Some other)) → made.pieces ≡ pieces → AllByRecursion (PieceSound mid.rule mid.rows mid.limbo) other.pieces
+    by_case made t n other (inl same') has =
+        let sound = of_all (IsPieceOf mid.rule (tail_rows look mid) i row) (PieceSound mid.rule mid.rows mid.limbo) pieces own_sound (listed t) in
+        subst (λ (p : PinState). AllByRecursion (PieceSound mid.rule mid.rows mid.limbo) p.pieces) (sym same'.1) (subst (λ w. AllByRecursion (PieceSound mid.rule mid.rows mid.limbo) w) (sym has) sound)
+    by_case made t n other (inr there) has = s.pinned t n other there.1
+
+pub pins_keep : (who : ℕ) (query : Query) (look : RowLook) (old new : Machine) (reply : Reply) → IsSound old → Acts (details_refused look.name) (OverTail look (Pins who look.name query)) (λ m. None) all_go old reply new → IsSound new
+pins_keep who query look old new reply s step =
+    Acts-sound (details_refused look.name) (OverTail look (Pins who look.name query)) (λ m. None) all_go all_fewer (λ mid answer after sound none free ran. pinned_sound look mid ran.0 after sound ran.1 ran.2) (none_may look) s step
+
+described_sound : (look : RowLook) (mid end new : Machine) {reply : Reply} → IsSound mid → Describes look.name (tail_of look mid) reply end → new ≡ record end { rows = mid.rows } → IsSound new
+described_sound look mid end new s d is = same_sound mid new (is ∙ (ap (λ (m : Machine). record m { rows = mid.rows }) d.same ∙ faults_are)) s
+  where
+    faults_are : record mid { faults = end.faults } ≡ record mid { faults = new.faults }
+    faults_are = ap (λ n. record mid { faults = n }) (sym (ap (λ (m : Machine). m.faults) is))
+
+pub describes_keep : (look : RowLook) (old new : Machine) (reply : Reply) → IsSound old → Acts (details_refused look.name) (OverTail look (Describes look.name)) (λ m. None) all_go old reply new → IsSound new
+describes_keep look old new reply s step =
+    Acts-sound (details_refused look.name) (OverTail look (Describes look.name)) (λ m. None) all_go all_fewer (λ mid answer after sound none free ran. described_sound look mid ran.0 after sound ran.1 ran.2) (none_may look) s step

@@ -1,0 +1,15 @@
+-- The laws as a contract.
+use Rattle.two_histories.proofs.ArchiveLaw as law
+use Rattle.two_histories.proofs.archive.two_histories_of_an_archive.Goals as goal
+
+pub returns-clause-store_stays_sound : goal.returns-clause-store_stays_sound
+returns-clause-store_stays_sound c = law.store_stays_sound
+
+pub returns-clause-nothing_is_lost : goal.returns-clause-nothing_is_lost
+returns-clause-nothing_is_lost c = law.nothing_is_lost
+
+pub returns-clause-bases_are_durable : goal.returns-clause-bases_are_durable
+returns-clause-bases_are_durable c = law.bases_are_durable
+
+pub returns-clause-reported_is_durable : goal.returns-clause-reported_is_durable
+returns-clause-reported_is_durable c = law.reported_is_durable

@@ -1,0 +1,3 @@
+pub mod Left
+pub mod Pairs
+pub mod Calls
