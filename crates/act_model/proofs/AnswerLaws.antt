@@ -4,10 +4,11 @@ use Rattle.std.specs.Prelude.{◌==◌, ◌-◌, slice_get, nat_le, nat_lt, leng
 use Rattle.pb_messages.specs.declared.about.State.TheVariants.{Running, Paused, Retired}
 use Rattle.std.specs.Ordering.{nat_cmp}
 use Rattle.std.specs.FinMap.{FinMap, get}
+use Rattle.series_model.specs.Limits.{intake_room}
 use Rattle.series_model.specs.declared.sample.Sample.{Sample}
 use Rattle.series_model.specs.declared.sample.Query.{Query}
 use Rattle.series_model.specs.declared.admission.Reason.{Reason}
-use Rattle.series_model.specs.Admission.{admit_before, admit_after}
+use Rattle.series_model.specs.Admission.{refused_by_row, refused_by_time}
 use Rattle.pb_messages.specs.declared.about.Method.{Method}
 use Rattle.pb_messages.specs.declared.about.Method.TheVariants.{Monitor, Scan}
 use Rattle.pb_messages.specs.declared.about.State.{State}
@@ -25,7 +26,7 @@ use Rattle.act_model.specs.Pause.{state_refused, not_running}
 use Rattle.act_model.specs.Resume.{not_paused}
 use Rattle.act_model.specs.Rename.{changed_within, last_durable, rename_refused}
 use Rattle.act_model.specs.Changes.{with_rows, at}
-use Rattle.act_model.specs.Offer.{room, gains, offered_to, offered}
+use Rattle.act_model.specs.Offer.{gains, offered_to, offered}
 use Rattle.act_model.specs.Tick.{ticked_due, ticked}
 use Rattle.act_model.specs.History.{Entry, Acted, Goes}
 use Rattle.act_model.proofs.RowActs.{tried_is}
@@ -156,13 +157,13 @@ module _ (name : List ℕ) (ty : PayloadType) (s : Sample) (now : ℕ) (m : Mach
   OfOffer end = is_answer_to (Offer name ty s.t s.line now) end.answer ≡ true
 
   offered_to_says : (i : ℕ) (row : RowState) → OfOffer (offered_to m i row ty s now)
-  offered_to_says i row = by_reason (admit_before (Some (standing row)) (number_of ty)) refl
+  offered_to_says i row = by_reason (refused_by_row (Some (standing row)) (number_of ty)) refl
     where
-      by_method : (d : Method) → row.about.method ≡ d → admit_before (Some (standing row)) (number_of ty) ≡ None → OfOffer (offered_to m i row ty s now)
+      by_method : (d : Method) → row.about.method ≡ d → refused_by_row (Some (standing row)) (number_of ty) ≡ None → OfOffer (offered_to m i row ty s now)
       by_method Monitor is none = rw (none, is) (tried_is OfOffer m row s now (record { answer = Kept; after = with_rows m (at i (gains s)) }) (λ reason. refl) refl (λ late fits. refl))
       by_method (Scan period) is none = rw (none, is) refl
 
-      by_reason : (o : Option Reason) → admit_before (Some (standing row)) (number_of ty) ≡ o → OfOffer (offered_to m i row ty s now)
+      by_reason : (o : Option Reason) → refused_by_row (Some (standing row)) (number_of ty) ≡ o → OfOffer (offered_to m i row ty s now)
       by_reason (Some reason) is = rw is refl
       by_reason None is = by_method row.about.method refl is
 
@@ -184,17 +185,17 @@ module _ (i now : ℕ) (m : Machine) where
   ticked_due_says : (row : RowState) (period : ℕ) → OfTick (ticked_due m i row period now)
   ticked_due_says row period = by_held row.cell.held refl
     where
-      by_room : (s : Sample) → row.cell.held ≡ Some s → admit_after row.next s.t now ≡ None → (b : Bool) → nat_lt room (held_bytes m.rows + (length s.line + 1)) ≡ b → OfTick (ticked_due m i row period now)
+      by_room : (s : Sample) → row.cell.held ≡ Some s → refused_by_time row.next s.t now ≡ None → (b : Bool) → nat_lt intake_room (held_bytes m.rows + (length s.line + 1)) ≡ b → OfTick (ticked_due m i row period now)
       by_room s is why true full = rw (is, why, full) refl
       by_room s is why false full = rw (is, why, full) refl
 
-      by_reason : (s : Sample) → row.cell.held ≡ Some s → (o : Option Reason) → admit_after row.next s.t now ≡ o → OfTick (ticked_due m i row period now)
+      by_reason : (s : Sample) → row.cell.held ≡ Some s → (o : Option Reason) → refused_by_time row.next s.t now ≡ o → OfTick (ticked_due m i row period now)
       by_reason s is (Some reason) why = rw (is, why) refl
-      by_reason s is None why = by_room s is why (nat_lt room (held_bytes m.rows + (length s.line + 1))) refl
+      by_reason s is None why = by_room s is why (nat_lt intake_room (held_bytes m.rows + (length s.line + 1))) refl
 
       by_held : (o : Option Sample) → row.cell.held ≡ o → OfTick (ticked_due m i row period now)
       by_held None is = rw is refl
-      by_held (Some s) is = by_reason s is (admit_after row.next s.t now) refl
+      by_held (Some s) is = by_reason s is (refused_by_time row.next s.t now) refl
 
   ticked_says : OfTick (ticked m i now)
   ticked_says = by_row (slice_get m.rows i) refl

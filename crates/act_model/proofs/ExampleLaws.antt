@@ -5,6 +5,7 @@ use Rattle.std.specs.List.{AllByRecursion}
 use Rattle.std.proofs.lemmas.Bool.Decides.{nat_tests}
 use Rattle.std.specs.Ordering.{nat_cmp}
 use Rattle.std.specs.FinMap.{FinMap, get, insert, remove, empty, get-empty, gets}
+use Rattle.series_model.specs.Limits.{intake_room}
 use Rattle.pb_messages.specs.declared.about.Method.TheVariants.{Monitor, Scan}
 use Rattle.pb_wire.specs.declared.payload.PayloadType.TheVariants.{ScalarInt}
 use Rattle.act_model.specs.declared.acts.Answer.TheVariants.{KeyTaken, NotRunning, NotPaused, Done, RenameNotPaused, NotDurable, Renamed, IntakeFull, Flushed, Pinned, NotYours, NoPin, NoPiece, Unpinned}
@@ -17,7 +18,7 @@ use Rattle.pb_messages.specs.declared.about.State.TheVariants.{Running, Paused}
 use Rattle.act_model.specs.Machine.{Machine, MoveState, PinState, Change, Appends, SetsState, Renames, held_bytes}
 use Rattle.act_model.specs.Changes.{made, Settles, no_doubt, as_not_made, as_made}
 use Rattle.act_model.specs.Outcome.{Outcome, Ends, Acts, refused_at_once, refused, runs, faults_first, faults_between, faults_within, faults_removing, wants_memory, wants_memory_settled}
-use Rattle.act_model.specs.Offer.{offered, room}
+use Rattle.act_model.specs.Offer.{offered}
 use Rattle.act_model.specs.Tick.{ticked}
 use Rattle.act_model.specs.Pause.{Sets}
 use Rattle.act_model.specs.Rename.{IsRenamed}
@@ -197,21 +198,21 @@ pause_gives_up =
 full_bytes : (a b c d : List ℕ) → length a ≡ 16777215 → length b ≡ 16777215 → length c ≡ 16777215 → length d ≡ 16777215 → held_bytes (four_lines a b c d ∷ []) ≡ 67108864
 full_bytes a b c d p q r s = omega arith
 
-no_room : (n : ℕ) → n ≡ 67108864 → nat_lt room (n + (length line + 1)) ≡ true
+no_room : (n : ℕ) → n ≡ 67108864 → nat_lt intake_room (n + (length line + 1)) ≡ true
 no_room n is = rw is refl
 
 -- one more such line just fits beside three
-just_fits : (a b c d : List ℕ) → length a ≡ 16777215 → length b ≡ 16777215 → length c ≡ 16777215 → length d ≡ 16777215 → nat_lt room (held_bytes (three_lines a b c ∷ []) + (length d + 1)) ≡ false
+just_fits : (a b c d : List ℕ) → length a ≡ 16777215 → length b ≡ 16777215 → length c ≡ 16777215 → length d ≡ 16777215 → nat_lt intake_room (held_bytes (three_lines a b c ∷ []) + (length d + 1)) ≡ false
 just_fits a b c d p q r s = let all : held_bytes (three_lines a b c ∷ []) + (length d + 1) ≡ 67108864 = omega arith in rw all refl
 
 pub full_intake : AFullIntakeIsFlushed
 full_intake a b c d p q r s =
-    let fits : nat_lt room (held_bytes (three_lines a b c ∷ []) + (length d + 1)) ≡ false = just_fits a b c d p q r s in
+    let fits : nat_lt intake_room (held_bytes (three_lines a b c ∷ []) + (length d + 1)) ≡ false = just_fits a b c d p q r s in
     let m0 = with_row (four_lines a b c d) in
     let m1 = made [] (Appends (batch_of 67108864 m0)) m0 in
     let m2 = after_offer m1 (t0 + 5) t0 in
     let bytes : held_bytes m0.rows ≡ 67108864 = full_bytes a b c d p q r s in
-    let full : nat_lt room (held_bytes m0.rows + (length line + 1)) ≡ true = no_room (held_bytes m0.rows) bytes in (
+    let full : nat_lt intake_room (held_bytes m0.rows + (length line + 1)) ≡ true = no_room (held_bytes m0.rows) bytes in (
       m0,
       inl (rw fits refl, rw fits refl),
       ends_only (rw fits refl),

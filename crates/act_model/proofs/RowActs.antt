@@ -5,10 +5,11 @@ use Rattle.std.proofs.lemmas.Bool.Decides.{nat_tests}
 use Rattle.std.specs.List.{AllByRecursion}
 use Rattle.std.specs.Ordering.{nat_cmp}
 use Rattle.std.specs.FinMap.{FinMap, get}
+use Rattle.series_model.specs.Limits.{intake_room}
 use Rattle.series_model.specs.declared.sample.Sample.{Sample}
 use Rattle.series_model.specs.declared.admission.Reason.{Reason}
 use Rattle.series_model.specs.declared.admission.Reason.TheVariants.{Unknown}
-use Rattle.series_model.specs.Admission.{admit_before, admit_after}
+use Rattle.series_model.specs.Admission.{refused_by_row, refused_by_time}
 use Rattle.series_model.specs.Series.{end_from, end_of}
 use Rattle.series_model.proofs.RisingLists.{end_from-append, RisesFrom-append}
 use Rattle.pb_messages.specs.declared.about.About.{About}
@@ -29,7 +30,7 @@ use Rattle.act_model.specs.Outcome.{Outcome, all_go}
 use Rattle.act_model.specs.Register.{RegisterStep, Registers, register_refused}
 use Rattle.act_model.specs.Pause.{StateStep, Sets, sets_of, state_refused}
 use Rattle.act_model.specs.Rename.{RenameStep, IsRenamed, changed_within, rename_refused, renames_of}
-use Rattle.act_model.specs.Offer.{OfferStep, offered, offered_to, tried, gains, with_held, room}
+use Rattle.act_model.specs.Offer.{OfferStep, offered, offered_to, tried, gains, with_held}
 use Rattle.act_model.specs.Tick.{TickStep, ticked, ticked_due, moved_on}
 use Rattle.act_model.specs.Flush.{FlushStep, Flushes, batch_of, batch_from}
 use Rattle.act_model.specs.Sound.{RowSound, LinesSound, IsHeld, IsLive, MayMake, MayAdd, MayRename, EndedMove, IsSound}
@@ -325,16 +326,16 @@ append_bytes (x ∷ xs) s = let more = append_bytes xs s in omega arith
 
 -- what is tried and kept is later than all that was accepted, and there is room for it
 pub tried_is : (P : Outcome → Type 0) (m : Machine) (row : RowState) (s : Sample) (now : ℕ) (kept : Outcome) → ((reason : Reason) → P (record { answer = Dropped reason; after = m })) → P (record { answer = IntakeFull (held_bytes m.rows); after = m })
-    → (row.next ≤ s.t → held_bytes m.rows + (length s.line + 1) ≤ room → P kept) → P (tried m row s now kept)
-tried_is P m row s now kept dropped full good = by_reason (admit_after row.next s.t now) refl
+    → (row.next ≤ s.t → held_bytes m.rows + (length s.line + 1) ≤ intake_room → P kept) → P (tried m row s now kept)
+tried_is P m row s now kept dropped full good = by_reason (refused_by_time row.next s.t now) refl
   where
-    by_room : (b : Bool) → nat_lt room (held_bytes m.rows + (length s.line + 1)) ≡ b → admit_after row.next s.t now ≡ None → P (if b then record { answer = IntakeFull (held_bytes m.rows); after = m } else kept)
+    by_room : (b : Bool) → nat_lt intake_room (held_bytes m.rows + (length s.line + 1)) ≡ b → refused_by_time row.next s.t now ≡ None → P (if b then record { answer = IntakeFull (held_bytes m.rows); after = m } else kept)
     by_room true is none = full
     by_room false is none = good (grind (arith, nat_tests)) (grind (arith, nat_tests))
 
-    by_reason : (o : Option Reason) → admit_after row.next s.t now ≡ o → P (tried m row s now kept)
+    by_reason : (o : Option Reason) → refused_by_time row.next s.t now ≡ o → P (tried m row s now kept)
     by_reason (Some reason) is = rw is (dropped reason)
-    by_reason None is = rw is (by_room (nat_lt room (held_bytes m.rows + (length s.line + 1))) refl is)
+    by_reason None is = rw is (by_room (nat_lt intake_room (held_bytes m.rows + (length s.line + 1))) refl is)
 
 -- the type of a number
 abbrev pub types : List PayloadType
@@ -363,34 +364,34 @@ one_type a b same = by_some (sym (own_number a) ∙ (ap (λ n. slice_get types n
     by_some is = cc
 
 -- the first three reasons don't apply: the type is the row's
-right_type : (row : RowState) (ty : PayloadType) → admit_before (Some (standing row)) (number_of ty) ≡ None → row.about.ty ≡ ty
+right_type : (row : RowState) (ty : PayloadType) → refused_by_row (Some (standing row)) (number_of ty) ≡ None → row.about.ty ≡ ty
 right_type row ty none = by_running (is_running row.state) refl none
   where
-    by_type : (b : Bool) → (number_of row.about.ty == number_of ty) ≡ b → is_running row.state ≡ true → admit_before (Some (standing row)) (number_of ty) ≡ None → row.about.ty ≡ ty
+    by_type : (b : Bool) → (number_of row.about.ty == number_of ty) ≡ b → is_running row.state ≡ true → refused_by_row (Some (standing row)) (number_of ty) ≡ None → row.about.ty ≡ ty
     by_type true is up none = one_type row.about.ty ty (grind (arith, nat_tests))
     by_type false is up none = absurd (let bad = rw (up, is) at none in cc)
 
-    by_running : (b : Bool) → is_running row.state ≡ b → admit_before (Some (standing row)) (number_of ty) ≡ None → row.about.ty ≡ ty
+    by_running : (b : Bool) → is_running row.state ≡ b → refused_by_row (Some (standing row)) (number_of ty) ≡ None → row.about.ty ≡ ty
     by_running true is none = by_type (number_of row.about.ty == number_of ty) refl is none
     by_running false is none = absurd (let bad = rw is at none in cc)
 
-is_up : (row : RowState) (ty : PayloadType) → admit_before (Some (standing row)) (number_of ty) ≡ None → is_running row.state ≡ true
+is_up : (row : RowState) (ty : PayloadType) → refused_by_row (Some (standing row)) (number_of ty) ≡ None → is_running row.state ≡ true
 is_up row ty none = by_running (is_running row.state) refl
   where
     by_running : (b : Bool) → is_running row.state ≡ b → is_running row.state ≡ true
     by_running true is = is
     by_running false is = absurd (let bad = rw is at none in cc)
 
-pub gains_bytes : (m : Machine) (i : ℕ) (f : RowState → RowState) (s : Sample) → ((row : RowState) → (f row).tail ≡ row.tail ++ s ∷ []) → held_bytes m.rows + (length s.line + 1) ≤ room → held_bytes (each (at i f) 0 m.rows) ≤ 67108864
+pub gains_bytes : (m : Machine) (i : ℕ) (f : RowState → RowState) (s : Sample) → ((row : RowState) → (f row).tail ≡ row.tail ++ s ∷ []) → held_bytes m.rows + (length s.line + 1) ≤ intake_room → held_bytes (each (at i f) 0 m.rows) ≤ 67108864
 gains_bytes m i f s is fits = let more = at_bytes i 0 f m.rows (length s.line + 1) (λ row. let one = append_bytes row.tail s in let same = ap size_of (is row) in omega arith) in omega arith
 
 pub same_bytes_at : (m : Machine) (i : ℕ) (f : RowState → RowState) → ((row : RowState) → (f row).tail ≡ row.tail) → held_bytes m.rows ≤ 67108864 → held_bytes (each (at i f) 0 m.rows) ≤ 67108864
 same_bytes_at m i f is fits = let more = at_bytes i 0 f m.rows 0 (λ row. let same = ap size_of (is row) in omega arith) in omega arith
 
 offered_to_act : (m : Machine) (i : ℕ) (row : RowState) (ty : PayloadType) (s : Sample) (now : ℕ) → IsSound m → slice_get m.rows i ≡ Some row → IsEvent ty s → RowAct m (offered_to m i row ty s now)
-offered_to_act m i row ty s now sound here event = by_reason (admit_before (Some (standing row)) (number_of ty)) refl
+offered_to_act m i row ty s now sound here event = by_reason (refused_by_row (Some (standing row)) (number_of ty)) refl
   where
-    by_method : (d : Method) → row.about.method ≡ d → admit_before (Some (standing row)) (number_of ty) ≡ None → RowAct m (offered_to m i row ty s now)
+    by_method : (d : Method) → row.about.method ≡ d → refused_by_row (Some (standing row)) (number_of ty) ≡ None → RowAct m (offered_to m i row ty s now)
     by_method Monitor is none =
         let own : IsEvent row.about.ty s = subst (λ w. IsEvent w s) (sym (right_type row ty none)) event in
         rw (none, is) (tried_is (λ o. RowAct m o) m row s now (record { answer = Kept; after = with_rows m (at i (gains s)) }) (λ reason. stays_act (Dropped reason)) (stays_act (IntakeFull (held_bytes m.rows)))
@@ -399,7 +400,7 @@ offered_to_act m i row ty s now sound here event = by_reason (admit_before (Some
         let own : IsEvent row.about.ty s = subst (λ w. IsEvent w s) (sym (right_type row ty none)) event in
         rw (none, is) (row_act Held i (with_held s) row here (held_tail m.told row s (sound.each_row i row here) (sound.lines i row here) own) (same_bytes_at m i (with_held s) (λ r. refl) sound.intake))
 
-    by_reason : (o : Option Reason) → admit_before (Some (standing row)) (number_of ty) ≡ o → RowAct m (offered_to m i row ty s now)
+    by_reason : (o : Option Reason) → refused_by_row (Some (standing row)) (number_of ty) ≡ o → RowAct m (offered_to m i row ty s now)
     by_reason (Some reason) is = rw is (stays_act (Dropped reason))
     by_reason None is = by_method row.about.method refl is
 
@@ -423,26 +424,26 @@ ticked_due_act m i row period now sound here up = by_held row.cell.held refl
     moves : (answer : Reply) → RowAct m (record { answer = answer; after = with_rows m (at i (moved_on period now)) })
     moves answer = row_act answer i (moved_on period now) row here (moved_tail m.told row row period now (same_tail m.told row (sound.each_row i row here) (sound.lines i row here))) (same_bytes_at m i (moved_on period now) (λ r. refl) sound.intake)
 
-    keeps : (s : Sample) → row.cell.held ≡ Some s → row.next ≤ s.t → held_bytes m.rows + (length s.line + 1) ≤ room → RowAct m (record { answer = TickKept s.t; after = with_rows m (at i (λ r. moved_on period now (gains s r))) })
+    keeps : (s : Sample) → row.cell.held ≡ Some s → row.next ≤ s.t → held_bytes m.rows + (length s.line + 1) ≤ intake_room → RowAct m (record { answer = TickKept s.t; after = with_rows m (at i (λ r. moved_on period now (gains s r))) })
     keeps s is late fits =
         let lines = sound.lines i row here in
         let event : IsEvent row.about.ty s = subst (λ o. IsHeld row.about.ty o) is lines.held in
         row_act (TickKept s.t) i (λ r. moved_on period now (gains s r)) row here (moved_tail m.told row (gains s row) period now (gains_tail m.told row s (sound.each_row i row here) lines event up late)) (gains_bytes m i (λ r. moved_on period now (gains s r)) s (λ r. refl) fits)
 
-    by_reason : (s : Sample) → row.cell.held ≡ Some s → (o : Option Reason) → admit_after row.next s.t now ≡ o → RowAct m (ticked_due m i row period now)
+    by_reason : (s : Sample) → row.cell.held ≡ Some s → (o : Option Reason) → refused_by_time row.next s.t now ≡ o → RowAct m (ticked_due m i row period now)
     by_reason s is (Some reason) why = rw (is, why) (moves (Dropped reason))
-    by_reason s is None why = by_room (nat_lt room (held_bytes m.rows + (length s.line + 1))) refl
+    by_reason s is None why = by_room (nat_lt intake_room (held_bytes m.rows + (length s.line + 1))) refl
       where
-        by_room : (b : Bool) → nat_lt room (held_bytes m.rows + (length s.line + 1)) ≡ b → RowAct m (ticked_due m i row period now)
+        by_room : (b : Bool) → nat_lt intake_room (held_bytes m.rows + (length s.line + 1)) ≡ b → RowAct m (ticked_due m i row period now)
         by_room true full = rw (is, why, full) (stays_act (IntakeFull (held_bytes m.rows)))
         by_room false full = rw (is, why, full) (keeps s is (late_of row.next s.t now why) (grind (arith, nat_tests)))
           where
-            late_of : (n t now : ℕ) → admit_after n t now ≡ None → n ≤ t
+            late_of : (n t now : ℕ) → refused_by_time n t now ≡ None → n ≤ t
             late_of n t now why = grind (arith, nat_tests)
 
     by_held : (o : Option Sample) → row.cell.held ≡ o → RowAct m (ticked_due m i row period now)
     by_held None is = rw is (moves TickNone)
-    by_held (Some s) is = by_reason s is (admit_after row.next s.t now) refl
+    by_held (Some s) is = by_reason s is (refused_by_time row.next s.t now) refl
 
 pub ticked_act : (m : Machine) (i now : ℕ) → IsSound m → RowAct m (ticked m i now)
 ticked_act m i now sound = by_row (slice_get m.rows i) refl

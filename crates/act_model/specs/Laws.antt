@@ -2,6 +2,7 @@
 -- histories; the functions in `src/laws.rt` have them as their clauses.
 use Rattle.std.specs.Prelude.{◌≡◌, ◌≢◌, ◌⊎◌, ◌↔◌, ℕ, ◌≤◌, List, [], ◌∷◌, ◌++◌, length, true, Some, slice_get, Bool, None}
 use Rattle.std.specs.FinMap.{get}
+use Rattle.series_model.specs.Limits.{intake_room}
 use Rattle.series_model.specs.declared.sample.Query.{Query}
 use Rattle.series_model.specs.declared.sample.Sample.{Sample}
 use Rattle.series_model.specs.Archive.{Extends, IsPrefix}
@@ -89,7 +90,7 @@ FollowsFromEnd =
 -- one flush of 64 MiB or more leaves nothing in the intake
 abbrev pub FlushLeavesNone : Type 0
 FlushLeavesNone =
-    (who limit samples left doors : ℕ) (old new : Machine) → IsSound old → 67108864 ≤ limit
+    (who limit samples left doors : ℕ) (old new : Machine) → IsSound old → intake_room ≤ limit
     → Step who (Flush limit) old (Flushed samples left doors) new → left ≡ 0
 
 -- however a move goes on, each row's lists stay as they were

@@ -3,6 +3,7 @@
 use Rattle.std.specs.FinMap.{get, insert}
 use Rattle.std.specs.Prelude.{◌≡◌, ◌≢◌, ◌⊎◌, ℕ, ◌+◌, ◌<◌, ◌==◌, List, [], ◌∷◌, ◌++◌, length, max, min, Bool, true, if◌then◌else◌, nat_le, Some, None, IsSome, slice_get, slice_index}
 use Rattle.partition_names.specs.declared.part.Part.{Part}
+use Rattle.series_model.specs.Limits.{most_parts}
 use Rattle.series_model.specs.Series.{end_of}
 use Rattle.act_model.specs.Machine.{Machine, MoveState, Copies}
 use Rattle.act_model.specs.Outcome.{Acts, all_go, Same}
@@ -21,10 +22,10 @@ front_length p (x ∷ rest) = if p x then front_length p rest + 1 else 0
 abbrev pub chosen : ℕ → ℕ → ℕ → ℕ
 chosen hold gather ripe = if hold == 0 then ripe else if nat_le hold ripe then min gather ripe else 0
 
--- the larger of the chosen and the covered, but at most 65,536
+-- the larger of the chosen and the covered, but at most as many as one move may have
 abbrev pub parts_of : Rule → Store → ℕ → RowState → List Part → ℕ
 parts_of rule store now row parts =
-    min 65536 (max
+    min most_parts (max
     (chosen (slice_index rule.hold (index_of store)) (slice_index rule.gather (index_of store)) (front_length (λ p. nat_le p.end now) parts))
     (front_length (λ p. nat_le (end_of (window p (tier row store))) (end_of (tier row (next_store store)))) parts))
 

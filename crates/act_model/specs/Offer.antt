@@ -4,7 +4,8 @@ use Rattle.std.specs.Prelude.{ℕ, ◌+◌, List, [], ◌∷◌, ◌++◌, lengt
 use Rattle.pb_messages.specs.declared.about.Method.{Method}
 use Rattle.pb_messages.specs.declared.about.Method.TheVariants.{Monitor, Scan}
 use Rattle.pb_wire.specs.declared.payload.PayloadType.{PayloadType}
-use Rattle.series_model.specs.Admission.{admit_before, admit_after}
+use Rattle.series_model.specs.Limits.{intake_room}
+use Rattle.series_model.specs.Admission.{refused_by_row, refused_by_time}
 use Rattle.series_model.specs.Sampling.{cell_after}
 use Rattle.series_model.specs.declared.admission.Reason.{Reason}
 use Rattle.series_model.specs.declared.admission.Reason.TheVariants.{Unknown}
@@ -17,10 +18,6 @@ use Rattle.act_model.specs.Reply.{Reply}
 use Rattle.act_model.specs.Rows.{RowState, number_of, standing}
 use Rattle.act_model.specs.declared.acts.Answer.TheVariants.{Dropped, IntakeFull, Kept, Held}
 
--- what the intake holds at most
-abbrev pub room : ℕ
-room = 67108864
-
 -- the row's tail gains the sample
 abbrev pub gains : Sample → RowState → RowState
 gains s row = record row { next = s.t + 1; tail = row.tail ++ s ∷ [] }
@@ -31,18 +28,18 @@ with_held s row = record row { cell = cell_after 0 row.cell (Offered s) }
 
 -- the sample is tried by the last two reasons, and then by the room that is left
 abbrev pub tried : Machine → RowState → Sample → ℕ → Outcome → Outcome
-tried m row s now kept = after_reason (admit_after row.next s.t now)
+tried m row s now kept = after_reason (refused_by_time row.next s.t now)
   where
     after_reason : Option Reason → Outcome
     after_reason (Some reason) = record { answer = Dropped reason; after = m }
     after_reason None =
-        if nat_lt room (held_bytes m.rows + (length s.line + 1))
+        if nat_lt intake_room (held_bytes m.rows + (length s.line + 1))
         then record { answer = IntakeFull (held_bytes m.rows); after = m }
         else kept
 
 -- how an offer to this row ends
 abbrev pub offered_to : Machine → ℕ → RowState → PayloadType → Sample → ℕ → Outcome
-offered_to m i row ty s now = after_reason (admit_before (Some (standing row)) (number_of ty))
+offered_to m i row ty s now = after_reason (refused_by_row (Some (standing row)) (number_of ty))
   where
     by_method : Method → Outcome
     by_method Monitor = tried m row s now (record { answer = Kept; after = with_rows m (at i (gains s)) })

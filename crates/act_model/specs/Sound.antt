@@ -6,6 +6,7 @@ use Rattle.std.specs.Prelude.{◌≡◌, ◌≢◌, ◌⊎◌, ℕ, ◌<◌, ◌
 use Rattle.std.specs.List.{AllByRecursion}
 use Rattle.std.specs.Ordering.{nat_cmp}
 use Rattle.std.specs.FinMap.{FinMap, get}
+use Rattle.series_model.specs.Limits.{intake_room, most_rows}
 use Rattle.series_model.specs.declared.sample.Sample.{Sample}
 use Rattle.series_model.specs.Archive.{IsPrefix}
 use Rattle.series_model.specs.Series.{since, before, end_of, end_from, IsRising, RisesFrom}
@@ -85,7 +86,7 @@ IsStill moves i = (n : ℕ) (move : MoveState) → get moves n ≡ Some move →
 
 -- there is room for a row, and no row has the name's key
 pub record MayAdd (rows : List RowState) (name : List ℕ) : Type 0 where
-  pub room : length rows < 65536
+  pub room : length rows < most_rows
   pub free : (i : ℕ) (row : RowState) → slice_get rows i ≡ Some row → key_of row.name ≢ key_of name
 
 -- the row isn't retired: such a row stays so
@@ -160,12 +161,12 @@ PinsSound rule rows limbo pins = (n : ℕ) (pin : PinState) → get pins n ≡ S
 
 -- What every step keeps, of these members alone, so that a state with another count of faults is as sound.
 pub record IsSoundOf (rule : Rule) (told : Bool) (rows : List RowState) (limbo : List FileState) (pins : FinMap nat_cmp PinState) (moves : FinMap nat_cmp MoveState) (doubt : Option Change) : Type 0 where
-  pub few : length rows ≤ 65536
+  pub few : length rows ≤ most_rows
   pub keys : (i j : ℕ) (a b : RowState) → slice_get rows i ≡ Some a → slice_get rows j ≡ Some b → key_of a.name ≡ key_of b.name → i ≡ j
   pub each_row : (i : ℕ) (row : RowState) → slice_get rows i ≡ Some row → RowSound told row
   pub bases : BasesSound told rows
   pub lines : (i : ℕ) (row : RowState) → slice_get rows i ≡ Some row → LinesSound row
-  pub intake : held_bytes rows ≤ 67108864
+  pub intake : held_bytes rows ≤ intake_room
   pub doubted : (change : Change) → doubt ≡ Some change → MayMake rule told rows limbo change × EndedMove moves change
   pub each_move : (n : ℕ) (move : MoveState) → get moves n ≡ Some move → MoveSound rule told rows limbo move
   pub one_move : (n k : ℕ) (move other : MoveState) → get moves n ≡ Some move → get moves k ≡ Some other → move.row ≡ other.row → n ≡ k

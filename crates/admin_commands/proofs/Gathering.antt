@@ -9,7 +9,7 @@ use Rattle.act_model.specs.Reply.{Reply}
 use Rattle.act_model.proofs.Histories.{made_joined}
 use Rattle.http_front.specs.declared.request.WebCall.TheVariants.{AllPvs}
 use Rattle.admin_commands.specs.declared.reply.WebReply.TheVariants.{Success}
-use Rattle.admin_commands.specs.declared.end.Stopped.TheVariants as stopped
+use Rattle.admin_commands.specs.declared.end.NoReply.TheVariants as stopped
 use Rattle.admin_commands.specs.Bodies.{names_text}
 use Rattle.admin_commands.specs.Next.{Next, asks, names_from, page}
 use Rattle.admin_commands.specs.Serving.{Anyhow, Comes, Follows, IsTold, Proceeds, answers_of}

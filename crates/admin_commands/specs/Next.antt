@@ -1,6 +1,7 @@
 -- Which acts a management call asks for, and what it is replied over their answers: behind the answers that came so far it asks its next
 -- act, or is told its reply, or ends without one, since memory ran out.
 use Rattle.std.specs.Prelude.{ℕ, ◌+◌, ◌==◌, List, [], ◌∷◌, ◌++◌, if◌then◌else◌, Bool, true, false}
+use Rattle.series_model.specs.Limits.{intake_room}
 use Rattle.act_model.specs.declared.acts.Act.{Act}
 use Rattle.act_model.specs.declared.acts.Act.TheVariants.{Register, Pause, Resume, Rename, Flush, Names, Details}
 use Rattle.act_model.specs.declared.acts.Answer.TheVariants as answer
@@ -78,7 +79,7 @@ names_from from before (other ∷ rest) = stops
 
 -- flushes of all that an intake can hold, until nothing is left; so many samples became durable before
 abbrev pub flushes : ℕ → List Reply → Next
-flushes samples [] = asks (Flush 67108864)
+flushes samples [] = asks (Flush intake_room)
 flushes samples (answer.Flushed more left doors ∷ rest) = if left == 0 then tells (Success (flushed_text (samples + more))) else flushes (samples + more) rest
 flushes samples (answer.DiskFault ∷ rest) = tells (Refused refusal.DiskFault)
 flushes samples (other ∷ rest) = stops

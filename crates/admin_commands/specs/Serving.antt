@@ -10,8 +10,8 @@ use Rattle.http_front.specs.declared.request.WebCall.{WebCall}
 use Rattle.admin_commands.specs.declared.refusal.Refusal.TheVariants as refusal
 use Rattle.admin_commands.specs.declared.reply.WebReply.{WebReply}
 use Rattle.admin_commands.specs.declared.reply.WebReply.TheVariants.{Refused}
-use Rattle.admin_commands.specs.declared.end.Stopped.{Stopped}
-use Rattle.admin_commands.specs.declared.end.Stopped.TheVariants as stopped
+use Rattle.admin_commands.specs.declared.end.NoReply.{NoReply}
+use Rattle.admin_commands.specs.declared.end.NoReply.TheVariants as stopped
 use Rattle.admin_commands.specs.declared.end.AdminErr.{AdminErr}
 use Rattle.admin_commands.specs.declared.end.AdminErr.TheVariants.{SinkFault, Spent, Memory}
 use Rattle.admin_commands.specs.Next.{Next, asks, tells, next}
@@ -44,13 +44,13 @@ abbrev pub Anyhow : Next → Type 0
 Anyhow n = Unit {0}
 
 -- what is made of an answer: the reply, or nothing, since memory ran out
-abbrev pub Tells : Next → Result WebReply Stopped → Type 0
+abbrev pub Tells : Next → Result WebReply NoReply → Type 0
 Tells n (Ok reply) = n ≡ tells reply
 Tells n (Err stopped.Spent) = ⊥
 Tells n (Err stopped.Memory) = Unit {0}
 
 -- What a call came to: its reply, or no act was left for the one that it asks for next, or memory ran out.
-abbrev pub Comes : {A : Type 0} (number : A → ℕ) (between : A → List Entry → A → Type 0) (is_spent : A → Type 0) (call : WebCall) (old : A) → Result WebReply Stopped → A → Type 0
+abbrev pub Comes : {A : Type 0} (number : A → ℕ) (between : A → List Entry → A → Type 0) (is_spent : A → Type 0) (call : WebCall) (old : A) → Result WebReply NoReply → A → Type 0
 Comes number between is_spent call old (Ok reply) new = Proceeds number between call old (IsTold reply) new
 Comes number between is_spent call old (Err stopped.Spent) new = Proceeds number between call old AsksMore new × is_spent new
 Comes number between is_spent call old (Err stopped.Memory) new = Proceeds number between call old Anyhow new

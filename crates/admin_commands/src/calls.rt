@@ -1,5 +1,6 @@
 // The acts of each call, and what it is replied over their answers.
 ghost use Rattle.std.specs.Prelude.{◌≡◌, ◌∷◌, [], true, IfOk};
+ghost use Rattle.series_model.specs.Limits.{intake_room};
 ghost use Rattle.act_model.specs.Machine.{Machine};
 ghost use Rattle.act_model.specs.declared.acts.Act.{Act};
 ghost use Rattle.act_model.specs.Asks.{Asked, details_told_reply, flushed_reply, names_told_reply, paused_reply};
@@ -13,7 +14,7 @@ ghost use Rattle.admin_commands.specs.Serving.{Comes, Tells};
 use crate::bodies::{
     NO_ROW, details_text, done_text, flushed_text, names_text, row_text, state_text, status_text,
 };
-use crate::end::Stopped;
+use crate::end::NoReply;
 use crate::refusal::Refusal;
 use crate::reply::WebReply;
 use act_model::{
@@ -23,11 +24,9 @@ use act_model::{
 use http_front::WebCall;
 use pb_messages::About;
 use pv_name::PvName;
+use series_model::limits::INTAKE_ROOM;
 use series_model::{Blob, Blobs};
 use std::alloc::{AllocError, Global};
-
-// A flush takes at most so many bytes, which is all that an intake can hold.
-const ALL: u64 = 67_108_864;
 
 // How many names are asked for at once.
 const PAGE: u32 = 1_024;
@@ -37,7 +36,7 @@ pub(crate) fn serve<A: Actor>(
     alloc: Global,
     actor: &mut A,
     call: &WebCall,
-) -> Result<WebReply, Stopped>
+) -> Result<WebReply, NoReply>
     requires stands { (m : Machine) × A.stands actor.old m }
     requires management { is_management call.now ≡ true }
     ensures comes { Comes A.number A.between A.is_spent call.now actor.old result actor.new }
@@ -76,22 +75,22 @@ fn archive<A: Actor>(
     actor: &mut A,
     pv: &PvName,
     about: &About,
-) -> Result<WebReply, Stopped>
+) -> Result<WebReply, NoReply>
     requires stands { (m : Machine) × A.stands actor.old m }
     ensures comes { Comes A.number A.between A.is_spent
         (WebCall.ArchivePv pv.now about.now) actor.old result actor.new }
     ensures stands { (n : Machine) × A.stands actor.new n }
 {
     let Ok((name, about)) = copies_of(pv, about) else {
-        return Err(Stopped::Memory);
+        return Err(NoReply::Memory);
     };
     match ask_register(actor, name, about) {
         Ok(told) => reply_to_register(alloc, told),
-        Err(Spent) => Err(Stopped::Spent),
+        Err(Spent) => Err(NoReply::Spent),
     }
 }
 
-pub(crate) fn reply_to_register(alloc: Global, told: Registered) -> Result<WebReply, Stopped>
+pub(crate) fn reply_to_register(alloc: Global, told: Registered) -> Result<WebReply, NoReply>
     ensures { Tells (registered (registered_reply told)) result }
 {
     match told {
@@ -100,26 +99,26 @@ pub(crate) fn reply_to_register(alloc: Global, told: Registered) -> Result<WebRe
         Registered::KeyTaken { row } => Ok(WebReply::Refused(Refusal::KeyTaken { row })),
         Registered::CatalogueFull => Ok(WebReply::Refused(Refusal::CatalogueFull)),
         Registered::DiskFault => Ok(WebReply::Refused(Refusal::DiskFault)),
-        Registered::Memory => Err(Stopped::Memory),
+        Registered::Memory => Err(NoReply::Memory),
     }
 }
 
 // That a variable's samples are dropped from now on.
-fn pause<A: Actor>(alloc: Global, actor: &mut A, pv: &PvName) -> Result<WebReply, Stopped>
+fn pause<A: Actor>(alloc: Global, actor: &mut A, pv: &PvName) -> Result<WebReply, NoReply>
     requires stands { (m : Machine) × A.stands actor.old m }
     ensures comes { Comes A.number A.between A.is_spent (WebCall.PausePv pv.now) actor.old result actor.new }
     ensures stands { (n : Machine) × A.stands actor.new n }
 {
     let Ok(name) = name_of(alloc, pv) else {
-        return Err(Stopped::Memory);
+        return Err(NoReply::Memory);
     };
     match ask_pause(actor, name) {
         Ok(paused) => reply_to_pause(alloc, paused),
-        Err(Spent) => Err(Stopped::Spent),
+        Err(Spent) => Err(NoReply::Spent),
     }
 }
 
-pub(crate) fn reply_to_pause(alloc: Global, paused: Paused) -> Result<WebReply, Stopped>
+pub(crate) fn reply_to_pause(alloc: Global, paused: Paused) -> Result<WebReply, NoReply>
     ensures { Tells (set (paused_reply paused)) result }
 {
     match paused {
@@ -127,26 +126,26 @@ pub(crate) fn reply_to_pause(alloc: Global, paused: Paused) -> Result<WebReply, 
         Paused::NoSuchVariable => Ok(WebReply::Refused(Refusal::NoSuchVariable)),
         Paused::NotRunning => Ok(WebReply::Refused(Refusal::NotRunning)),
         Paused::DiskFault => Ok(WebReply::Refused(Refusal::DiskFault)),
-        Paused::Memory => Err(Stopped::Memory),
+        Paused::Memory => Err(NoReply::Memory),
     }
 }
 
 // That a variable's samples are taken again.
-fn resume<A: Actor>(alloc: Global, actor: &mut A, pv: &PvName) -> Result<WebReply, Stopped>
+fn resume<A: Actor>(alloc: Global, actor: &mut A, pv: &PvName) -> Result<WebReply, NoReply>
     requires stands { (m : Machine) × A.stands actor.old m }
     ensures comes { Comes A.number A.between A.is_spent (WebCall.ResumePv pv.now) actor.old result actor.new }
     ensures stands { (n : Machine) × A.stands actor.new n }
 {
     let Ok(name) = name_of(alloc, pv) else {
-        return Err(Stopped::Memory);
+        return Err(NoReply::Memory);
     };
     match ask_resume(actor, name) {
         Ok(resumed) => reply_to_resume(alloc, resumed),
-        Err(Spent) => Err(Stopped::Spent),
+        Err(Spent) => Err(NoReply::Spent),
     }
 }
 
-pub(crate) fn reply_to_resume(alloc: Global, resumed: Resumed) -> Result<WebReply, Stopped>
+pub(crate) fn reply_to_resume(alloc: Global, resumed: Resumed) -> Result<WebReply, NoReply>
     ensures { Tells (set (resumed_reply resumed)) result }
 {
     match resumed {
@@ -154,7 +153,7 @@ pub(crate) fn reply_to_resume(alloc: Global, resumed: Resumed) -> Result<WebRepl
         Resumed::NoSuchVariable => Ok(WebReply::Refused(Refusal::NoSuchVariable)),
         Resumed::NotPaused => Ok(WebReply::Refused(Refusal::NotPaused)),
         Resumed::DiskFault => Ok(WebReply::Refused(Refusal::DiskFault)),
-        Resumed::Memory => Err(Stopped::Memory),
+        Resumed::Memory => Err(NoReply::Memory),
     }
 }
 
@@ -164,18 +163,18 @@ fn rename<A: Actor>(
     actor: &mut A,
     pv: &PvName,
     newname: &PvName,
-) -> Result<WebReply, Stopped>
+) -> Result<WebReply, NoReply>
     requires stands { (m : Machine) × A.stands actor.old m }
     ensures comes { Comes A.number A.between A.is_spent
         (WebCall.RenamePv pv.now newname.now) actor.old result actor.new }
     ensures stands { (n : Machine) × A.stands actor.new n }
 {
     let Ok((name, newname)) = names_of(alloc, pv, newname) else {
-        return Err(Stopped::Memory);
+        return Err(NoReply::Memory);
     };
     match ask_rename(actor, name, newname) {
         Ok(told) => reply_to_rename(alloc, told),
-        Err(Spent) => Err(Stopped::Spent),
+        Err(Spent) => Err(NoReply::Spent),
     }
 }
 
@@ -185,7 +184,7 @@ fn names_of(alloc: Global, pv: &PvName, newname: &PvName) -> Result<(Blob, PvNam
     Ok((name_of(alloc, pv)?, newname.clone()?))
 }
 
-pub(crate) fn reply_to_rename(alloc: Global, told: Renamed) -> Result<WebReply, Stopped>
+pub(crate) fn reply_to_rename(alloc: Global, told: Renamed) -> Result<WebReply, NoReply>
     ensures { Tells (renamed (renamed_reply told)) result }
 {
     match told {
@@ -199,22 +198,22 @@ pub(crate) fn reply_to_rename(alloc: Global, told: Renamed) -> Result<WebReply, 
             Ok(WebReply::Refused(Refusal::NotDurable { last, durable }))
         }
         Renamed::DiskFault => Ok(WebReply::Refused(Refusal::DiskFault)),
-        Renamed::Memory => Err(Stopped::Memory),
+        Renamed::Memory => Err(NoReply::Memory),
     }
 }
 
 // Whether a variable is archived.
-fn tell_status<A: Actor>(alloc: Global, actor: &mut A, pv: &PvName) -> Result<WebReply, Stopped>
+fn tell_status<A: Actor>(alloc: Global, actor: &mut A, pv: &PvName) -> Result<WebReply, NoReply>
     requires stands { (m : Machine) × A.stands actor.old m }
     ensures comes { Comes A.number A.between A.is_spent (WebCall.PvStatus pv.now) actor.old result actor.new }
     ensures stands { (n : Machine) × A.stands actor.new n }
 {
     let Ok(name) = name_of(alloc, pv) else {
-        return Err(Stopped::Memory);
+        return Err(NoReply::Memory);
     };
     match ask_details(actor, name) {
         Ok(told) => reply_with_status(alloc, pv, told),
-        Err(Spent) => Err(Stopped::Spent),
+        Err(Spent) => Err(NoReply::Spent),
     }
 }
 
@@ -222,7 +221,7 @@ pub(crate) fn reply_with_status(
     alloc: Global,
     pv: &PvName,
     told: DetailsTold,
-) -> Result<WebReply, Stopped>
+) -> Result<WebReply, NoReply>
     ensures { Tells (status_told pv.now (details_told_reply told)) result }
 {
     match told {
@@ -235,70 +234,71 @@ pub(crate) fn reply_with_status(
             Ok(WebReply::Success(text))
         }
         DetailsTold::DiskFault => Ok(WebReply::Refused(Refusal::DiskFault)),
-        DetailsTold::Memory => Err(Stopped::Memory),
+        DetailsTold::Memory => Err(NoReply::Memory),
     }
 }
 
 // What is known of a variable.
-fn tell_details<A: Actor>(alloc: Global, actor: &mut A, pv: &PvName) -> Result<WebReply, Stopped>
+fn tell_details<A: Actor>(alloc: Global, actor: &mut A, pv: &PvName) -> Result<WebReply, NoReply>
     requires stands { (m : Machine) × A.stands actor.old m }
     ensures comes { Comes A.number A.between A.is_spent (WebCall.PvDetails pv.now) actor.old result actor.new }
     ensures stands { (n : Machine) × A.stands actor.new n }
 {
     let Ok(name) = name_of(alloc, pv) else {
-        return Err(Stopped::Memory);
+        return Err(NoReply::Memory);
     };
     match ask_details(actor, name) {
         Ok(told) => reply_with_details(alloc, told),
-        Err(Spent) => Err(Stopped::Spent),
+        Err(Spent) => Err(NoReply::Spent),
     }
 }
 
-pub(crate) fn reply_with_details(alloc: Global, told: DetailsTold) -> Result<WebReply, Stopped>
+pub(crate) fn reply_with_details(alloc: Global, told: DetailsTold) -> Result<WebReply, NoReply>
     ensures { Tells (details_told (details_told_reply told)) result }
 {
     match told {
         DetailsTold::Described(details) => Ok(WebReply::Success(details_text(alloc, &details)?)),
         DetailsTold::NoSuchVariable => Ok(WebReply::Refused(Refusal::NoSuchVariable)),
         DetailsTold::DiskFault => Ok(WebReply::Refused(Refusal::DiskFault)),
-        DetailsTold::Memory => Err(Stopped::Memory),
+        DetailsTold::Memory => Err(NoReply::Memory),
     }
 }
 
 // Flushes all. One flush leaves nothing, so no second one is asked for.
-fn flush<A: Actor>(alloc: Global, actor: &mut A) -> Result<WebReply, Stopped>
+fn flush<A: Actor>(alloc: Global, actor: &mut A) -> Result<WebReply, NoReply>
     requires stands { (m : Machine) × A.stands actor.old m }
     ensures comes { Comes A.number A.between A.is_spent WebCall.FlushAll actor.old result actor.new }
     ensures stands { (n : Machine) × A.stands actor.new n }
 {
     match flush_all(actor) {
         Ok(flushed) => reply_to_flush(alloc, flushed),
-        Err(Spent) => Err(Stopped::Spent),
+        Err(Spent) => Err(NoReply::Spent),
     }
 }
 
 fn flush_all<A: Actor>(actor: &mut A) -> Result<Flushed, Spent>
     requires stands { (m : Machine) × A.stands actor.old m }
-    ensures asked { Asked A.number A.between A.is_spent flushed_reply actor.old (Act.Flush ALL) result actor.new }
+    ensures asked { Asked A.number A.between A.is_spent flushed_reply actor.old (Act.Flush intake_room)
+        result actor.new }
     ensures none_left { IfOk result LeavesNone }
     ensures stands { (n : Machine) × A.stands actor.new n }
 {
-    ask_flush(actor, ALL)
+    ask_flush(actor, INTAKE_ROOM)
 }
 
-pub(crate) fn reply_to_flush(alloc: Global, flushed: Flushed) -> Result<WebReply, Stopped>
+pub(crate) fn reply_to_flush(alloc: Global, flushed: Flushed) -> Result<WebReply, NoReply>
     requires { LeavesNone flushed }
     ensures { Tells (flushes 0 (flushed_reply flushed ∷ [])) result }
 {
     match flushed {
         Flushed::Flushed { samples, .. } => Ok(WebReply::Success(flushed_text(alloc, samples)?)),
         Flushed::DiskFault => Ok(WebReply::Refused(Refusal::DiskFault)),
-        Flushed::Memory => Err(Stopped::Memory),
+        Flushed::Memory => Err(NoReply::Memory),
     }
 }
 
 // The names of all rows.
-fn tell_names<A: Actor>(alloc: Global, actor: &mut A) -> Result<WebReply, Stopped>
+fn tell_names<A: Actor>(alloc: Global, actor: &mut A) -> Result<WebReply, NoReply>
     requires stands { (m : Machine) × A.stands actor.old m }
     ensures comes { Comes A.number A.between A.is_spent WebCall.AllPvs actor.old result actor.new }
     ensures stands { (n : Machine) × A.stands actor.new n }
@@ -309,13 +309,13 @@ fn tell_names<A: Actor>(alloc: Global, actor: &mut A) -> Result<WebReply, Stoppe
     }
 }
 
-pub(crate) fn reply_with_names(alloc: Global, names: &[Blob]) -> Result<WebReply, Stopped>
+pub(crate) fn reply_with_names(alloc: Global, names: &[Blob]) -> Result<WebReply, NoReply>
     ensures { Tells (tells (WebReply.Success (names_text names.now))) result }
 {
     Ok(WebReply::Success(names_text(alloc, names)?))
 }
 
-fn gather_names<A: Actor>(alloc: Global, actor: &mut A) -> Result<Blobs, Stopped>
+fn gather_names<A: Actor>(alloc: Global, actor: &mut A) -> Result<Blobs, NoReply>
     requires stands { (m : Machine) × A.stands actor.old m }
     ensures gathers { Gathers A.number A.between A.is_spent actor.old result actor.new }
     ensures stands { (n : Machine) × A.stands actor.new n }
@@ -326,15 +326,15 @@ fn gather_names<A: Actor>(alloc: Global, actor: &mut A) -> Result<Blobs, Stopped
         match ask_page(actor, from) {
             Ok(NamesTold::NamesAre { names: page, more }) => {
                 let Ok(()) = names.append(&mut page.into_vec()) else {
-                    return Err(Stopped::Memory);
+                    return Err(NoReply::Memory);
                 };
                 if !more {
                     return Ok(Blobs::from(names));
                 }
                 from += PAGE;
             }
-            Ok(NamesTold::Memory) => return Err(Stopped::Memory),
-            Err(Spent) => return Err(Stopped::Spent),
+            Ok(NamesTold::Memory) => return Err(NoReply::Memory),
+            Err(Spent) => return Err(NoReply::Spent),
         }
     }
 }

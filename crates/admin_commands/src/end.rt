@@ -27,19 +27,19 @@ impl From<AllocError> for AdminErr {
 
 /// Why a call has no reply.
 #[derive(Clone, Copy)]
-pub(crate) enum Stopped {
+pub(crate) enum NoReply {
     /// No act is left.
     Spent,
     /// Memory ran out.
     Memory,
 }
 
-impl From<AllocError> for Stopped {
-    ghost use Rattle.admin_commands.specs.declared.end.Stopped.TheVariants.{Memory};
+impl From<AllocError> for NoReply {
+    ghost use Rattle.admin_commands.specs.declared.end.NoReply.TheVariants.{Memory};
 
     ghost from_gives = { λ _ e. e ≡ Memory };
 
-    fn from(_: AllocError) -> Stopped {
-        Stopped::Memory
+    fn from(_: AllocError) -> NoReply {
+        NoReply::Memory
     }
 }

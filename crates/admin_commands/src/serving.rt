@@ -6,7 +6,7 @@ ghost use Rattle.admin_commands.specs.Next.{is_management};
 ghost use Rattle.admin_commands.specs.Serving.{Serves};
 
 use crate::calls::serve;
-use crate::end::{AdminErr, Stopped};
+use crate::end::{AdminErr, NoReply};
 use crate::refusal::Refusal;
 use crate::reply::{refuse, send};
 use act_model::{Actor, OutErr};
@@ -40,11 +40,11 @@ pub fn admin<A: Actor, K: Sink>(
             Err(OutErr::SinkFault) => Err(AdminErr::SinkFault),
             Err(OutErr::Memory) => Err(AdminErr::Memory),
         },
-        Err(Stopped::Spent) => match refuse(alloc, sink, Refusal::Spent) {
+        Err(NoReply::Spent) => match refuse(alloc, sink, Refusal::Spent) {
             Ok(()) => Err(AdminErr::Spent),
             Err(OutErr::SinkFault) => Err(AdminErr::SinkFault),
             Err(OutErr::Memory) => Err(AdminErr::Memory),
         },
-        Err(Stopped::Memory) => Err(AdminErr::Memory),
+        Err(NoReply::Memory) => Err(AdminErr::Memory),
     }
 }

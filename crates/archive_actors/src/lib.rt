@@ -7,7 +7,7 @@
 //! Model: whoever acts stands for the states of the machine that the value stands for, and what is known is a run of
 //! the machine. Who is seated knows the acts that its pass knows, those of others among them.
 //!
-//! Tests: `turn_tests` acts by [`Seated`] on a small value of its own; each command of the program acts by [`Alone`].
+//! Tests: `unit_cases` acts by [`Seated`] on a small value of its own; each command of the program acts by [`Alone`].
 //! The archive to act on is that of `archive_core`.
 #![tactic(auto)]
 

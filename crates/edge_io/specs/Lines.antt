@@ -6,6 +6,18 @@ use Rattle.edge_io.specs.declared.lines.LineRead.TheVariants.{Line, End, Torn, T
 use Rattle.edge_io.specs.declared.lines.Filled.{Filled}
 use Rattle.edge_io.specs.declared.lines.Filled.TheVariants as filled
 
+-- the most bytes of a line, its newline not counted
+abbrev pub max_line : ℕ
+max_line = 16_777_216
+
+-- the most bytes that are taken of a source
+abbrev pub max_input : ℕ
+max_input = 2 ^ 40
+
+-- the most bytes of one read
+abbrev pub most_read : ℕ
+most_read = 65_536
+
 -- A reader of lines: the bytes that it took and has not given, how many it gave, the last line and its number, and where it stopped for good.
 pub record Reader : Type 0 where
   pub held : List ℕ
@@ -40,9 +52,9 @@ pub record IsLineEnd (xs : List ℕ) (mark place : ℕ) (is_free : Bool) : Type 
   pub line : All (λ x. x ≢ 10) (take place xs)
   pub free : IsTrue is_free → All (λ x. x ≢ mark) (take place xs)
 
--- of so many bytes, fewer than 65,536 stand behind the newline at this place
+-- of so many bytes, fewer than one read gives stand behind the newline at this place
 abbrev pub IsNear : ℕ → Option ℕ → Type 0
-IsNear count place = IfSome place (λ k. count ≤ k + 65536)
+IsNear count place = IfSome place (λ k. count ≤ k + most_read)
 
 -- the line, its number and what was given stay
 pub record Stays (old new : Reader) : Type 0 where
@@ -53,30 +65,30 @@ pub record Stays (old new : Reader) : Type 0 where
 -- a line was given
 pub record GivesLine (old new : Reader) : Type 0 where
   pub whole : All (λ x. x ≢ 10) new.line
-  pub short : length new.line ≤ 16777216
+  pub short : length new.line ≤ max_line
   pub number : new.number ≡ old.number + 1
   pub passed : new.passed ≡ old.passed + length new.line + 1
   pub goes_on : new.stop ≡ None
-  pub bound : new.passed ≤ 2 ^ 40
+  pub bound : new.passed ≤ max_input
 
 -- Below, p bytes of the stream were given before, and xs are still to come. The first 2^40 bytes of the stream count.
 
 -- the stream ends within a line
 abbrev pub IsTorn : ℕ → List ℕ → Type 0
-IsTorn p xs = (0 < length xs) × (length xs ≤ 16777216) × (p + length xs < 2 ^ 40) × NoneBelow xs (length xs)
+IsTorn p xs = (0 < length xs) × (length xs ≤ max_line) × (p + length xs < max_input) × NoneBelow xs (length xs)
 
 -- the next line has more bytes than a line may have
 abbrev pub IsTooLong : ℕ → List ℕ → Type 0
-IsTooLong p xs = (16777216 < length xs) × (p + 16777216 < 2 ^ 40) × NoneBelow xs 16777217
+IsTooLong p xs = (max_line < length xs) × (p + max_line < max_input) × NoneBelow xs (max_line + 1)
 
 -- all bytes that count are taken, and no whole line of them is left
 abbrev pub IsInputTooLong : ℕ → List ℕ → Type 0
-IsInputTooLong p xs = (2 ^ 40 ≤ p + length xs) × (2 ^ 40 ≤ p + 16777216) × NoneBelow xs (2 ^ 40 - p)
+IsInputTooLong p xs = (max_input ≤ p + length xs) × (max_input ≤ p + max_line) × NoneBelow xs (max_input - p)
 
 -- What a call came to, by what was still to come before it and after it.
 abbrev pub Reads : Reader → Reader → Option (List ℕ) → Option (List ℕ) → LineRead → Type 0
 Reads old new before after Line = GivesLine old new × Consumes before after (new.line ++ 10 ∷ [])
-Reads old new before after End = Stays old new × Keeps before after × (new.stop ≡ None) × IsAtEnd before × (old.passed < 2 ^ 40)
+Reads old new before after End = Stays old new × Keeps before after × (new.stop ≡ None) × IsAtEnd before × (old.passed < max_input)
 Reads old new before after Torn = Stays old new × Keeps before after × (new.stop ≡ Some Torn) × IfSome before (IsTorn old.passed)
 Reads old new before after TooLong = Stays old new × Keeps before after × (new.stop ≡ Some TooLong) × IfSome before (IsTooLong old.passed)
 Reads old new before after InputTooLong = Stays old new × Keeps before after × (new.stop ≡ Some InputTooLong) × IfSome before (IsInputTooLong old.passed)
@@ -96,20 +108,20 @@ OneAnswer = (old new other : Reader) (xs : List ℕ) (after left : Option (List 
 
 -- The next answer is known without a read: the reader stopped, holds a newline or more than a line may have, or took all that counts.
 abbrev pub HoldsAnswer : Reader → Type 0
-HoldsAnswer r = IsSome r.stop ⊎ (Contains r.held 10 ⊎ ((16777216 < length r.held) ⊎ (r.passed + length r.held ≡ 2 ^ 40)))
+HoldsAnswer r = IsSome r.stop ⊎ (Contains r.held 10 ⊎ ((max_line < length r.held) ⊎ (r.passed + length r.held ≡ max_input)))
 
 -- an answer from what the reader holds
 abbrev pub AnswersHeld : Reader → Reader → LineRead → Type 0
 AnswersHeld old new Line = GivesLine old new × (old.held ≡ new.line ++ 10 ∷ new.held)
-AnswersHeld old new TooLong = (new ≡ record old { stop = Some TooLong }) × (16777216 < length old.held) × (old.passed + 16777216 < 2 ^ 40) × NoneBelow old.held 16777217
-AnswersHeld old new InputTooLong = (new ≡ record old { stop = Some InputTooLong }) × (length old.held ≤ 16777216) × (old.passed + length old.held ≡ 2 ^ 40) × NoneBelow old.held (length old.held)
+AnswersHeld old new TooLong = (new ≡ record old { stop = Some TooLong }) × (max_line < length old.held) × (old.passed + max_line < max_input) × NoneBelow old.held (max_line + 1)
+AnswersHeld old new InputTooLong = (new ≡ record old { stop = Some InputTooLong }) × (length old.held ≤ max_line) × (old.passed + length old.held ≡ max_input) × NoneBelow old.held (length old.held)
 AnswersHeld old new _ = ⊥
 
 -- no whole line is held, and there is room for more
 pub record Wants (r : Reader) : Type 0 where
   pub none : NoneBelow r.held (length r.held)
-  pub short : length r.held ≤ 16777216
-  pub within : r.passed + length r.held < 2 ^ 40
+  pub short : length r.held ≤ max_line
+  pub within : r.passed + length r.held < max_input
 
 -- what one read of the source did, by what the reader held and what was still to come, before and after
 abbrev pub Fills : List ℕ → List ℕ → Option (List ℕ) → Option (List ℕ) → Filled → Type 0

@@ -3,7 +3,7 @@ ghost use Rattle.std.specs.Prelude.{◌≡◌, ◌+◌, ◌≤◌, ◌<◌, ◌�
 ghost use Rattle.std.specs.Io.KnownBytes.{Appends};
 ghost use Rattle.edge_io.specs.Stream.{Rose, AppendsFront};
 ghost use Rattle.edge_io.specs.declared.buffer.PutErr.TheVariants.{Memory, SinkFault};
-ghost use Rattle.edge_io.specs.Sent.{Sends};
+ghost use Rattle.edge_io.specs.Sent.{Sends, most_gathered};
 
 use crate::stream::{Failed, Sink, write_two, write_whole};
 use std::alloc::{AllocError, Global};
@@ -45,12 +45,13 @@ pub struct SinkBuffer {
 
 impl Model for SinkBuffer {
     ghost use Rattle.std.specs.Prelude.{ℕ, ◌≤◌, List, vec_len};
+    ghost use Rattle.edge_io.specs.Sent.{most_gathered};
 
     ghost Value = { List ℕ };
 
     ghost view = { λ b. b.bytes.items };
 
-    ghost invariant = { λ b. vec_len b.bytes ≤ 65536 };
+    ghost invariant = { λ b. vec_len b.bytes ≤ most_gathered };
 }
 
 impl SinkBuffer {
@@ -70,7 +71,7 @@ impl SinkBuffer {
     pub fn put<K: Sink>(&mut self, piece: &[u8], sink: &mut K) -> Result<(), PutErr>
         ensures ok { OnOk result (Sends (K.written sink.old) (K.written sink.new) (self.old ++ piece.now) self.new) }
         ensures front { OnErr result (AppendsFront (K.written sink.old) (K.written sink.new) (self.old ++ piece.now)) }
-        ensures most { length self.new ≤ 65536 }
+        ensures most { length self.new ≤ most_gathered }
         ensures empty { IsErrOf result PutErr.SinkFault → self.new ≡ [] }
         ensures memory { IsErrOf result PutErr.Memory
             → Sends (K.written sink.old) (K.written sink.new) self.old self.new }
@@ -92,7 +93,7 @@ impl SinkBuffer {
             (Sends (K.written sink.old) (K.written sink.new) (self.old ++ (line.now ++ 10 ∷ [])) self.new) }
         ensures front { OnErr result
             (AppendsFront (K.written sink.old) (K.written sink.new) (self.old ++ (line.now ++ 10 ∷ []))) }
-        ensures most { length self.new ≤ 65536 }
+        ensures most { length self.new ≤ most_gathered }
         ensures empty { IsErrOf result PutErr.SinkFault → self.new ≡ [] }
         ensures memory { IsErrOf result PutErr.Memory
             → Sends (K.written sink.old) (K.written sink.new) self.old self.new }
@@ -111,7 +112,7 @@ impl SinkBuffer {
 
     // Gathers a line and a newline, or nothing where memory runs out.
     fn gather_line(&mut self, line: &[u8]) -> Result<(), AllocError>
-        requires { length self.old + (length line.now + 1) ≤ 65536 }
+        requires { length self.old + (length line.now + 1) ≤ most_gathered }
         ensures ok { OnOk result (self.new ≡ self.old ++ (line.now ++ 10 ∷ [])) }
         ensures memory { OnErr result (self.new ≡ self.old) }
     {
@@ -126,8 +127,8 @@ impl SinkBuffer {
     // Writes what is gathered if it would be too much with so many bytes more.
     fn make_room<K: Sink>(&mut self, more: usize, sink: &mut K) -> Result<(), Failed>
         ensures ok { OnOk result (Sends (K.written sink.old) (K.written sink.new) self.old self.new) }
-        ensures room { more ≤ 65536 → length self.new + more ≤ 65536 }
-        ensures long { MOST < more → self.new ≡ [] }
+        ensures room { more ≤ most_gathered → length self.new + more ≤ most_gathered }
+        ensures long { most_gathered < more → self.new ≡ [] }
         ensures empty { OnErr result (self.new ≡ []) }
         ensures front { OnErr result (AppendsFront (K.written sink.old) (K.written sink.new) self.old) }
         ensures faults { K.write_faults sink.old ≤ K.write_faults sink.new }

@@ -7,7 +7,7 @@ ghost use Rattle.std.specs.Simd.Lanes.{mask_l};
 ghost use Rattle.std.specs.Io.KnownBytes.{IsAtEnd, Keeps};
 ghost use Rattle.edge_io.specs.Stream.{Rose};
 ghost use Rattle.edge_io.specs.Lines.{Reader, NoneBelow, IsFirstNewline, IsNear, IsLineEnd, IsStop, Stays, Reads};
-ghost use Rattle.edge_io.specs.Lines.{ReadsOn, Fills, HoldsAnswer, AnswersHeld, Wants, ahead};
+ghost use Rattle.edge_io.specs.Lines.{ReadsOn, Fills, HoldsAnswer, AnswersHeld, Wants, ahead, max_input, most_read};
 
 use crate::Source;
 use memchr::memchr;
@@ -22,7 +22,7 @@ pub const MAX_LINE: usize = 16_777_216;
 pub const MAX_INPUT: u64 = 1 << 40;
 
 // The most bytes of one read, and the room of the first buffer.
-const ROOM: usize = 65_536;
+const MOST_READ: usize = 65_536;
 
 const NEWLINE: u8 = 0x0a;
 
@@ -72,9 +72,9 @@ pub struct Lines {
 }
 
 impl Model for Lines {
-    ghost use Rattle.std.specs.Prelude.{◌+◌, ◌-◌, ◌^◌, ◌≤◌, drop, vec_len, IfSome};
+    ghost use Rattle.std.specs.Prelude.{◌+◌, ◌-◌, ◌≤◌, drop, vec_len, IfSome};
     ghost use Rattle.std.specs.List.{slice_range};
-    ghost use Rattle.edge_io.specs.Lines.{Reader, IsFirstNewline, IsNear, IsStop};
+    ghost use Rattle.edge_io.specs.Lines.{Reader, IsFirstNewline, IsNear, IsStop, max_input};
 
     ghost Value = { Reader };
 
@@ -87,7 +87,7 @@ impl Model for Lines {
     } };
 
     ghost invariant = { λ r. (r.line_at ≤ r.line_end) × (r.line_end ≤ r.start)
-        × (r.start ≤ vec_len r.buf) × (r.number ≤ r.passed) × (r.passed + (vec_len r.buf - r.start) ≤ 2 ^ 40)
+        × (r.start ≤ vec_len r.buf) × (r.number ≤ r.passed) × (r.passed + (vec_len r.buf - r.start) ≤ max_input)
         × IsFirstNewline (drop r.start r.buf.items) r.newline
         × IsNear (vec_len r.buf - r.start) r.newline × IfSome r.stop IsStop };
 }
@@ -98,7 +98,7 @@ impl Lines {
         ensures { IfOk result (λ r. r ≡ record { held = []; passed = 0; line = []; number = 0; stop = None }) }
     {
         Ok(Lines {
-            buf: Vec::with_capacity(alloc, ROOM)?,
+            buf: Vec::with_capacity(alloc, MOST_READ)?,
             line_at: 0,
             line_end: 0,
             start: 0,
@@ -120,7 +120,7 @@ impl Lines {
     /// The number of that line, from 1; 0 before the first.
     pub fn number(&self) -> u64
         ensures value { result ≡ self.now.number }
-        ensures bound { result ≤ 2 ^ 40 }
+        ensures bound { result ≤ max_input }
     {
         self.number
     }
@@ -145,7 +145,7 @@ impl Lines {
             (Reads self.old self.new (ahead self.old (S.left source.old)) (ahead self.new (S.left source.new)) result) }
         ensures stopped { IfSome self.old.stop (λ stop.
             (result ≡ stop) × (self.new ≡ self.old) × (source.new ≡ source.old)) }
-        ensures ahead { result ≡ LineRead.Line → length self.new.held < 65536 }
+        ensures ahead { result ≡ LineRead.Line → length self.new.held < most_read }
         ensures unread { HoldsAnswer self.old → source.new ≡ source.old }
         ensures faults { S.read_faults source.old ≤ S.read_faults source.new }
         ensures failed { result ≡ LineRead.SourceFault → Rose (S.read_faults source.old) (S.read_faults source.new) }
@@ -188,7 +188,7 @@ impl Lines {
         ensures number { self.new.number ≡ self.old.number + count }
         ensures passed { self.new.passed ≡ self.old.passed + len }
         ensures stop { self.new.stop ≡ self.old.stop }
-        ensures bound { self.new.passed ≤ 2 ^ 40 }
+        ensures bound { self.new.passed ≤ max_input }
     {
         self.start += len;
         self.line_end = self.start - 1;
@@ -204,7 +204,7 @@ impl Lines {
     fn answer(&mut self) -> Option<LineRead>
         requires { self.old.stop ≡ None }
         ensures some { IfSome result (AnswersHeld self.old self.new) }
-        ensures ahead { result ≡ Some LineRead.Line → length self.new.held < 65536 }
+        ensures ahead { result ≡ Some LineRead.Line → length self.new.held < most_read }
         ensures none { IfNone result ((self.new ≡ self.old) × Wants self.old) }
     {
         if let Some(len) = self.first_newline() {
@@ -239,7 +239,7 @@ impl Lines {
     fn first_newline(&self) -> Option<usize>
         ensures place { IsFirstNewline self.now.held result }
         ensures near { IsNear (length self.now.held) result }
-        ensures bound { self.now.passed + length self.now.held ≤ 2 ^ 40 }
+        ensures bound { self.now.passed + length self.now.held ≤ max_input }
     {
         self.newline
     }
@@ -247,7 +247,7 @@ impl Lines {
     #[inline(always)]
     fn held_len(&self) -> usize
         ensures value { result ≡ length self.now.held }
-        ensures bound { self.now.passed + length self.now.held ≤ 2 ^ 40 }
+        ensures bound { self.now.passed + length self.now.held ≤ max_input }
     {
         self.buf.len() - self.start
     }
@@ -256,7 +256,7 @@ impl Lines {
     #[inline(always)]
     fn taken(&self) -> u64
         ensures value { result ≡ self.now.passed + length self.now.held }
-        ensures bound { result ≤ 2 ^ 40 }
+        ensures bound { result ≤ max_input }
     {
         self.passed + (self.buf.len() - self.start) as u64
     }
@@ -277,13 +277,13 @@ impl Lines {
     fn pass(&mut self, len: usize)
         requires within { len < length self.old.held }
         requires newline { slice_index self.old.held len ≡ 10 }
-        requires near { length self.old.held ≤ len + 65536 }
+        requires near { length self.old.held ≤ len + most_read }
         ensures line { self.new.line ≡ take len self.old.held }
         ensures held { self.new.held ≡ drop (len + 1) self.old.held }
         ensures number { self.new.number ≡ self.old.number + 1 }
         ensures passed { self.new.passed ≡ self.old.passed + len + 1 }
         ensures stop { self.new.stop ≡ self.old.stop }
-        ensures bound { self.new.passed ≤ 2 ^ 40 }
+        ensures bound { self.new.passed ≤ max_input }
     {
         self.line_at = self.start;
         self.line_end = self.start + len;
@@ -297,7 +297,7 @@ impl Lines {
     // Reads more bytes behind what is there.
     fn fill<S: Source>(&mut self, source: &mut S) -> Filled
         requires none { NoneBelow self.old.held (length self.old.held) }
-        requires within { self.old.passed + length self.old.held < 2 ^ 40 }
+        requires within { self.old.passed + length self.old.held < max_input }
         ensures filled { Fills self.old.held self.new.held
             (ahead self.old (S.left source.old)) (ahead self.new (S.left source.new)) result }
         ensures stays { Stays self.old self.new }
@@ -317,11 +317,11 @@ impl Lines {
 
     // Moves the last line and what follows it to the front, and answers how many bytes to read.
     fn room(&mut self) -> usize
-        requires { self.old.passed + length self.old.held < 2 ^ 40 }
+        requires { self.old.passed + length self.old.held < max_input }
         ensures same { self.new ≡ self.old }
         ensures some { 0 < result }
-        ensures small { result ≤ 65536 }
-        ensures bound { self.old.passed + length self.old.held + result ≤ 2 ^ 40 }
+        ensures small { result ≤ most_read }
+        ensures bound { self.old.passed + length self.old.held + result ≤ max_input }
     {
         let shift = self.line_at;
         if shift > 0 {
@@ -331,7 +331,11 @@ impl Lines {
             self.start -= shift;
         }
         let len = self.buf.len();
-        let count = if len < ROOM / 2 { ROOM - len } else { ROOM };
+        let count = if len < MOST_READ / 2 {
+            MOST_READ - len
+        } else {
+            MOST_READ
+        };
         (count as u64).min(MAX_INPUT - self.taken()) as usize
     }
 }

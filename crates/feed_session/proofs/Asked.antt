@@ -8,11 +8,11 @@ use Rattle.act_model.proofs.Histories.{made_joined, made_nothing}
 use Rattle.feed_session.specs.Asks.{AreMade, FailsWith, NoneFails, asked_again, flush_all, is_failure}
 use Rattle.feed_session.specs.Asking.{Asking, OffersOnce, StopsIn, both, none, one_more, tally_of}
 use Rattle.feed_session.specs.Session.{IsFlushed}
-use Rattle.feed_session.specs.declared.asking.Stopped.{Stopped}
-use Rattle.feed_session.specs.declared.asking.Stopped.TheVariants as stopped
+use Rattle.feed_session.specs.declared.asking.SessionStop.{SessionStop}
+use Rattle.feed_session.specs.declared.asking.SessionStop.TheVariants as stopped
 use Rattle.feed_session.specs.declared.tally.Outcome.{Outcome}
 use Rattle.feed_session.specs.declared.tally.Outcome.TheVariants.{Kept, Held, Dropped}
-use Rattle.feed_session.specs.declared.tally.Tally.{Tally}
+use Rattle.feed_session.specs.declared.tally.OfferCounts.{OfferCounts}
 use Rattle.feed_session.proofs.Making.{fails_on, made_beside, made_on, none_both, none_fails_on, tally_on}
 
 abbrev pub done_as : Act → Reply → Done
@@ -34,7 +34,7 @@ module _ {A : Type 0} (number : A → ℕ) (between : A → List Entry → A →
     ends = (refl, (well, tt), are);
   }
 
-  pub asked_badly : {X : Type 0} (Are : X → List Done → Type 0) (old new : A) (act : Act) (reply : Reply) (s : Stopped) → Made number between old (done_as act reply ∷ []) new → asked_again act reply ≡ [] → StopsIn s (done_as act reply ∷ []) → Asking number between old (act ∷ []) Are (Err s) new
+  pub asked_badly : {X : Type 0} (Are : X → List Done → Type 0) (old new : A) (act : Act) (reply : Reply) (s : SessionStop) → Made number between old (done_as act reply ∷ []) new → asked_again act reply ≡ [] → StopsIn s (done_as act reply ∷ []) → Asking number between old (act ∷ []) Are (Err s) new
   asked_badly Are old new act reply s made again stops = record {
     done = done_as act reply ∷ [];
     left = [];
@@ -73,16 +73,16 @@ module _ {A : Type 0} (number : A → ℕ) (between : A → List Entry → A →
       left = o.left;
       made = made_joined number between joined number_stays old mid new t.done o.done t.made o.made;
       are = made_on (act ∷ []) t.done (act ∷ []) o.done o.left t.are o.are;
-      ends = (o.ends.0, none_fails_on t.done o.done t.well o.ends.1, are (t.done ++ o.done) (tally_on t.done o.done ∙ (ap (λ (x : Tally). both x (tally_of o.done)) t.uncounted ∙ (none_both (tally_of o.done) ∙ o.ends.2))));
+      ends = (o.ends.0, none_fails_on t.done o.done t.well o.ends.1, are (t.done ++ o.done) (tally_on t.done o.done ∙ (ap (λ (x : OfferCounts). both x (tally_of o.done)) t.uncounted ∙ (none_both (tally_of o.done) ∙ o.ends.2))));
     }
 
-    stops_on : (s : Stopped) (done more : List Done) → NoneFails done → StopsIn s more → StopsIn s (done ++ more)
+    stops_on : (s : SessionStop) (done more : List Done) → NoneFails done → StopsIn s more → StopsIn s (done ++ more)
     stops_on stopped.DiskFault done more well stops = fails_on answer.DiskFault done more well stops
     stops_on stopped.Spent done more well stops = none_fails_on done more well stops
     stops_on stopped.Memory done more well (inl stops) = inl (none_fails_on done more well stops)
     stops_on stopped.Memory done more well (inr stops) = inr (fails_on answer.Memory done more well stops)
 
-    pub trying_stops : {X : Type 0} (Are : X → List Done → Type 0) (old mid new : A) (act : Act) (s : Stopped) → Trying old act mid → OffersOnce number between mid act (Err s) new → Asking number between old (act ∷ []) Are (Err s) new
+    pub trying_stops : {X : Type 0} (Are : X → List Done → Type 0) (old mid new : A) (act : Act) (s : SessionStop) → Trying old act mid → OffersOnce number between mid act (Err s) new → Asking number between old (act ∷ []) Are (Err s) new
     trying_stops Are old mid new act s t o = record {
       done = t.done ++ o.done;
       left = o.left;
@@ -105,7 +105,7 @@ module _ {A : Type 0} (number : A → ℕ) (between : A → List Entry → A →
       made = made_joined number between joined number_stays old mid new t.done o.done t.made o.made;
       are = made_on (act ∷ []) t.done (act ∷ []) o.done (flush_all ∷ act ∷ []) t.are (subst (λ (l : List Act). AreMade (act ∷ []) o.done l) o.ends.0 o.are);
       well = none_fails_on t.done o.done t.well o.ends.1;
-      uncounted = tally_on t.done o.done ∙ (ap (λ (x : Tally). both x (tally_of o.done)) t.uncounted ∙ (none_both (tally_of o.done) ∙ o.ends.2));
+      uncounted = tally_on t.done o.done ∙ (ap (λ (x : OfferCounts). both x (tally_of o.done)) t.uncounted ∙ (none_both (tally_of o.done) ∙ o.ends.2));
     }
 
     flushed_tally : (done : List Done) → IsFlushed done → tally_of done ≡ none
@@ -120,10 +120,10 @@ module _ {A : Type 0} (number : A → ℕ) (between : A → List Entry → A →
           made = made_joined number between joined number_stays old mid new f.done a.done f.made a.made;
           are = made_on (act ∷ []) f.done (flush_all ∷ act ∷ []) a.done (act ∷ []) f.are rest;
           well = none_fails_on f.done a.done f.well a.ends.1;
-          uncounted = tally_on f.done a.done ∙ (ap (λ (x : Tally). both x (tally_of a.done)) f.uncounted ∙ (none_both (tally_of a.done) ∙ flushed_tally a.done a.ends.2));
+          uncounted = tally_on f.done a.done ∙ (ap (λ (x : OfferCounts). both x (tally_of a.done)) f.uncounted ∙ (none_both (tally_of a.done) ∙ flushed_tally a.done a.ends.2));
         }
 
-    pub full_stops : {X : Type 0} (Are : X → List Done → Type 0) (old mid new : A) (act : Act) (s : Stopped) → Full old act mid → Asking {X = Unit {0}} number between mid (flush_all ∷ []) (λ _ done. IsFlushed done) (Err s) new → Asking number between old (act ∷ []) Are (Err s) new
+    pub full_stops : {X : Type 0} (Are : X → List Done → Type 0) (old mid new : A) (act : Act) (s : SessionStop) → Full old act mid → Asking {X = Unit {0}} number between mid (flush_all ∷ []) (λ _ done. IsFlushed done) (Err s) new → Asking number between old (act ∷ []) Are (Err s) new
     full_stops Are old mid new act s f a = record {
       done = f.done ++ a.done;
       left = a.left ++ act ∷ [];
@@ -134,23 +134,23 @@ module _ {A : Type 0} (number : A → ℕ) (between : A → List Entry → A →
 
 -- COUNTS
 
-one_more_both : (outcome : Outcome) (t : Tally) → one_more outcome t ≡ both t (one_more outcome none)
+one_more_both : (outcome : Outcome) (t : OfferCounts) → one_more outcome t ≡ both t (one_more outcome none)
 one_more_both Kept t = rw (add-zero t.held, add-zero t.dropped) refl
 one_more_both Held t = rw (add-zero t.kept, add-zero t.dropped) refl
 one_more_both Dropped t = rw (add-zero t.kept, add-zero t.held) refl
 
 module _ {A : Type 0} (number : A → ℕ) (between : A → List Entry → A → Type 0) where
   -- an offer that was counted
-  pub sample_counted : (old new : A) (asked asked' : List Act) (outcome : Outcome) (tally tally' : Tally) → asked ≡ asked' → tally' ≡ one_more outcome tally → Asking number between old asked (λ (x : Outcome) (done : List Done). tally_of done ≡ one_more x none) (Ok outcome) new → Asking {X = Unit {0}} number between old asked' (λ _ (done : List Done). tally' ≡ both tally (tally_of done)) (Ok tt) new
+  pub sample_counted : (old new : A) (asked asked' : List Act) (outcome : Outcome) (tally tally' : OfferCounts) → asked ≡ asked' → tally' ≡ one_more outcome tally → Asking number between old asked (λ (x : Outcome) (done : List Done). tally_of done ≡ one_more x none) (Ok outcome) new → Asking {X = Unit {0}} number between old asked' (λ _ (done : List Done). tally' ≡ both tally (tally_of done)) (Ok tt) new
   sample_counted old new asked asked' outcome tally tally' same counted a = record {
     done = a.done;
     left = a.left;
     made = a.made;
     are = subst (λ (l : List Act). AreMade l a.done a.left) same a.are;
-    ends = (a.ends.0, a.ends.1, counted ∙ (one_more_both outcome tally ∙ ap (λ (x : Tally). both tally x) (sym a.ends.2)));
+    ends = (a.ends.0, a.ends.1, counted ∙ (one_more_both outcome tally ∙ ap (λ (x : OfferCounts). both tally x) (sym a.ends.2)));
   }
 
-  pub sample_stopped : {X Y : Type 0} (old new : A) (asked asked' : List Act) (s : Stopped) (Are : X → List Done → Type 0) (Be : Y → List Done → Type 0) → asked ≡ asked' → Asking number between old asked Are (Err s) new → Asking number between old asked' Be (Err s) new
+  pub sample_stopped : {X Y : Type 0} (old new : A) (asked asked' : List Act) (s : SessionStop) (Are : X → List Done → Type 0) (Be : Y → List Done → Type 0) → asked ≡ asked' → Asking number between old asked Are (Err s) new → Asking number between old asked' Be (Err s) new
   sample_stopped old new asked asked' s Are Be same a = record {
     done = a.done;
     left = a.left;

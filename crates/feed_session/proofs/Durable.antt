@@ -8,7 +8,7 @@ use Rattle.pb_messages.specs.declared.about.Method.{Method}
 use Rattle.pb_messages.specs.declared.about.Method.TheVariants.{Monitor, Scan}
 use Rattle.pb_lines.specs.Stream.{Item}
 use Rattle.pb_wire.specs.declared.payload.PayloadType.{PayloadType}
-use Rattle.series_model.specs.Admission.{admit_before}
+use Rattle.series_model.specs.Admission.{refused_by_row}
 use Rattle.series_model.specs.Archive.{IsPrefix}
 use Rattle.series_model.specs.Series.{since, end_of, RisesFrom}
 use Rattle.series_model.specs.declared.admission.Reason.{Reason}
@@ -102,13 +102,13 @@ module _ (name : List ℕ) (ty : PayloadType) (s : Sample) (now : ℕ) (m : Mach
       }
 
   offered_to_keeps : (i : ℕ) (row : RowState) → slice_get m.rows i ≡ Some row → row.name ≡ name → Keeps (offered_to m i row ty s now)
-  offered_to_keeps i row here named = by_reason (admit_before (Some (standing row)) (number_of ty)) refl
+  offered_to_keeps i row here named = by_reason (refused_by_row (Some (standing row)) (number_of ty)) refl
     where
-      by_method : (d : Method) → row.about.method ≡ d → admit_before (Some (standing row)) (number_of ty) ≡ None → Keeps (offered_to m i row ty s now)
+      by_method : (d : Method) → row.about.method ≡ d → refused_by_row (Some (standing row)) (number_of ty) ≡ None → Keeps (offered_to m i row ty s now)
       by_method Monitor is none = rw (none, is) (tried_is Keeps m row s now (record { answer = Kept; after = with_rows m (at i (gains s)) }) (λ reason kept. absurd cc) (λ kept. absurd cc) (λ late fits kept. gained i row here named late))
       by_method (Scan period) is none = rw (none, is) (λ kept. absurd cc)
 
-      by_reason : (o : Option Reason) → admit_before (Some (standing row)) (number_of ty) ≡ o → Keeps (offered_to m i row ty s now)
+      by_reason : (o : Option Reason) → refused_by_row (Some (standing row)) (number_of ty) ≡ o → Keeps (offered_to m i row ty s now)
       by_reason (Some reason) is = rw is (λ kept. absurd cc)
       by_reason None is = by_method row.about.method refl is
 

@@ -9,7 +9,7 @@ use Rattle.act_model.specs.History.{Done}
 use Rattle.feed_session.specs.Asks.{AreMade, FailsWith, NoneFails, asked_again}
 use Rattle.feed_session.specs.Asking.{both, none, tally_of}
 use Rattle.feed_session.specs.Session.{is_kept, is_held, is_dropped}
-use Rattle.feed_session.specs.declared.tally.Tally.{Tally}
+use Rattle.feed_session.specs.declared.tally.OfferCounts.{OfferCounts}
 
 -- what is made of the rest, is made of all
 pub made_on : (asked : List Act) (done : List Done) (left : List Act) (more : List Done) (rest : List Act) → AreMade asked done left → AreMade left more rest → AreMade asked (done ++ more) rest
@@ -45,8 +45,8 @@ count_on p done more = sum_by-append _ done more
 pub tally_on : (done more : List Done) → tally_of (done ++ more) ≡ both (tally_of done) (tally_of more)
 tally_on done more = rw (count_on is_kept done more, count_on is_held done more, count_on is_dropped done more) refl
 
-pub both_none : (t : Tally) → both t none ≡ t
+pub both_none : (t : OfferCounts) → both t none ≡ t
 both_none t = rw (add-zero t.kept, add-zero t.held, add-zero t.dropped) refl
 
-pub none_both : (t : Tally) → both none t ≡ t
+pub none_both : (t : OfferCounts) → both none t ≡ t
 none_both t = rw (zero-add t.kept, zero-add t.held, zero-add t.dropped) refl

@@ -11,7 +11,7 @@ use Rattle.pv_name.specs.Name.{IsName, IsRefusedAt}
 use Rattle.act_model.specs.Event.{IsEvent}
 use Rattle.feed_session.specs.Asking.{none, total}
 use Rattle.feed_session.specs.Session.{BeginsWith}
-use Rattle.feed_session.specs.declared.tally.Tally.{Tally}
+use Rattle.feed_session.specs.declared.tally.OfferCounts.{OfferCounts}
 use Rattle.pb_lines.proofs.Passing.{nothing_read, fresh_before, fresh_holds}
 
 pub read_nothing : (c : Chunks) (left : Option (List ℕ)) → IsFresh c → Passes c c left (to_come c left) []
@@ -71,5 +71,5 @@ refused_name name at (inl long) good = omega (arith, long.0, good.short)
 refused_name name at (inr fault) good = good.faultless at fault.1.here
 
 -- what is left to read falls, and what was counted is not more than that
-pub few_first : (r : Chunks) (t : Tally) → IsFresh r → t ≡ none → total t + work_left r ≤ 2 ^ 42
-few_first r t fresh is = subst (λ (x : Tally). total x + work_left r ≤ 2 ^ 42) (sym is) (subst (λ (c : Chunks). total none + work_left c ≤ 2 ^ 42) (sym fresh) (lit≤ tt))
+pub few_first : (r : Chunks) (t : OfferCounts) → IsFresh r → t ≡ none → total t + work_left r ≤ 2 ^ 42
+few_first r t fresh is = subst (λ (x : OfferCounts). total x + work_left r ≤ 2 ^ 42) (sym is) (subst (λ (c : Chunks). total none + work_left c ≤ 2 ^ 42) (sym fresh) (lit≤ tt))

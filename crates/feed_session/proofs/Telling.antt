@@ -19,25 +19,25 @@ use Rattle.feed_session.specs.declared.end.Fed.{Fed}
 use Rattle.feed_session.specs.declared.end.Fed.TheVariants as fed
 use Rattle.feed_session.specs.declared.replies.Cut.{Cut}
 use Rattle.feed_session.specs.declared.replies.Cut.TheVariants as cut
-use Rattle.feed_session.specs.declared.tally.Tally.{Tally}
+use Rattle.feed_session.specs.declared.tally.OfferCounts.{OfferCounts}
 use Rattle.feed_session.proofs.Going.{Progress, Takes, goes_on, starts, taken_as}
 use Rattle.feed_session.proofs.Making.{both_none, tally_on}
 
 -- TALLIES
 
-tally_is : (x y : Tally) → x.kept ≡ y.kept → x.held ≡ y.held → x.dropped ≡ y.dropped → x ≡ y
+tally_is : (x y : OfferCounts) → x.kept ≡ y.kept → x.held ≡ y.held → x.dropped ≡ y.dropped → x ≡ y
 tally_is x y a b c =
     ap (λ (n : ℕ). record { kept = n; held = x.held; dropped = x.dropped }) a
     ∙ (ap (λ (n : ℕ). record { kept = y.kept; held = n; dropped = x.dropped }) b ∙ ap (λ (n : ℕ). record { kept = y.kept; held = y.held; dropped = n }) c)
 
-both_both : (a b c : Tally) → both (both a b) c ≡ both a (both b c)
+both_both : (a b c : OfferCounts) → both (both a b) c ≡ both a (both b c)
 both_both a b c = tally_is (both (both a b) c) (both a (both b c)) (omega arith) (omega arith) (omega arith)
 
 -- what was counted since then is one number
-pub same_since : (a x y t : Tally) → both a x ≡ t → both a y ≡ t → x ≡ y
+pub same_since : (a x y t : OfferCounts) → both a x ≡ t → both a y ≡ t → x ≡ y
 same_since a x y t p q =
     let same = p ∙ sym q in
-    tally_is x y (omega (arith, ap (λ (b : Tally). b.kept) same)) (omega (arith, ap (λ (b : Tally). b.held) same)) (omega (arith, ap (λ (b : Tally). b.dropped) same))
+    tally_is x y (omega (arith, ap (λ (b : OfferCounts). b.kept) same)) (omega (arith, ap (λ (b : OfferCounts). b.held) same)) (omega (arith, ap (λ (b : OfferCounts). b.dropped) same))
 
 -- ONE ITEM MORE
 
@@ -50,13 +50,13 @@ lines_on chunk [] t = append-nil (reply_to chunk t.item)
 lines_on chunk (x ∷ ts) t = ap (λ (l : List ℕ). reply_to chunk x.item ++ l) (lines_on (in_chunk chunk x) ts t) ∙ sym (append_assoc (reply_to chunk x.item) (lines_of (in_chunk chunk x) ts) (reply_to (acts_in (in_chunk chunk x) ts) t.item))
 
 -- how far a feed has come
-pub record Telling {A : Type 0} (number : A → ℕ) (between : A → List Entry → A → Type 0) (first reader : Chunks) (before middle : Option (List ℕ)) (clock clock' : Option Moments) (start now : A) (tally begun : Tally) (written written' : Option (List ℕ)) : Type 0 where
+pub record Telling {A : Type 0} (number : A → ℕ) (between : A → List Entry → A → Type 0) (first reader : Chunks) (before middle : Option (List ℕ)) (clock clock' : Option Moments) (start now : A) (tally begun : OfferCounts) (written written' : Option (List ℕ)) : Type 0 where
   pub so : Progress number between false first reader before middle clock clock' start now tally
   pub since : both begun (tally_of (acts_in [] so.taken)) ≡ tally
   pub told : Appends written written' (lines_of [] so.taken)
 
 module _ {A : Type 0} (number : A → ℕ) (between : A → List Entry → A → Type 0) where
-  pub tells_first : ((a : A) → between a [] a) → (reader : Chunks) (left : Option (List ℕ)) (clock : Option Moments) (start : A) (tally : Tally) (written : Option (List ℕ)) → IsFresh reader → tally ≡ none → Telling number between reader reader left (to_come reader left) clock clock start start tally tally written written
+  pub tells_first : ((a : A) → between a [] a) → (reader : Chunks) (left : Option (List ℕ)) (clock : Option Moments) (start : A) (tally : OfferCounts) (written : Option (List ℕ)) → IsFresh reader → tally ≡ none → Telling number between reader reader left (to_come reader left) clock clock start start tally tally written written
   tells_first nothing reader left clock start tally written fresh is = record {
     so = starts number between nothing false reader left clock start tally fresh is;
     since = both_none tally;
@@ -65,7 +65,7 @@ module _ {A : Type 0} (number : A → ℕ) (between : A → List Entry → A →
 
   module _ (joined : (a b c : A) (xs ys : List Entry) → between a xs b → between b ys c → between a (xs ++ ys) c)
       (number_stays : (a b : A) (entries : List Entry) → between a entries b → number b ≡ number a) where
-    pub tells_header : {first mid new : Chunks} {before middle after : Option (List ℕ)} {clock clock' clock'' : Option Moments} {start now next : A} {tally tally' begun : Tally} {written written' : Option (List ℕ)} {info : PayloadInfo} {line : List ℕ} → Telling number between first mid before middle clock clock' start now tally begun written written' → Takes number between false mid new middle after clock' clock'' now next tally tally' (header info line) → Telling number between first new before after clock clock'' start next tally' tally' written written'
+    pub tells_header : {first mid new : Chunks} {before middle after : Option (List ℕ)} {clock clock' clock'' : Option Moments} {start now next : A} {tally tally' begun : OfferCounts} {written written' : Option (List ℕ)} {info : PayloadInfo} {line : List ℕ} → Telling number between first mid before middle clock clock' start now tally begun written written' → Takes number between false mid new middle after clock' clock'' now next tally tally' (header info line) → Telling number between first new before after clock clock'' start next tally' tally' written written'
     tells_header {tally' = tally'} {written = written} {written' = written'} {info = info} {line = line} p q =
         let t = taken_as (header info line) q.moments q.done in
         record {
@@ -74,18 +74,18 @@ module _ {A : Type 0} (number : A → ℕ) (between : A → List Entry → A →
           told = subst (λ (l : List ℕ). Appends written written' l) (sym (lines_on [] p.so.taken t ∙ append-nil (lines_of [] p.so.taken))) p.told;
         }
 
-    pub tells_sample : {first mid new : Chunks} {before middle after : Option (List ℕ)} {clock clock' clock'' : Option Moments} {start now next : A} {tally tally' begun : Tally} {written written' : Option (List ℕ)} {x : Sample} → Telling number between first mid before middle clock clock' start now tally begun written written' → Takes number between false mid new middle after clock' clock'' now next tally tally' (sample x) → Telling number between first new before after clock clock'' start next tally' begun written written'
+    pub tells_sample : {first mid new : Chunks} {before middle after : Option (List ℕ)} {clock clock' clock'' : Option Moments} {start now next : A} {tally tally' begun : OfferCounts} {written written' : Option (List ℕ)} {x : Sample} → Telling number between first mid before middle clock clock' start now tally begun written written' → Takes number between false mid new middle after clock' clock'' now next tally tally' (sample x) → Telling number between first new before after clock clock'' start next tally' begun written written'
     tells_sample {tally' = tally'} {begun = begun} {written = written} {written' = written'} {x = x} p q =
         let t = taken_as (sample x) q.moments q.done in
         let chunk = acts_in [] p.so.taken in
         record {
           so = goes_on number between joined number_stays p.so q;
           since = ap (λ (l : List Done). both begun (tally_of l)) (chunk_acts_on [] p.so.taken t)
-              ∙ (ap (λ (b : Tally). both begun b) (tally_on chunk q.done) ∙ (sym (both_both begun (tally_of chunk) (tally_of q.done)) ∙ (ap (λ (b : Tally). both b (tally_of q.done)) p.since ∙ sym q.counted)));
+              ∙ (ap (λ (b : OfferCounts). both begun b) (tally_on chunk q.done) ∙ (sym (both_both begun (tally_of chunk) (tally_of q.done)) ∙ (ap (λ (b : OfferCounts). both b (tally_of q.done)) p.since ∙ sym q.counted)));
           told = subst (λ (l : List ℕ). Appends written written' l) (sym (lines_on [] p.so.taken t ∙ append-nil (lines_of [] p.so.taken))) p.told;
         }
 
-    pub tells_chunk_end : {first mid new : Chunks} {before middle after : Option (List ℕ)} {clock clock' clock'' : Option Moments} {start now next : A} {tally begun : Tally} {written written' written'' : Option (List ℕ)} (chunk : Tally) → Telling number between first mid before middle clock clock' start now tally begun written written' → Takes number between false mid new middle after clock' clock'' now next tally tally chunk_end → both begun chunk ≡ tally → Appends written' written'' (ok_text chunk) → Telling number between first new before after clock clock'' start next tally begun written written''
+    pub tells_chunk_end : {first mid new : Chunks} {before middle after : Option (List ℕ)} {clock clock' clock'' : Option Moments} {start now next : A} {tally begun : OfferCounts} {written written' written'' : Option (List ℕ)} (chunk : OfferCounts) → Telling number between first mid before middle clock clock' start now tally begun written written' → Takes number between false mid new middle after clock' clock'' now next tally tally chunk_end → both begun chunk ≡ tally → Appends written' written'' (ok_text chunk) → Telling number between first new before after clock clock'' start next tally begun written written''
     tells_chunk_end {tally = tally} {begun = begun} {written = written} {written' = written'} {written'' = written''} chunk p q counted out =
         let t = taken_as chunk_end q.moments q.done in
         let same : chunk ≡ tally_of (acts_in [] p.so.taken) = same_since begun chunk (tally_of (acts_in [] p.so.taken)) tally counted p.since in
@@ -93,13 +93,13 @@ module _ {A : Type 0} (number : A → ℕ) (between : A → List Entry → A →
           so = goes_on number between joined number_stays p.so q;
           since = ap (λ (l : List Done). both begun (tally_of l)) (chunk_acts_on [] p.so.taken t) ∙ p.since;
           told = subst (λ (l : List ℕ). Appends written written'' l) (sym (lines_on [] p.so.taken t))
-              (appends_more written written' written'' (lines_of [] p.so.taken) (ok_text (tally_of (acts_in [] p.so.taken))) p.told (subst (λ (c : Tally). Appends written' written'' (ok_text c)) same out));
+              (appends_more written written' written'' (lines_of [] p.so.taken) (ok_text (tally_of (acts_in [] p.so.taken))) p.told (subst (λ (c : OfferCounts). Appends written' written'' (ok_text c)) same out));
         }
 
 -- HOW IT ENDS
 
 -- A line was cut off.
-pub told_front : (written written' written'' : Option (List ℕ)) (end : Fed) (ts : List Taken) (t : Taken) (chunk begun tally : Tally) → t.item ≡ chunk_end → both begun chunk ≡ tally → both begun (tally_of (acts_in [] ts)) ≡ tally → CutsOff end → Appends written written' (lines_of [] ts) → AppendsFront written' written'' (ok_text chunk) → Tells end (lines_of [] (ts ++ t ∷ [])) end written written''
+pub told_front : (written written' written'' : Option (List ℕ)) (end : Fed) (ts : List Taken) (t : Taken) (chunk begun tally : OfferCounts) → t.item ≡ chunk_end → both begun chunk ≡ tally → both begun (tally_of (acts_in [] ts)) ≡ tally → CutsOff end → Appends written written' (lines_of [] ts) → AppendsFront written' written'' (ok_text chunk) → Tells end (lines_of [] (ts ++ t ∷ [])) end written written''
 told_front written written' written'' end ts t chunk begun tally is counted since cuts out front =
     let same : chunk ≡ tally_of (acts_in [] ts) = same_since begun chunk (tally_of (acts_in [] ts)) tally counted since in
     let line : reply_to (acts_in [] ts) t.item ≡ ok_text chunk = ap (λ (i : Item). reply_to (acts_in [] ts) i) is ∙ ap ok_text (sym same) in

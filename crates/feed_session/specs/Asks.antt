@@ -7,6 +7,7 @@ use Rattle.pb_messages.specs.declared.about.Method.TheVariants.{Monitor}
 use Rattle.pb_messages.specs.declared.info.PayloadInfo.{PayloadInfo}
 use Rattle.pb_lines.specs.Stream.{Item, header, sample, chunk_end}
 use Rattle.pv_name.specs.Name.{IsName}
+use Rattle.series_model.specs.Limits.{intake_room}
 use Rattle.series_model.specs.declared.sample.Sample.{Sample}
 use Rattle.act_model.specs.declared.acts.Act.{Act}
 use Rattle.act_model.specs.declared.acts.Act.TheVariants.{Register, Offer, Flush}
@@ -16,7 +17,7 @@ use Rattle.act_model.specs.History.{Done}
 
 -- all that an intake can hold is flushed
 abbrev pub flush_all : Act
-flush_all = Flush 67108864
+flush_all = Flush intake_room
 
 -- what a header tells of its variable, each of whose samples is tried
 abbrev pub about_of : PayloadInfo → About

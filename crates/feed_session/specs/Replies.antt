@@ -10,10 +10,10 @@ use Rattle.feed_session.specs.Asking.{tally_of}
 use Rattle.feed_session.specs.Session.{Ended, Taken}
 use Rattle.feed_session.specs.declared.end.Fed.{Fed}
 use Rattle.feed_session.specs.declared.end.Fed.TheVariants as fed
-use Rattle.feed_session.specs.declared.tally.Tally.{Tally}
+use Rattle.feed_session.specs.declared.tally.OfferCounts.{OfferCounts}
 
 -- the line for a chunk with so many samples kept, held and dropped
-abbrev pub ok_text : Tally → List ℕ
+abbrev pub ok_text : OfferCounts → List ℕ
 ok_text t = codes "ok " ++ decimal t.kept ++ codes " " ++ decimal t.held ++ codes " " ++ decimal t.dropped ++ codes "\n"
 
 -- the line for a chunk of which these acts were made

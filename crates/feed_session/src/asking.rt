@@ -12,35 +12,33 @@ ghost use Rattle.feed_session.specs.Asking.{tally_of, total};
 ghost use Rattle.feed_session.specs.Session.{IsFlushed};
 
 use crate::end::Fed;
-use crate::tally::{Outcome, Tally};
+use crate::tally::{OfferCounts, Outcome};
 use act_model::{Actor, Flushed, Offered, Registered, Spent, ask_flush, ask_offer, ask_register};
 use pb_lines::{ChunkItem, ChunkReader};
 use pb_messages::{About, Method, PayloadInfo};
 use pb_wire::PayloadType;
 use pv_name::{NameErr, PvName};
 use series_model::Blob;
+use series_model::limits::INTAKE_ROOM;
 use std::alloc::{AllocError, Global};
 use std::sync::Wait;
 
-/// A flush takes at most so many bytes, which is all that an intake can hold.
-pub(crate) const ALL: u64 = 67_108_864;
-
 /// Why a session can't go on with the archive.
 #[derive(Clone, Copy)]
-pub(crate) enum Stopped {
+pub(crate) enum SessionStop {
     DiskFault,
     Spent,
     Memory,
 }
 
-impl From<Stopped> for Fed {
+impl From<SessionStop> for Fed {
     ghost from_gives = { λ stopped end. end ≡ end_by stopped };
 
-    fn from(stopped: Stopped) -> Fed {
+    fn from(stopped: SessionStop) -> Fed {
         match stopped {
-            Stopped::DiskFault => Fed::DiskFault,
-            Stopped::Spent => Fed::Spent,
-            Stopped::Memory => Fed::Memory,
+            SessionStop::DiskFault => Fed::DiskFault,
+            SessionStop::Spent => Fed::Spent,
+            SessionStop::Memory => Fed::Memory,
         }
     }
 }
@@ -51,13 +49,13 @@ pub(crate) fn register<A: Actor>(
     alloc: Global,
     actor: &mut A,
     reader: &ChunkReader,
-) -> Result<(), Stopped>
+) -> Result<(), SessionStop>
     requires stands { (m : Machine) × A.stands actor.old m }
     requires header { IsLineOf reader.now ChunkItem.Header }
     ensures asked { (info : InfoValue) → reader.now.section.chunk ≡ Some info
         → Registers A.number A.between actor.old info result actor.new }
     ensures stands { (n : Machine) × A.stands actor.new n }
-    ensures spent { IsErrOf result Stopped.Spent → A.is_spent actor.new }
+    ensures spent { IsErrOf result SessionStop.Spent → A.is_spent actor.new }
 {
     let Some(info) = reader.info() else {
         unreachable!();
@@ -65,7 +63,7 @@ pub(crate) fn register<A: Actor>(
     match name_of(alloc, info) {
         Ok(Some(name)) => ask_row(actor, name, info),
         Ok(None) => Ok(()),
-        Err(_) => Err(Stopped::Memory),
+        Err(_) => Err(SessionStop::Memory),
     }
 }
 
@@ -94,16 +92,16 @@ fn about_of(info: &PayloadInfo) -> Result<About, AllocError>
 }
 
 // Asks for a row of this name.
-fn ask_row<A: Actor>(actor: &mut A, name: PvName, info: &PayloadInfo) -> Result<(), Stopped>
+fn ask_row<A: Actor>(actor: &mut A, name: PvName, info: &PayloadInfo) -> Result<(), SessionStop>
     requires stands { (m : Machine) × A.stands actor.old m }
     ensures asked { Asking A.number A.between actor.old (Act.Register name (about_of info.now) ∷ [])
         (λ _ done. tally_of done ≡ none) result actor.new }
     ensures stands { (n : Machine) × A.stands actor.new n }
-    ensures spent { IsErrOf result Stopped.Spent → A.is_spent actor.new }
+    ensures spent { IsErrOf result SessionStop.Spent → A.is_spent actor.new }
 {
     match about_of(info) {
         Ok(about) => ask_row_about(actor, name, about),
-        Err(_) => Err(Stopped::Memory),
+        Err(_) => Err(SessionStop::Memory),
     }
 }
 
@@ -115,8 +113,8 @@ pub(crate) fn take_sample<A: Actor>(
     reader: &ChunkReader,
     t: u64,
     now: u64,
-    tally: &mut Tally,
-) -> Result<(), Stopped>
+    tally: &mut OfferCounts,
+) -> Result<(), SessionStop>
     requires stands { (m : Machine) × A.stands actor.old m }
     requires sample { IsLineOf reader.now (ChunkItem.Sample t) }
     requires few { total tally.old < 2 ^ 63 }
@@ -125,7 +123,7 @@ pub(crate) fn take_sample<A: Actor>(
         (λ _ done. tally.new ≡ both tally.old (tally_of done)) result actor.new }
     ensures one { OnOk result (total tally.new ≡ total tally.old + 1) }
     ensures stands { (n : Machine) × A.stands actor.new n }
-    ensures spent { IsErrOf result Stopped.Spent → A.is_spent actor.new }
+    ensures spent { IsErrOf result SessionStop.Spent → A.is_spent actor.new }
 {
     let Some(info) = reader.info() else {
         unreachable!();
@@ -149,13 +147,13 @@ fn offer<A: Actor>(
     t: u64,
     line: &[u8],
     now: u64,
-) -> Result<Outcome, Stopped>
+) -> Result<Outcome, SessionStop>
     requires stands { (m : Machine) × A.stands actor.old m }
     requires event { IsEvent info.now.ty (record { t = t; line = line.now }) }
     ensures asked { Asking A.number A.between actor.old (offer_of info.now (record { t = t; line = line.now }) now ∷ [])
         (λ outcome done. tally_of done ≡ one_more outcome none) result actor.new }
     ensures stands { (n : Machine) × A.stands actor.new n }
-    ensures spent { IsErrOf result Stopped.Spent → A.is_spent actor.new }
+    ensures spent { IsErrOf result SessionStop.Spent → A.is_spent actor.new }
 {
     'tries: for _ in rt.forever() {
         match offer_once(alloc, actor, info, t, line, now) {
@@ -179,19 +177,19 @@ fn offer_once<A: Actor>(
     t: u64,
     line: &[u8],
     now: u64,
-) -> Result<Option<Outcome>, Stopped>
+) -> Result<Option<Outcome>, SessionStop>
     requires stands { (m : Machine) × A.stands actor.old m }
     requires event { IsEvent info.now.ty (record { t = t; line = line.now }) }
     ensures asked { OffersOnce A.number A.between actor.old
         (offer_of info.now (record { t = t; line = line.now }) now) result actor.new }
     ensures stands { (n : Machine) × A.stands actor.new n }
-    ensures spent { IsErrOf result Stopped.Spent → A.is_spent actor.new }
+    ensures spent { IsErrOf result SessionStop.Spent → A.is_spent actor.new }
 {
     let Ok(name) = info.name.clone() else {
-        return Err(Stopped::Memory);
+        return Err(SessionStop::Memory);
     };
     let Ok(bytes) = Vec::from_slice(alloc, line) else {
-        return Err(Stopped::Memory);
+        return Err(SessionStop::Memory);
     };
     ask_once(actor, name, info.ty, t, Blob::from(bytes), now)
 }
@@ -204,39 +202,39 @@ fn ask_once<A: Actor>(
     t: u64,
     line: Blob,
     now: u64,
-) -> Result<Option<Outcome>, Stopped>
+) -> Result<Option<Outcome>, SessionStop>
     requires stands { (m : Machine) × A.stands actor.old m }
     requires event { IsEvent ty (record { t = t; line = line }) }
     ensures asked { OffersOnce A.number A.between actor.old (Act.Offer name ty t line now) result actor.new }
     ensures stands { (n : Machine) × A.stands actor.new n }
-    ensures spent { IsErrOf result Stopped.Spent → A.is_spent actor.new }
+    ensures spent { IsErrOf result SessionStop.Spent → A.is_spent actor.new }
 {
     match ask_offer(actor, name, ty, t, line, now) {
         Ok(Offered::Kept) => Ok(Some(Outcome::Kept)),
         Ok(Offered::Held) => Ok(Some(Outcome::Held)),
         Ok(Offered::Dropped(_)) => Ok(Some(Outcome::Dropped)),
         Ok(Offered::IntakeFull { .. }) => Ok(None),
-        Ok(Offered::Memory) => Err(Stopped::Memory),
-        Err(Spent) => Err(Stopped::Spent),
+        Ok(Offered::Memory) => Err(SessionStop::Memory),
+        Err(Spent) => Err(SessionStop::Spent),
     }
 }
 
 // Asks for a row of this name, of which this is known.
-fn ask_row_about<A: Actor>(actor: &mut A, name: PvName, about: About) -> Result<(), Stopped>
+fn ask_row_about<A: Actor>(actor: &mut A, name: PvName, about: About) -> Result<(), SessionStop>
     requires stands { (m : Machine) × A.stands actor.old m }
     ensures asked { Asking A.number A.between actor.old (Act.Register name about ∷ [])
         (λ _ done. tally_of done ≡ none) result actor.new }
     ensures stands { (n : Machine) × A.stands actor.new n }
-    ensures spent { IsErrOf result Stopped.Spent → A.is_spent actor.new }
+    ensures spent { IsErrOf result SessionStop.Spent → A.is_spent actor.new }
 {
     match ask_register(actor, name, about) {
         Ok(Registered::Registered { .. }) => Ok(()),
         Ok(Registered::NameTaken { .. }) => Ok(()),
         Ok(Registered::KeyTaken { .. }) => Ok(()),
         Ok(Registered::CatalogueFull) => Ok(()),
-        Ok(Registered::DiskFault) => Err(Stopped::DiskFault),
-        Ok(Registered::Memory) => Err(Stopped::Memory),
-        Err(Spent) => Err(Stopped::Spent),
+        Ok(Registered::DiskFault) => Err(SessionStop::DiskFault),
+        Ok(Registered::Memory) => Err(SessionStop::Memory),
+        Err(Spent) => Err(SessionStop::Spent),
     }
 }
 
@@ -255,16 +253,16 @@ pub(crate) fn closed<A: Actor>(actor: &mut A, end: Fed) -> Fed
 }
 
 /// Flushes all that is held.
-pub(crate) fn flush<A: Actor>(actor: &mut A) -> Result<(), Stopped>
+pub(crate) fn flush<A: Actor>(actor: &mut A) -> Result<(), SessionStop>
     requires stands { (m : Machine) × A.stands actor.old m }
     ensures asked { Asking A.number A.between actor.old (flush_all ∷ []) (λ _ done. IsFlushed done) result actor.new }
     ensures stands { (n : Machine) × A.stands actor.new n }
-    ensures spent { IsErrOf result Stopped.Spent → A.is_spent actor.new }
+    ensures spent { IsErrOf result SessionStop.Spent → A.is_spent actor.new }
 {
-    match ask_flush(actor, ALL) {
+    match ask_flush(actor, INTAKE_ROOM) {
         Ok(Flushed::Flushed { .. }) => Ok(()),
-        Ok(Flushed::DiskFault) => Err(Stopped::DiskFault),
-        Ok(Flushed::Memory) => Err(Stopped::Memory),
-        Err(Spent) => Err(Stopped::Spent),
+        Ok(Flushed::DiskFault) => Err(SessionStop::DiskFault),
+        Ok(Flushed::Memory) => Err(SessionStop::Memory),
+        Err(Spent) => Err(SessionStop::Spent),
     }
 }

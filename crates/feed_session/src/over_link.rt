@@ -8,7 +8,7 @@ ghost use Rattle.feed_session.specs.Replies.{Feeds, FeedsChunks};
 use crate::asking::{closed, take_sample};
 use crate::end::Fed;
 use crate::replies::{tell_chunk, tell_end};
-use crate::tally::Tally;
+use crate::tally::OfferCounts;
 use act_model::Actor;
 use edge_io::{Clock, Link};
 use pb_lines::{ChunkItem, ChunkReader};
@@ -71,7 +71,7 @@ fn feed_chunks<A: Actor, L: Link, C: Clock>(
     let Ok(mut reader) = ChunkReader::new(alloc) else {
         return Fed::Memory;
     };
-    let mut tally = Tally::new();
+    let mut tally = OfferCounts::new();
     let mut begun = tally;
     'items: loop {
         match next_item(&mut reader, link) {

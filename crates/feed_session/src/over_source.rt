@@ -6,7 +6,7 @@ ghost use Rattle.feed_session.specs.Session.{Ingests};
 
 use crate::asking::{closed, register, take_sample};
 use crate::end::Fed;
-use crate::tally::Tally;
+use crate::tally::OfferCounts;
 use act_model::Actor;
 use edge_io::{Clock, Source};
 use pb_lines::{ChunkItem, ChunkReader};
@@ -39,7 +39,7 @@ pub fn ingest<A: Actor, S: Source, C: Clock>(
     let Ok(mut reader) = ChunkReader::new(alloc) else {
         return Fed::Memory;
     };
-    let mut tally = Tally::new();
+    let mut tally = OfferCounts::new();
     'items: loop {
         let asked = match reader.next(source) {
             ChunkItem::Header => register(alloc, actor, &reader),

@@ -6,7 +6,7 @@ ghost use Rattle.feed_session.specs.Replies.{Tells, last_line, ok_text};
 ghost use Rattle.feed_session.specs.Asking.{cut_by};
 
 use crate::end::Fed;
-use crate::tally::Tally;
+use crate::tally::OfferCounts;
 use edge_io::{Link, write_whole};
 use itoa::Buffer;
 use std::alloc::{AllocError, Global};
@@ -30,7 +30,11 @@ impl From<Cut> for Fed {
 }
 
 /// Writes the line for a chunk that ended. Where it is cut off a front of it went out.
-pub(crate) fn tell_chunk<L: Link>(alloc: Global, link: &mut L, chunk: Tally) -> Result<(), Cut>
+pub(crate) fn tell_chunk<L: Link>(
+    alloc: Global,
+    link: &mut L,
+    chunk: OfferCounts,
+) -> Result<(), Cut>
     ensures all { OnOk result (Appends (L.Sink.written link.old) (L.Sink.written link.new) (ok_text chunk)) }
     ensures front { AppendsFront (L.Sink.written link.old) (L.Sink.written link.new) (ok_text chunk) }
     ensures faults { L.Sink.write_faults link.old ≤ L.Sink.write_faults link.new }
@@ -66,7 +70,7 @@ pub(crate) fn tell_end<L: Link>(alloc: Global, link: &mut L, end: Fed) -> Fed
 }
 
 // The line for a chunk that ended.
-fn ok_line(alloc: Global, chunk: Tally) -> Result<Vec<u8>, AllocError>
+fn ok_line(alloc: Global, chunk: OfferCounts) -> Result<Vec<u8>, AllocError>
     ensures { IfOk result (λ line. line.items ≡ ok_text chunk) }
 {
     let mut number = Buffer::new();

@@ -14,18 +14,18 @@ pub(crate) enum Outcome {
 
 /// How many samples were kept, held and dropped.
 #[derive(Clone, Copy)]
-pub(crate) struct Tally {
+pub(crate) struct OfferCounts {
     pub kept: u64,
     pub held: u64,
     pub dropped: u64,
 }
 
-impl Tally {
+impl OfferCounts {
     /// None so far.
-    pub(crate) fn new() -> Tally
+    pub(crate) fn new() -> OfferCounts
         ensures { result ≡ none }
     {
-        Tally {
+        OfferCounts {
             kept: 0,
             held: 0,
             dropped: 0,
@@ -45,13 +45,13 @@ impl Tally {
     }
 
     /// What was counted since there were so many.
-    pub(crate) fn since(self, then: Tally) -> Tally
+    pub(crate) fn since(self, then: OfferCounts) -> OfferCounts
         requires kept { then.kept ≤ self.kept }
         requires held { then.held ≤ self.held }
         requires dropped { then.dropped ≤ self.dropped }
         ensures { both then result ≡ self }
     {
-        Tally {
+        OfferCounts {
             kept: self.kept - then.kept,
             held: self.held - then.held,
             dropped: self.dropped - then.dropped,

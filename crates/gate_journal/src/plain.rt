@@ -3,7 +3,7 @@ ghost use Rattle.std.specs.Prelude.{◌≡◌, ◌≢◌, ◌≤◌, ◌<◌, �
 ghost use Rattle.std.specs.Prelude.{IsErr, IsErrOf, IsTrue, true, false, Some, ◌↔◌, slice_index};
 ghost use Rattle.disk_model.specs.Files.{Name, Rose, HasFile, At, Overwritten, Torn};
 ghost use Rattle.disk_model.specs.Past.{Passes, Only};
-ghost use Rattle.gate_journal.specs.Batches.{framed_bytes, committed};
+ghost use Rattle.gate_journal.specs.Batches.{framed_bytes, committed, greatest_batch};
 ghost use Rattle.gate_journal.specs.Plain.{PlainState, BeforeOrAfter, NoShorter, IsSettled, IsInDoubt};
 
 use disk_model::{Disk, DiskErr, FileName, write_synced};
@@ -79,7 +79,7 @@ impl PlainJournal {
     pub(crate) fn commit<D: Disk>(&mut self, disk: &mut D, batch: &[u8]) -> Result<(), DiskErr>
         requires sound { IsTrue self.old.sound }
         requires not_empty { 1 ≤ length batch.now }
-        requires not_long { length batch.now ≤ GREATEST_BATCH }
+        requires not_long { length batch.now ≤ greatest_batch }
         requires settled { IsTrue D.tells
             → (bs : List (List ℕ)) × IsSettled self.old (D.files disk.old) (D.opened disk.old) (D.past disk.old) bs }
 

@@ -4,7 +4,7 @@
 use Rattle.std.specs.Prelude.{◌≡◌, ◌⊎◌, ℕ, ◌≤◌, nat_le, Result, Ok, Err, IsSomeAnd, ◌*◌, ◌-◌, ◌/◌, ◌%◌, min, ◌==◌, ◌&&◌, ◌||◌, not, Bool, true, false, List, [], ◌∷◌, ◌++◌, Option, Some, None, length, take, drop, bytes_eq, if◌then◌else◌, ⊤}
 use Rattle.std.specs.Io.KnownBytes.{append_known}
 use Rattle.edge_io.specs.declared.stream.Failed.{Failed}
-use Rattle.http_front.specs.Chunks.{full_chunks, full_in, chunked}
+use Rattle.http_front.specs.Chunks.{full_chunks, full_in, chunked, chunk_len}
 
 -- what a link is known to have
 abbrev pub known : Option (List ℕ) → List ℕ
@@ -34,7 +34,7 @@ coded false text = text
 
 -- a text of which each byte is in a full chunk
 abbrev pub is_full : List ℕ → Bool
-is_full text = length text == 8192 * full_in text
+is_full text = length text == chunk_len * full_in text
 
 -- The link has the text behind what it had, where it told that.
 abbrev pub has_got : Option (List ℕ) → Option (List ℕ) → List ℕ → Bool
@@ -94,11 +94,11 @@ mode_of text = 0
 
 -- How many bytes there is room for in the chunk that the next byte of a body stands in.
 abbrev pub room_of : List ℕ → ℕ
-room_of told = 8192 - length (body_of told) % 8192
+room_of told = chunk_len - length (body_of told) % chunk_len
 
 -- What the link has once a write ended well: of a body each full chunk behind which something was taken, and else all of the text.
 abbrev pub sent_of : List ℕ → List ℕ
-sent_of (mode ∷ name ∷ told ∷ before ∷ text) = if mode == 0 then text else take before text ++ full_chunks ((length (drop before text) - 1) / 8192) (drop before text)
+sent_of (mode ∷ name ∷ told ∷ before ∷ text) = if mode == 0 then text else take before text ++ full_chunks ((length (drop before text) - 1) / chunk_len) (drop before text)
 sent_of text = []
 
 -- Of so many bytes this many are taken, in chunks as many as there is room for; and those that go out as they are, are written then.

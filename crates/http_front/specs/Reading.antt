@@ -1,4 +1,4 @@
--- What the bytes that a source gives are answered. At most 16,384 bytes are taken. They are parsed after a read that brought a newline,
+-- What the bytes that a source gives are answered. At most `most_bytes` are taken. They are parsed after a read that brought a newline,
 -- after the one that found the end, and where no more are taken. A head ends with a newline, so nothing is read once a whole head was.
 -- What can't become a head is found with the next newline.
 use Rattle.std.specs.Prelude.{◌≡◌, ◌≢◌, ◌⊎◌, ℕ, ◌+◌, ◌≤◌, List, [], ◌++◌, All, length, take, Option, Result, Ok, Err, ⊤}
@@ -12,6 +12,10 @@ use Rattle.http_front.specs.declared.reading.Due.{Due}
 use Rattle.http_front.specs.declared.reading.Due.TheVariants as due
 use Rattle.http_front.specs.Calls.{Answers}
 use Rattle.http_front.specs.Heads.{BeginsWith, IsUnfinished}
+
+-- as many bytes are taken for a head at most
+abbrev pub most_bytes : ℕ
+most_bytes = 16_384
 
 -- the bytes begin with a head, and it is answered so
 pub record AnswersHead (taken : List ℕ) (answer : Result Request HttpErr) : Type 0 where
@@ -40,14 +44,14 @@ pub record Waits (taken : List ℕ) : Type 0 where
 abbrev pub Judges : List ℕ → Type 0 → Result Request HttpErr → Type 0
 Judges taken Ended (Err SourceFault) = Waits taken
 Judges taken Ended (Err BadHead) = NeverHasRequest taken ⊎ (HasNoRequest taken × Ended)
-Judges taken Ended (Err HeadTooLong) = (length taken ≡ 16384) × IsUnfinished taken
+Judges taken Ended (Err HeadTooLong) = (length taken ≡ most_bytes) × IsUnfinished taken
 Judges taken Ended (Err Memory) = ⊤
 Judges taken Ended answer = AnswersHead taken answer
 
 -- bytes were taken of the source, and are answered so
 pub record HasRead (before after : Option (List ℕ)) (answer : Result Request HttpErr) : Type 0 where
   pub taken : List ℕ
-  pub most : length taken ≤ 16384
+  pub most : length taken ≤ most_bytes
   pub consumes : Consumes before after taken
   pub judges : Judges taken (IsAtEnd after) answer
 

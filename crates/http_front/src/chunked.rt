@@ -2,6 +2,7 @@
 ghost use Rattle.std.specs.Prelude.{◌≡◌, ◌≤◌, ◌++◌, [], ◌==◌, not, true, false, Some, drop, OnOk, OnErr, length, IfOk};
 ghost use Rattle.std.specs.Prelude.{IfSome, ◌<◌, option_map};
 ghost use Rattle.std.specs.Io.KnownBytes.{Keeps, WriteAppends};
+ghost use Rattle.http_front.specs.Chunks.{chunk_len};
 ghost use Rattle.arrayvec.specs.ArrayVec.{array_vec_len};
 ghost use Rattle.edge_io.specs.Stream.{Rose};
 
@@ -90,7 +91,7 @@ impl<'a, K: Sink> ChunkedSink<'a, K> {
         ensures same_reference { self.new.link.ghost_name ≡ self.old.link.ghost_name }
         ensures kept { Keeps
             (⟦<ChunkedSink<'a, K> as Sink>⟧.written self.old) (⟦<ChunkedSink<'a, K> as Sink>⟧.written self.new) }
-        ensures room { (self.new.in_chunks ≡ true) × (array_vec_len self.new.held < 8192) }
+        ensures room { (self.new.in_chunks ≡ true) × (array_vec_len self.new.held < chunk_len) }
         ensures out { OnOk result (drop self.new.from self.new.room.items ≡ []) }
         ensures faults { K.write_faults self.old.link.now ≤ K.write_faults self.new.link.now }
         ensures failed { OnErr result (Rose (K.write_faults self.old.link.now) (K.write_faults self.new.link.now)) }
@@ -105,7 +106,7 @@ impl<'a, K: Sink> ChunkedSink<'a, K> {
     // Makes a chunk of what is held, behind what went out.
     fn close_chunk(&mut self)
         requires chunks { self.old.in_chunks ≡ true }
-        requires full { array_vec_len self.old.held ≡ 8192 }
+        requires full { array_vec_len self.old.held ≡ chunk_len }
         requires out { drop self.old.from self.old.room.items ≡ [] }
         ensures link { self.new.link ≡ self.old.link }
         ensures kept { Keeps

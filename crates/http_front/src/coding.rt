@@ -4,7 +4,7 @@ ghost use Rattle.std.specs.Fmt.{digits};
 ghost use Rattle.std.specs.Char.{digit_char};
 ghost use Rattle.arrayvec.specs.ArrayVec.{array_vec_len};
 ghost use Rattle.edge_io.specs.Stream.{Rose};
-ghost use Rattle.http_front.specs.Chunks.{chunk_of, rest_chunk, last_chunk};
+ghost use Rattle.http_front.specs.Chunks.{chunk_of, rest_chunk, last_chunk, chunk_len};
 ghost use Rattle.http_front.specs.Sends.{Sends};
 
 use arrayvec::ArrayVec;
@@ -34,9 +34,9 @@ pub fn send<K: Sink>(link: &mut K, bytes: &[u8], from: &mut usize) -> Result<(),
 /// Puts a chunk of these bytes into the room, which is empty.
 pub fn put_chunk(room: &mut ArrayVec<u8, CODED>, bytes: &[u8])
     requires empty { room.old.items ≡ [] }
-    requires bound { length bytes.now ≤ 8192 }
+    requires bound { length bytes.now ≤ chunk_len }
     ensures chunk { room.new.items ≡ chunk_of bytes.now }
-    ensures len { array_vec_len room.new ≤ 8200 }
+    ensures len { array_vec_len room.new ≤ chunk_len + 8 }
 {
     let (digits, unused) = hexadecimal(bytes.len() as u16);
     put(room, &digits[unused..]);
@@ -48,7 +48,7 @@ pub fn put_chunk(room: &mut ArrayVec<u8, CODED>, bytes: &[u8])
 /// Puts a chunk of these bytes, if there are some, and the last chunk into the room, which is empty.
 pub fn put_end(room: &mut ArrayVec<u8, CODED>, bytes: &[u8])
     requires empty { room.old.items ≡ [] }
-    requires bound { length bytes.now ≤ 8192 }
+    requires bound { length bytes.now ≤ chunk_len }
     ensures { room.new.items ≡ rest_chunk bytes.now ++ last_chunk }
 {
     put_rest(room, bytes);
@@ -58,9 +58,9 @@ pub fn put_end(room: &mut ArrayVec<u8, CODED>, bytes: &[u8])
 // Puts a chunk of these bytes, if there are some, into the room, which is empty.
 fn put_rest(room: &mut ArrayVec<u8, CODED>, bytes: &[u8])
     requires empty { room.old.items ≡ [] }
-    requires bound { length bytes.now ≤ 8192 }
+    requires bound { length bytes.now ≤ chunk_len }
     ensures chunk { room.new.items ≡ rest_chunk bytes.now }
-    ensures len { array_vec_len room.new ≤ 8200 }
+    ensures len { array_vec_len room.new ≤ chunk_len + 8 }
 {
     if !bytes.is_empty() {
         put_chunk(room, bytes);
@@ -69,7 +69,7 @@ fn put_rest(room: &mut ArrayVec<u8, CODED>, bytes: &[u8])
 
 /// Puts bytes behind those in the room.
 pub fn put(room: &mut ArrayVec<u8, CODED>, bytes: &[u8])
-    requires { array_vec_len room.old + length bytes.now ≤ 8205 }
+    requires { array_vec_len room.old + length bytes.now ≤ CODED }
     ensures items { room.new.items ≡ room.old.items ++ bytes.now }
     ensures len { array_vec_len room.new ≡ array_vec_len room.old + length bytes.now }
 {
@@ -114,11 +114,11 @@ fn digit(number: u16) -> u8
 
 /// Takes as many of the bytes as there is room for, and answers how many.
 pub fn gather(held: &mut ArrayVec<u8, CHUNK>, bytes: &[u8]) -> usize
-    requires room { array_vec_len held.old < 8192 }
+    requires room { array_vec_len held.old < chunk_len }
     requires some { 0 < length bytes.now }
     ensures least { 0 < result }
     ensures within { result ≤ length bytes.now }
-    ensures count { result ≡ min (length bytes.now) (8192 - array_vec_len held.old) }
+    ensures count { result ≡ min (length bytes.now) (chunk_len - array_vec_len held.old) }
     ensures items { held.new.items ≡ held.old.items ++ take result bytes.now }
 {
     let count = bytes.len().min(CHUNK - held.len());

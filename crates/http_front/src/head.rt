@@ -1,7 +1,9 @@
 //! The head of a request among bytes.
 ghost use Rattle.std.specs.Prelude.{◌≤◌, length};
+ghost use Rattle.http_front.specs.Reading.{most_bytes};
 ghost use Rattle.http_front.specs.Heads.{Looked};
 
+use crate::reading::MOST_FIELDS;
 use httparse::Status;
 use httparse::spans::{HeaderSpan, Span, parse_request};
 
@@ -22,8 +24,8 @@ pub enum Seen {
 
 /// Looks for a head in front of the bytes. A head of 16,384 bytes has fewer than 8,192 fields.
 pub fn look(bytes: &[u8], fields: &mut [HeaderSpan]) -> Seen
-    requires room { 8192 ≤ length fields.old }
-    requires short { length bytes.now ≤ 16384 }
+    requires room { MOST_FIELDS ≤ length fields.old }
+    requires short { length bytes.now ≤ most_bytes }
     ensures looked { Looked bytes.now result }
 {
     match parse_request(bytes, fields) {

@@ -3,7 +3,7 @@ ghost use Rattle.std.specs.Prelude.{◌≡◌, ◌≢◌, ◌⊎◌, ◌+◌, �
 ghost use Rattle.std.specs.Prelude.{OnErr, IsErrOf};
 ghost use Rattle.edge_io.specs.Stream.{Rose};
 ghost use Rattle.http_front.specs.Reading.{Judges, HasRead, TookHead, AnswersHead, Waits, ReadsBehind, GoesOn};
-ghost use Rattle.http_front.specs.Reading.{NoHeadYet};
+ghost use Rattle.http_front.specs.Reading.{NoHeadYet, most_bytes};
 ghost use Rattle.http_front.specs.declared.reading.Due.TheVariants.{Nothing, Newline, End, Limit};
 
 use crate::call::answer_of;
@@ -17,7 +17,7 @@ use std::alloc::Global;
 pub const MOST_BYTES: usize = 16_384;
 
 // The most header fields that a head of so many bytes has, and more.
-const MOST_FIELDS: usize = 8_192;
+pub(crate) const MOST_FIELDS: usize = 8_192;
 
 // What makes a parse due, if anything does.
 #[derive(Clone, Copy)]
@@ -59,8 +59,8 @@ fn read_into<S: Source>(
     bytes: &mut [u8],
     fields: &mut [HeaderSpan],
 ) -> Result<Request, HttpErr>
-    requires bytes { length bytes.old ≡ 16384 }
-    requires room { 8192 ≤ length fields.old }
+    requires bytes { length bytes.old ≡ most_bytes }
+    requires room { MOST_FIELDS ≤ length fields.old }
     ensures read { HasRead (S.left source.old) (S.left source.new) result }
     ensures memory { IsErrOf result HttpErr.Memory → TookHead (S.left source.old) (S.left source.new) }
     ensures faults { S.read_faults source.old ≤ S.read_faults source.new }
@@ -84,10 +84,10 @@ fn read_into<S: Source>(
 
 // What a read makes due that gave so many bytes, of so many in all, with a newline among them or not.
 fn due_after(more: usize, len: usize, is_line: bool) -> Due
-    ensures nothing { result ≡ Nothing → (is_line ≡ false) × (0 < more) × (len ≢ 16384) }
-    ensures newline { result ≡ Newline → (is_line ≡ true) × (0 < more) × (len ≢ 16384) }
+    ensures nothing { result ≡ Nothing → (is_line ≡ false) × (0 < more) × (len ≢ most_bytes) }
+    ensures newline { result ≡ Newline → (is_line ≡ true) × (0 < more) × (len ≢ most_bytes) }
     ensures end { result ≡ End → more ≡ 0 }
-    ensures limit { result ≡ Limit → (0 < more) × (len ≡ 16384) }
+    ensures limit { result ≡ Limit → (0 < more) × (len ≡ most_bytes) }
 {
     if more == 0 {
         return Due::End;
@@ -108,9 +108,9 @@ fn judge(
     fields: &mut [HeaderSpan],
     due: Due,
 ) -> Option<Result<Request, HttpErr>>
-    requires room { 8192 ≤ length fields.old }
-    requires short { length taken.now ≤ 16384 }
-    requires limit { due ≡ Limit → length taken.now ≡ 16384 }
+    requires room { MOST_FIELDS ≤ length fields.old }
+    requires short { length taken.now ≤ most_bytes }
+    requires limit { due ≡ Limit → length taken.now ≡ most_bytes }
     ensures some { IfSome result (Judges taken.now (due ≡ End)) }
     ensures unfailed { IfSome result (λ answer. IsErrOf answer HttpErr.SourceFault → ⊥) }
     ensures memory { IfSome result (λ answer. IsErrOf answer HttpErr.Memory → AnswersHead taken.now answer) }

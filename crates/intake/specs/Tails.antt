@@ -2,6 +2,7 @@
 -- was never told of has none. What changes of it is said row by row.
 use Rattle.std.specs.Prelude.{◌≡◌, ◌≢◌, ℕ, ◌+◌, ◌≤◌, ◌^◌, List, [], ◌∷◌, length, max, nat_le, Bool, true, false, if◌then◌else◌}
 use Rattle.std.specs.List.{slice_index_or}
+use Rattle.series_model.specs.Limits.{intake_room}
 use Rattle.series_model.specs.declared.sample.Sample.{Sample}
 use Rattle.series_model.specs.declared.batch.RowSamples.{RowSamples}
 
@@ -31,7 +32,7 @@ held_bytes (tail ∷ tails) = size_of tail.samples + held_bytes tails
 -- the bytes are counted, and are no more than there is room for; rows have numbers of 32 bits
 pub record IsIntake (tails : List TailState) (held : ℕ) : Type 0 where
   pub bytes : held ≡ held_bytes tails
-  pub most : held ≤ 67108864
+  pub most : held ≤ intake_room
   pub few : length tails ≤ 2 ^ 32
 
 -- each row has the samples that it had

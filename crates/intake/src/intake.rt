@@ -1,17 +1,16 @@
 // What is held of all rows.
 ghost use Rattle.std.specs.Prelude.{◌≡◌, ◌≢◌, ◌+◌, ◌≤◌, ◌<◌, ◌^◌, ◌↔◌, ◌++◌, ◌∷◌, [], ℕ, length, vec_len, OnOk, OnErr};
 ghost use Rattle.std.specs.Prelude.{IfOk, Err};
+ghost use Rattle.series_model.specs.Limits.{intake_room};
 ghost use Rattle.series_model.specs.Series.{since};
 ghost use Rattle.intake.specs.Tails.{tail_at, held_bytes, batch_of, KeepsSpares, KeepsTails, SetsTail};
 ghost use Rattle.intake.specs.declared.intake.OfferErr.TheVariants.{IntakeFull, Memory};
 
 use crate::tail::Tail;
+use series_model::limits::INTAKE_ROOM;
 use series_model::{Batch, LentSamples, Sample};
 use std::alloc::{AllocError, Global};
 use std::marker::Model;
-
-/// So many bytes are held at most, each line counted with its newline.
-pub const ROOM: u64 = 67_108_864;
 
 /// Why a sample isn't held, in the order in which the reasons are tried.
 #[derive(Clone, Copy, Debug, PartialEq, Eq)]
@@ -64,7 +63,7 @@ impl Intake {
     /// How many bytes are held, each line counted with its newline.
     pub fn held(&self) -> u64
         ensures value { result ≡ held_bytes self.now }
-        ensures most { result ≤ 67108864 }
+        ensures most { result ≤ intake_room }
     {
         self.held
     }
@@ -98,13 +97,13 @@ impl Intake {
         ensures spares { (other : ℕ) → other ≢ row → (tail_at self.old other).spare ≤ (tail_at self.new other).spare }
 
         ensures full { (held : ℕ) → (result ≡ Err (IntakeFull held))
-            ↔ ((held ≡ held_bytes self.old) × (67108864 < held_bytes self.old + (length sample.line + 1))) }
+            ↔ ((held ≡ held_bytes self.old) × (intake_room < held_bytes self.old + (length sample.line + 1))) }
         ensures memory { result ≡ Err Memory → (tail_at self.old row).spare ≡ 0 }
         ensures tails { OnErr result (KeepsTails self.old self.new) }
         ensures kept { OnErr result (KeepsSpares self.old self.new) }
     {
         let bytes = sample.line.bytes().len() as u64 + 1;
-        if bytes > ROOM - self.held {
+        if bytes > INTAKE_ROOM - self.held {
             return Err(OfferErr::IntakeFull { held: self.held });
         }
         add_rows(&mut self.tails, self.alloc, row)?;

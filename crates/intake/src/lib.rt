@@ -21,5 +21,5 @@ pub mod laws;
 mod sampling;
 mod tail;
 
-pub use intake::{Intake, OfferErr, ROOM};
+pub use intake::{Intake, OfferErr};
 pub use sampling::Scan;

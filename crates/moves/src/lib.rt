@@ -23,6 +23,6 @@ mod parts;
 mod series;
 mod table;
 
-pub use parts::{MOST_PARTS, MoveRule, parts_to_move};
+pub use parts::{MoveRule, parts_to_move};
 pub use series::{ToMove, move_to_make};
 pub use table::{Running, RunningMoves};

@@ -4,11 +4,9 @@ ghost use Rattle.std.specs.Option.{option_copied};
 ghost use Rattle.moves.specs.Parts.{parts_of, covered, end_of};
 
 use etl_rules::choose;
+use series_model::limits::MOST_PARTS;
 use std::alloc::AllocError;
 use store_manifest::Entry;
-
-/// As many partitions as one move may take.
-pub const MOST_PARTS: usize = 65_536;
 
 /// When partitions of a store move on to the next.
 #[derive(Clone, Copy, Debug, PartialEq, Eq)]

@@ -1,7 +1,7 @@
 -- A reader of chunk streams, and what each of its calls comes to.
-use Rattle.std.specs.Prelude.{◌≡◌, ◌≢◌, ◌⊎◌, ℕ, ◌+◌, ◌*◌, ◌-◌, ◌^◌, ◌<◌, ◌≤◌, List, [], ◌∷◌, ◌++◌, All, Option, Some, None, IfSome, IsSome, IsTrue, Bool, true, false, length, is_some, if◌then◌else◌}
+use Rattle.std.specs.Prelude.{◌≡◌, ◌≢◌, ◌⊎◌, ℕ, ◌+◌, ◌*◌, ◌-◌, ◌<◌, ◌≤◌, List, [], ◌∷◌, ◌++◌, All, Option, Some, None, IfSome, IsSome, IsTrue, Bool, true, false, length, is_some, if◌then◌else◌}
 use Rattle.std.specs.Io.KnownBytes.{Keeps, prepend_known}
-use Rattle.edge_io.specs.Lines.{Reader, HoldsAnswer, ahead}
+use Rattle.edge_io.specs.Lines.{Reader, HoldsAnswer, ahead, max_input, max_line}
 use Rattle.line_escape.specs.Unescaping.{HasNoNewline}
 use Rattle.pb_messages.specs.declared.info.PayloadInfo.{PayloadInfo}
 use Rattle.pb_lines.specs.declared.fault.ChunkFault.{ChunkFault}
@@ -56,7 +56,7 @@ line_number c = number_at c.refused
 
 -- It falls with each item and each line that is skipped.
 abbrev pub work_left : Chunks → ℕ
-work_left c = 2 * (2 ^ 40 - bytes_taken c) + (if is_some c.section.chunk then 1 else 0)
+work_left c = 2 * (max_input - bytes_taken c) + (if is_some c.section.chunk then 1 else 0)
 
 -- What a call came to, by what was still to come before it and after it.
 abbrev pub ReadsItem : Chunks → Chunks → Option (List ℕ) → Option (List ℕ) → ChunkItem → Type 0
@@ -110,7 +110,7 @@ CountsOn old new item = (skipped : ℕ) × Counts (lines_taken old + skipped) (b
 -- line may be.
 abbrev pub IsLineOf : Chunks → ChunkItem → Type 0
 IsLineOf new it.Header = (info : PayloadInfo) × (new.section.chunk ≡ Some info) × IsHeaderLine new.lines.line info
-IsLineOf new (it.Sample t) = (info : PayloadInfo) × (new.section.chunk ≡ Some info) × HasNoNewline new.lines.line × IsSampleLine info.ty info.year new.lines.line t × (length new.lines.line ≤ 16777216)
+IsLineOf new (it.Sample t) = (info : PayloadInfo) × (new.section.chunk ≡ Some info) × HasNoNewline new.lines.line × IsSampleLine info.ty info.year new.lines.line t × (length new.lines.line ≤ max_line)
 IsLineOf new _ = Unit {0}
 
 -- a reader that has read nothing
@@ -124,10 +124,10 @@ HoldsLine c = IsSome c.refused ⊎ (IsTrue c.pending ⊎ HoldsAnswer c.lines)
 -- The last line of a reader was just given.
 pub record HasLine (r : Reader) : Type 0 where
   pub whole : All (λ x. x ≢ 10) r.line
-  pub short : length r.line ≤ 16777216
+  pub short : length r.line ≤ max_line
   pub number : 1 ≤ r.number
   pub room : length r.line + 1 ≤ r.passed
-  pub bound : r.passed ≤ 2 ^ 40
+  pub bound : r.passed ≤ max_input
 
 -- A reader that isn't refused goes on, and a line that is to be taken is the last one.
 pub record IsReady (r : Reader) (pending : Bool) (refused : Option ChunkFault) : Type 0 where

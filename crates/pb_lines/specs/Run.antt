@@ -1,6 +1,7 @@
 -- Samples of a chunk whose lines stand one behind another, held and not yet read.
 use Rattle.std.specs.Prelude.{◌≡◌, ◌≢◌, ℕ, ℤ, ◌+◌, ◌<◌, ◌≤◌, List, [], ◌∷◌, ◌++◌, Some, None, false, length, take, drop}
 use Rattle.std.specs.List.{AllByRecursion}
+use Rattle.edge_io.specs.Lines.{max_line}
 use Rattle.pb_wire.specs.declared.payload.PayloadType.{PayloadType}
 use Rattle.line_escape.specs.Unescaping.{HasNoNewline}
 use Rattle.series_model.specs.declared.sample.Sample.{Sample}
@@ -15,7 +16,7 @@ use Rattle.pb_lines.specs.declared.run.Run.{Run}
 pub record IsRunLine (ty : PayloadType) (year : ℤ) (s : Sample) : Type 0 where
   pub whole : HasNoNewline s.line
   pub some : s.line ≢ []
-  pub short : length s.line ≤ 16777216
+  pub short : length s.line ≤ max_line
   pub meant : IsSampleLine ty year s.line s.t
 
 abbrev pub AreRunLines : PayloadType → ℤ → List Sample → Type 0

@@ -1,8 +1,8 @@
 -- A raw stream: lines, which are headers, samples and empty lines that end chunks, up to the first bad line.
-use Rattle.std.specs.Prelude.{◌≡◌, ◌≢◌, ◌⊎◌, ℕ, ◌+◌, ◌^◌, ◌<◌, ◌≤◌, List, [], ◌∷◌, ◌++◌, All, Option, Some, None, Bool, true, false, ◌==◌, length, count_by, if◌then◌else◌}
+use Rattle.std.specs.Prelude.{◌≡◌, ◌≢◌, ◌⊎◌, ℕ, ◌+◌, ◌<◌, ◌≤◌, List, [], ◌∷◌, ◌++◌, All, Option, Some, None, Bool, true, false, ◌==◌, length, count_by, if◌then◌else◌}
 use Rattle.series_model.specs.declared.sample.Sample.{Sample}
 use Rattle.pb_messages.specs.declared.info.PayloadInfo.{PayloadInfo}
-use Rattle.edge_io.specs.Lines.{IsTorn, IsTooLong, IsInputTooLong}
+use Rattle.edge_io.specs.Lines.{IsTorn, IsTooLong, IsInputTooLong, max_input, max_line}
 use Rattle.edge_io.specs.declared.lines.LineRead.{LineRead}
 use Rattle.edge_io.specs.declared.lines.LineRead.TheVariants.{End, Torn, TooLong, InputTooLong}
 use Rattle.pb_lines.specs.declared.fault.ChunkFault.{ChunkFault}
@@ -14,7 +14,7 @@ use Rattle.pb_lines.specs.Header.{IsHeaderLine, IsHeadFault}
 
 -- How a stream goes on behind its last whole line, of which p bytes were before: it ends there or within a line, or a line or the stream is too long.
 abbrev pub IsEnding : ℕ → List ℕ → LineRead → Type 0
-IsEnding p rest End = (rest ≡ []) × (p < 2 ^ 40)
+IsEnding p rest End = (rest ≡ []) × (p < max_input)
 IsEnding p rest Torn = IsTorn p rest
 IsEnding p rest TooLong = IsTooLong p rest
 IsEnding p rest InputTooLong = IsInputTooLong p rest
@@ -24,7 +24,7 @@ IsEnding p rest _ = ⊥
 abbrev pub IsLines : ℕ → List ℕ → List (List ℕ) → LineRead → Type 0
 IsLines p bytes [] ending = IsEnding p bytes ending
 IsLines p bytes (line ∷ lines) ending =
-    (rest : List ℕ) × (bytes ≡ line ++ 10 ∷ rest) × All (λ x. x ≢ 10) line × (length line ≤ 16777216) × (p + length line + 1 ≤ 2 ^ 40) × IsLines (p + length line + 1) rest lines ending
+    (rest : List ℕ) × (bytes ≡ line ++ 10 ∷ rest) × All (λ x. x ≢ 10) line × (length line ≤ max_line) × (p + length line + 1 ≤ max_input) × IsLines (p + length line + 1) rest lines ending
 
 -- ITEMS
 

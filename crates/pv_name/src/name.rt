@@ -8,6 +8,8 @@ ghost use Rattle.std.specs.List.{before_first, position};
 ghost use Rattle.pv_name.specs.Name.{is_allowed, is_separator, IsBadSegment, IsFault, IsFirstFault, IsName, IsRefusal};
 
 use std::alloc::{AllocError, Global};
+use std::error::Error;
+use std::fmt;
 use std::marker::Model;
 
 /// The marks that may stand in a name beside ASCII letters and digits.
@@ -24,6 +26,17 @@ pub enum NameErr {
     /// There is no memory for the name.
     Memory,
 }
+
+impl fmt::Display for NameErr {
+    fn fmt<W: fmt::Write>(&self, f: &mut fmt::Formatter<W>) -> fmt::Result {
+        match self {
+            NameErr::BadName { at } => write!(f, "bad name of a variable at byte {at}"),
+            NameErr::Memory => f.write_str("out of memory"),
+        }
+    }
+}
+
+impl Error for NameErr {}
 
 impl From<AllocError> for NameErr {
     ghost use Rattle.pv_name.specs.declared.name.NameErr.TheVariants.{Memory};

@@ -107,6 +107,10 @@ width_of (Count width) = width
 width_of (Nth n) = n
 width_of NCount = 1
 
+-- the greatest number that an operator takes: nine digits
+abbrev pub most_width : ℕ
+most_width = 999_999_999
+
 -- it is in range
 abbrev pub IsInRange : Op → Type 0
-IsInRange op = (0 < width_of op) × (width_of op ≤ 999999999)
+IsInRange op = (0 < width_of op) × (width_of op ≤ most_width)

@@ -16,7 +16,7 @@ use Rattle.pb_messages.specs.Spelling.{event_text, FitsEvent}
 use Rattle.pb_messages.proofs.RoundTrip.{event_back}
 use Rattle.series_model.specs.declared.sample.Sample.{Sample}
 use Rattle.act_model.specs.Event.{IsEvent}
-use Rattle.sample_bins.specs.Counts.{day_of_year, second_of_year, count_event, counted}
+use Rattle.sample_bins.specs.Counts.{day_of_year, second_of_year, count_event, counted, most_counted}
 
 -- THE YEAR OF A DAY
 
@@ -76,7 +76,7 @@ has_stamp t low high =
 
 -- EVENTS
 
-fits : (t n : ℕ) → (second : ℕ) → second ≡ second_of_year t → second < 2 ^ 32 → n ≤ 2_147_483_647 → FitsEvent (count_event t n)
+fits : (t n : ℕ) → (second : ℕ) → second ≡ second_of_year t → second < 2 ^ 32 → n ≤ most_counted → FitsEvent (count_event t n)
 fits t n second is low small = record {
   secs = omega (arith, is, low);
   nano = omega arith;
@@ -92,7 +92,7 @@ stamp_read : (t n : ℕ) → FitsEvent (count_event t n) → stamp_of ScalarInt 
 unfolding stamp_of
 stamp_read t n small = rw (event_back ScalarInt (count_event t n) refl small) refl
 
-pub counted_event : (t n : ℕ) → start ≤ t → t < end → n ≤ 2_147_483_647 → IsEvent ScalarInt (counted t n)
+pub counted_event : (t n : ℕ) → start ≤ t → t < end → n ≤ most_counted → IsEvent ScalarInt (counted t n)
 counted_event t n low high small =
     let s = has_stamp t low high in
     let text : List ℕ = event_text (count_event t n) in

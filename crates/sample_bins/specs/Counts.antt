@@ -8,9 +8,13 @@ use Rattle.pb_messages.specs.declared.value.Value.TheVariants.{Int}
 use Rattle.pb_messages.specs.Spelling.{event_text}
 use Rattle.series_model.specs.declared.sample.Sample.{Sample}
 
+-- the greatest number that a sample of the type SCALAR_INT tells
+abbrev pub most_counted : ℕ
+most_counted = 2_147_483_647
+
 -- a count that doesn't fit is told as the greatest number that does
 abbrev pub capped : ℕ → ℕ
-capped n = min n 2_147_483_647
+capped n = min n most_counted
 
 -- the nearest moment at which a sample may stand
 abbrev pub nearest_moment : ℕ → ℕ

@@ -17,7 +17,7 @@ use Rattle.sample_bins.specs.declared.op.Op.{Op}
 use Rattle.sample_bins.specs.declared.op.Op.TheVariants.{FirstSample, LastSample, Count, Nth, NCount}
 use Rattle.sample_bins.specs.declared.beginning.Begun.{Begun}
 use Rattle.sample_bins.specs.declared.kept.Kept.{Kept}
-use Rattle.sample_bins.specs.Counts.{capped, nearest_moment}
+use Rattle.sample_bins.specs.Counts.{capped, nearest_moment, most_counted}
 use Rattle.sample_bins.specs.CountEvents.{counted_event, event_time}
 use Rattle.sample_bins.specs.Bins.{Bin, bin_of, bin_start, bins, same_bin, other_bins, samples_in, last_from, last_in, count_in, each_nth, binned, bins_of, about_of, binned_subject}
 use Rattle.sample_bins.specs.Coming.{coming}
@@ -80,7 +80,7 @@ bin_starts width t low high =
 pub nearest_stands : (t : ℕ) → (start ≤ nearest_moment t) × (nearest_moment t < end)
 nearest_stands t = (omega arith, omega arith)
 
-pub capped_small : (n : ℕ) → capped n ≤ 2_147_483_647
+pub capped_small : (n : ℕ) → capped n ≤ most_counted
 capped_small n = omega arith
 
 count_event : (ty : PayloadType) (width : ℕ) (b : Bin) → IsEvent ty b.first → IsEvent ScalarInt (count_in width b)

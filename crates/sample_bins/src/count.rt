@@ -1,7 +1,7 @@
 // A count of samples, told as a sample.
 ghost use Rattle.std.specs.Prelude.{◌≡◌, ◌≤◌, ◌<◌, IfOk};
 ghost use Rattle.arch_time.specs.YearTime.{start, end};
-ghost use Rattle.sample_bins.specs.Counts.{count_event, counted, nearest_moment};
+ghost use Rattle.sample_bins.specs.Counts.{count_event, counted, nearest_moment, most_counted};
 
 use arch_time::{END, START, split};
 use line_escape::escape;
@@ -20,7 +20,7 @@ pub(crate) fn nearest_moment(t: u64) -> u64
 pub(crate) fn count_line(alloc: Global, t: u64, count: u32) -> Result<Vec<u8>, AllocError>
     requires from { start ≤ t }
     requires before { t < end }
-    requires small { count ≤ 2147483647 }
+    requires small { count ≤ most_counted }
     ensures { IfOk result (λ line. line.items ≡ (counted t count).line) }
 {
     let event = count_event(alloc, t, count);
@@ -34,7 +34,7 @@ pub(crate) fn count_line(alloc: Global, t: u64, count: u32) -> Result<Vec<u8>, A
 fn count_event(alloc: Global, t: u64, count: u32) -> Event
     requires from { start ≤ t }
     requires before { t < end }
-    requires small { count ≤ 2147483647 }
+    requires small { count ≤ most_counted }
     ensures { result ≡ count_event t count }
 {
     let Some(at) = split(t) else {

@@ -6,7 +6,7 @@ ghost use Rattle.arch_time.specs.YearTime.{start, end};
 ghost use Rattle.series_model.specs.declared.sample.Sample.{Sample as SampleValue};
 ghost use Rattle.act_model.specs.Out.{MayGive};
 ghost use Rattle.sample_bins.specs.Bins.{width_of};
-ghost use Rattle.sample_bins.specs.Counts.{counted};
+ghost use Rattle.sample_bins.specs.Counts.{counted, most_counted};
 ghost use Rattle.sample_bins.specs.Coming.{open_count, due, due_at_end};
 ghost use Rattle.sample_bins.specs.Binning.{kept_start, Stands, StandsCounting, Gives, Breaks};
 
@@ -27,7 +27,7 @@ pub(crate) fn give_due<O: Out>(
     line: &[u8],
 ) -> Result<(), OutErr>
     requires wide { 0 < width_of op }
-    requires small { kept.now.count ≤ 2147483647 }
+    requires small { kept.now.count ≤ most_counted }
     requires early { kept_start (width_of op) kept.now.bin < end }
     requires held { Stands O.gave op inner.old kept.now.held }
     requires event { Stands O.gave op inner.old (Some (record { t = t; line = line.now })) }
@@ -58,7 +58,7 @@ pub(crate) fn give_at_end<O: Out>(
     inner: &mut O,
     kept: &Kept,
 ) -> Result<(), OutErr>
-    requires small { kept.now.count ≤ 2147483647 }
+    requires small { kept.now.count ≤ most_counted }
     requires early { kept_start (width_of op) kept.now.bin < end }
     requires held { Stands O.gave op inner.old kept.now.held }
     ensures given { OnOk result (Gives O.gave inner.old (due_at_end op from kept.now) inner.new) }
@@ -108,7 +108,7 @@ fn give_open<O: Out>(
     bin: Option<u64>,
     count: u32,
 ) -> Result<(), OutErr>
-    requires small { count ≤ 2147483647 }
+    requires small { count ≤ most_counted }
     requires early { kept_start width bin < end }
     requires begun { StandsCounting O.gave inner.old }
     ensures given { OnOk result (Gives O.gave inner.old (open_count width bin count) inner.new) }
@@ -126,7 +126,7 @@ fn give_open<O: Out>(
 fn give_count<O: Out>(alloc: Global, inner: &mut O, t: u64, count: u32) -> Result<(), OutErr>
     requires from { start ≤ t }
     requires before { t < end }
-    requires small { count ≤ 2147483647 }
+    requires small { count ≤ most_counted }
     requires begun { StandsCounting O.gave inner.old }
     ensures given { OnOk result (Gives O.gave inner.old (counted t count ∷ []) inner.new) }
     ensures broken { OnErr result (Breaks O.gave O.broke inner.old (counted t count ∷ []) inner.new) }

@@ -1,7 +1,8 @@
 // What is kept of the samples that came before.
 ghost use Rattle.std.specs.Prelude.{◌≡◌, ◌≤◌, ◌<◌, OnOk, IfOk};
 ghost use Rattle.arch_time.specs.YearTime.{end};
-ghost use Rattle.sample_bins.specs.Bins.{bin_of, bin_start, width_of};
+ghost use Rattle.sample_bins.specs.Counts.{most_counted};
+ghost use Rattle.sample_bins.specs.Bins.{bin_of, bin_start, width_of, most_width};
 ghost use Rattle.sample_bins.specs.Coming.{is_new, is_due, one_more, next_position, count_kept, next};
 ghost use Rattle.sample_bins.specs.Binning.{kept_start};
 
@@ -66,16 +67,16 @@ fn is_new(last: Option<u64>, bin: u64) -> bool
 
 fn one_more(count: u32) -> u32
     ensures next { result ≡ one_more count }
-    ensures small { result ≤ 2147483647 }
+    ensures small { result ≤ most_counted }
 {
     if count < MOST { count + 1 } else { MOST }
 }
 
 fn next_position(n: u32, position: u32) -> u32
-    requires small { position ≤ 2147483647 }
-    requires narrow { n ≤ 999999999 }
+    requires small { position ≤ most_counted }
+    requires narrow { n ≤ most_width }
     ensures next { result ≡ next_position n position }
-    ensures small { result ≤ 2147483647 }
+    ensures small { result ≤ most_counted }
 {
     if position + 1 >= n { 0 } else { position + 1 }
 }
@@ -103,12 +104,12 @@ pub(crate) fn keep(
     line: &[u8],
 ) -> Result<(), AllocError>
     requires wide { 0 < width_of op }
-    requires narrow { width_of op ≤ 999999999 }
-    requires small { kept.old.count ≤ 2147483647 }
+    requires narrow { width_of op ≤ most_width }
+    requires small { kept.old.count ≤ most_counted }
     requires early { kept_start (width_of op) kept.old.bin < end }
     requires time { t < end }
     ensures next { OnOk result (kept.new ≡ next op kept.old (record { t = t; line = line.now })) }
-    ensures small { kept.new.count ≤ 2147483647 }
+    ensures small { kept.new.count ≤ most_counted }
     ensures early { kept_start (width_of op) kept.new.bin < end }
 {
     match op {
@@ -142,7 +143,7 @@ pub(crate) fn keep(
 // How many samples a bin has with one more, the first one where the bin is new.
 fn count_on(new: bool, count: u32) -> u32
     ensures next { result ≡ count_kept new count }
-    ensures small { result ≤ 2147483647 }
+    ensures small { result ≤ most_counted }
 {
     if new { 1 } else { one_more(count) }
 }

@@ -1,7 +1,8 @@
 // An output that hands on what an operator makes of its samples.
 ghost use Rattle.std.specs.Prelude.{◌≡◌, ◌≤◌, ◌<◌, IfSome};
 ghost use Rattle.arch_time.specs.YearTime.{end};
-ghost use Rattle.sample_bins.specs.Bins.{width_of};
+ghost use Rattle.sample_bins.specs.Counts.{most_counted};
+ghost use Rattle.sample_bins.specs.Bins.{width_of, most_width};
 ghost use Rattle.sample_bins.specs.Binning.{kept_start, Stands};
 
 use crate::beginning::{Begun, begin_bins};
@@ -25,8 +26,8 @@ pub struct BinOut<O: Out> {
     begun: Option<Begun>,
     kept: Kept,
     ghost wide: { 0 < width_of op },
-    ghost narrow: { width_of op ≤ 999999999 },
-    ghost small: { kept.count ≤ 2147483647 },
+    ghost narrow: { width_of op ≤ most_width },
+    ghost small: { kept.count ≤ most_counted },
     ghost early: { kept_start (width_of op) kept.bin < end },
     ghost stands: { ∥ IfSome begun (λ b. Stands O.gave op inner kept.held) ∥₁ },
 }
@@ -35,7 +36,7 @@ impl<O: Out> BinOut<O> {
     /// Nothing has begun. It takes no memory.
     pub fn new(alloc: Global, op: Op, inner: O) -> BinOut<O>
         requires wide { 0 < width_of op }
-        requires narrow { width_of op ≤ 999999999 }
+        requires narrow { width_of op ≤ most_width }
         ensures op { result.op ≡ op }
         ensures inner { result.inner ≡ inner }
     {

@@ -2,7 +2,7 @@
 ghost use Rattle.std.specs.Prelude.{◌≡◌, ◌≢◌, ◌<◌, ◌≤◌, ◌∷◌, ◌++◌, [], ℕ, List, Option, None, length, take, drop, All};
 ghost use Rattle.std.specs.Prelude.{IsTrue, IfSome, IfNone, false};
 ghost use Rattle.sample_bins.specs.declared.op.Op.{Op as OpValue};
-ghost use Rattle.sample_bins.specs.Bins.{IsInRange};
+ghost use Rattle.sample_bins.specs.Bins.{IsInRange, most_width};
 ghost use Rattle.sample_bins.specs.Words.{IsWidth, IsSuffix, IsBinWidth, Spells, IsOperator, Asks, IsCut};
 
 use crate::op::Op;
@@ -103,7 +103,7 @@ fn spelled(word: &[u8], rest: &[u8]) -> Option<Op>
 
 fn bin_width(rest: &[u8]) -> Option<u32>
     ensures found { IfSome result (IsBinWidth rest.now) }
-    ensures wide { IfSome result (λ n. (0 < n) × (n ≤ 999999999)) }
+    ensures wide { IfSome result (λ n. (0 < n) × (n ≤ most_width)) }
     ensures none { IfNone result ((n : ℕ) → IsBinWidth rest.now n → ⊥) }
 {
     if rest.is_empty() {
@@ -115,7 +115,7 @@ fn bin_width(rest: &[u8]) -> Option<u32>
 // The number behind an underscore.
 fn suffix(rest: &[u8]) -> Option<u32>
     ensures found { IfSome result (IsSuffix rest.now) }
-    ensures wide { IfSome result (λ n. (0 < n) × (n ≤ 999999999)) }
+    ensures wide { IfSome result (λ n. (0 < n) × (n ≤ most_width)) }
     ensures none { IfNone result ((n : ℕ) → IsSuffix rest.now n → ⊥) }
 {
     let Some((b'_', digits)) = rest.split_first() else {
@@ -126,7 +126,7 @@ fn suffix(rest: &[u8]) -> Option<u32>
 
 fn width(digits: &[u8]) -> Option<u32>
     ensures found { IfSome result (IsWidth digits.now) }
-    ensures wide { IfSome result (λ n. (0 < n) × (n ≤ 999999999)) }
+    ensures wide { IfSome result (λ n. (0 < n) × (n ≤ most_width)) }
     ensures none { IfNone result ((n : ℕ) → IsWidth digits.now n → ⊥) }
 {
     if digits.is_empty() || digits.len() > MOST_DIGITS {

@@ -4,6 +4,7 @@ use Rattle.disk_model.specs.Files.{Name, Files}
 use Rattle.disk_model.specs.Past.{Past}
 use Rattle.disk_model.specs.declared.disk.DiskErr.{DiskErr}
 use Rattle.disk_model.specs.declared.disk.DiskErr.TheVariants.{Fault, Memory}
+use Rattle.gate_journal.specs.Batches.{greatest_batch}
 use Rattle.gate_journal.specs.Generations.{HasBatchesOf, KeepsBatches}
 use Rattle.gate_journal.specs.Commits.{Standing, Commits}
 use Rattle.gate_journal.specs.Journal.{JournalState}
@@ -51,4 +52,4 @@ limit_of size = max 1048576 (4 * size)
 
 -- so many bytes up to and with the closed gate are many for these entries, and a batch that lists them isn't too large
 abbrev pub IsLong : ℕ → ℕ → Type 0
-IsLong len size = (limit_of size ≤ len) × (size ≤ 1073741824)
+IsLong len size = (limit_of size ≤ len) × (size ≤ greatest_batch)

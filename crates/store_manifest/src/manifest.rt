@@ -5,6 +5,7 @@ ghost use Rattle.std.specs.Int.{IsInRange};
 ghost use Rattle.disk_model.specs.Files.{Name, Rose};
 ghost use Rattle.disk_model.specs.Past.{Passes};
 ghost use Rattle.disk_model.specs.declared.disk.DiskErr.TheVariants.{Fault};
+ghost use Rattle.gate_journal.specs.Batches.{greatest_batch};
 ghost use Rattle.gate_journal.specs.Commits.{standing};
 ghost use Rattle.gate_journal.specs.Generations.{IsOwn, AtOwn, HasBatchesOf, HasOneOf, IsBadOf};
 ghost use Rattle.gate_journal.specs.Journal.{IsSettledWith, is_of_commit, OnlyRemoves};
@@ -26,7 +27,7 @@ use crate::whole::{encode_whole, is_long};
 use crate::writing::encode;
 use crate::{AllEntries, Change, Entry, ManifestErr};
 use disk_model::{Disk, DiskErr, FileName};
-use gate_journal::{GREATEST_BATCH, Journal};
+use gate_journal::Journal;
 use partition_names::Granularity;
 use std::alloc::{AllocError, Global};
 use std::marker::Model;
@@ -160,7 +161,7 @@ impl Manifest {
     pub fn commit<D: Disk>(&mut self, disk: &mut D, changes: &[Change]) -> Result<(), DiskErr>
         requires sound { IsTrue self.old.journal.sound }
         requires follow { AllCanFollow self.old.granularity self.old.entries changes.now }
-        requires few { length (batch_of changes.now) ≤ GREATEST_BATCH }
+        requires few { length (batch_of changes.now) ≤ greatest_batch }
         requires kept { IsTrue D.tells → IsKept self.old (D.files disk.old) (D.opened disk.old) (D.past disk.old) }
 
         // A crash at any moment leaves the entries from before it or those with all the changes, and of every name that
@@ -183,7 +184,7 @@ impl Manifest {
             → OnOk result
             (self.new.journal.current.place ≡ self.old.journal.current.place + (5 + length (batch_of changes.now))) }
         ensures short { let size = length (whole self.old.granularity self.old.entries) in
-            changes.now ≢ [] → size ≤ GREATEST_BATCH
+            changes.now ≢ [] → size ≤ greatest_batch
             → OnOk result (self.new.journal.current.place + 1 < limit_of size + length (batch_of changes.now) + 5) }
 
         ensures sound { OnOk result (self.new.journal.sound ≡ true) }
@@ -291,7 +292,7 @@ impl Manifest {
         requires some { changes.now ≢ [] }
         requires prepared { self.old.next ≡ all_changed self.old.entries changes.now }
         requires follow { AllCanFollow self.old.granularity self.old.entries changes.now }
-        requires few { length (batch_of changes.now) ≤ GREATEST_BATCH }
+        requires few { length (batch_of changes.now) ≤ greatest_batch }
         requires kept { IsTrue D.tells → IsKept self.old (D.files disk.old) (D.opened disk.old) (D.past disk.old) }
         ensures commits { IsTrue D.tells → CommitsEntries Configured self.old.next result self.old self.new
             (standing D.Disk disk.old) (standing D.Disk disk.new) }

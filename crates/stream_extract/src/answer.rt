@@ -29,7 +29,7 @@ enum Place {
 /// One line is held back: the last sample earlier than the interval, until a sample not earlier
 /// than the interval or the chunk's end comes.
 #[derive(Drop)]
-pub struct Answer {
+pub struct ChunkAnswer {
     query: Query,
     // The moment of the last sample that was later than all before it.
     last: Option<u64>,
@@ -39,7 +39,7 @@ pub struct Answer {
     earlier: Vec<u8>,
 }
 
-impl Model for Answer {
+impl Model for ChunkAnswer {
     ghost use Rattle.stream_extract.specs.Answer.{Answering};
 
     ghost Value = { Answering };
@@ -47,13 +47,13 @@ impl Model for Answer {
     ghost view = { λ a. record { query = a.query; last = a.last; reached = a.reached; earlier = a.earlier.items } };
 }
 
-impl Answer {
+impl ChunkAnswer {
     /// The answer before any chunk.
-    pub fn new(alloc: Global, query: Query) -> Answer
+    pub fn new(alloc: Global, query: Query) -> ChunkAnswer
         ensures covers { Covers result [] }
         ensures query { result.query ≡ query }
     {
-        Answer {
+        ChunkAnswer {
             query,
             last: None,
             reached: false,

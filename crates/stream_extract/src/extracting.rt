@@ -7,7 +7,7 @@ ghost use Rattle.series_model.specs.declared.sample.Query.{Query};
 ghost use Rattle.pb_lines.specs.Reader.{HoldsLine};
 ghost use Rattle.stream_extract.specs.Text.{Extracts, IsFlushed};
 
-use crate::answer::{Answer, add_line};
+use crate::answer::{ChunkAnswer, add_line};
 use crate::running::{RunErr, run_on};
 use command_words::Status;
 use edge_io::{Failed, Sink, Source, write_whole};
@@ -35,7 +35,7 @@ pub fn extract<S: Source, K: Sink>(
     let Ok(mut reader) = ChunkReader::new(alloc) else {
         return Status::OutOfMemory;
     };
-    let mut answer = Answer::new(alloc, query);
+    let mut answer = ChunkAnswer::new(alloc, query);
     let mut out = Vec::new(alloc);
     let mut later = false;
     // Whether the last sample was later than those before it, as its followers may be.

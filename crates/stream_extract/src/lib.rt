@@ -9,5 +9,5 @@ mod answer;
 mod extracting;
 mod running;
 
-pub use answer::Answer;
+pub use answer::ChunkAnswer;
 pub use extracting::extract;

@@ -3,7 +3,7 @@ ghost use Rattle.std.specs.Prelude.{◌≡◌, ◌≤◌, ◌++◌, ℕ, List, O
 ghost use Rattle.edge_io.specs.Stream.{Rose, AppendsFront};
 ghost use Rattle.stream_extract.specs.Run.{RunsOn, Sends};
 
-use crate::answer::Answer;
+use crate::answer::ChunkAnswer;
 use edge_io::{Failed, Sink, write_two};
 use pb_lines::ChunkReader;
 
@@ -24,7 +24,7 @@ pub(crate) enum RunErr {
 pub(crate) fn run_on<K: Sink>(
     rises: bool,
     reader: &mut ChunkReader,
-    answer: &mut Answer,
+    answer: &mut ChunkAnswer,
     out: &mut Vec<u8>,
     sink: &mut K,
 ) -> Result<(), RunErr>

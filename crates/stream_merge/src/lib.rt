@@ -23,7 +23,7 @@
 //! isn't found, and `TakesFew` isn't promised. Of readers that don't tell their bytes, as real files, the contracts say
 //! besides why a call fails, and not which lines come.
 //!
-//! Tests: `unit_tests`, of worked merges and of the bytes that are read of a large file.
+//! Tests: `unit_cases`, of worked merges and of the bytes that are read of a large file.
 #![tactic(auto)]
 
 mod beginning;

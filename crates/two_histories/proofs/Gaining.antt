@@ -5,14 +5,15 @@ use Rattle.std.proofs.lemmas.Bool.Decides.{nat_tests}
 use Rattle.pb_messages.specs.declared.about.Method.{Method}
 use Rattle.pb_messages.specs.declared.about.Method.TheVariants.{Monitor, Scan}
 use Rattle.pb_wire.specs.declared.payload.PayloadType.{PayloadType}
-use Rattle.series_model.specs.Admission.{admit_before, admit_after}
+use Rattle.series_model.specs.Limits.{intake_room}
+use Rattle.series_model.specs.Admission.{refused_by_row, refused_by_time}
 use Rattle.series_model.specs.declared.admission.Reason.{Reason}
 use Rattle.series_model.specs.declared.sample.Sample.{Sample}
 use Rattle.act_model.specs.declared.acts.Answer.TheVariants.{Kept}
 use Rattle.act_model.specs.Changes.{each, at, with_rows}
 use Rattle.act_model.specs.Event.{IsEvent}
 use Rattle.act_model.specs.Machine.{Machine, find_row, held_bytes}
-use Rattle.act_model.specs.Offer.{room, gains, with_held, offered_to, offered}
+use Rattle.act_model.specs.Offer.{gains, with_held, offered_to, offered}
 use Rattle.act_model.specs.Outcome.{Outcome}
 use Rattle.act_model.specs.Rows.{RowState, number_of, standing, is_running, period_of}
 use Rattle.act_model.specs.Sound.{IsHeld}
@@ -53,21 +54,21 @@ gains_at m p f row fits here gain bytes = record { each_row = λ i r there. let 
     by_test i r there false is = same_row refl refl (fits.held i r there)
 
 -- the first three reasons don't apply: the row runs, and the type is its own
-right_type : (row : RowState) (ty : PayloadType) → admit_before (Some (standing row)) (number_of ty) ≡ None → (is_running row.state ≡ true) × (row.about.ty ≡ ty)
+right_type : (row : RowState) (ty : PayloadType) → refused_by_row (Some (standing row)) (number_of ty) ≡ None → (is_running row.state ≡ true) × (row.about.ty ≡ ty)
 right_type row ty none = by_running (is_running row.state) refl none
   where
-    by_type : (b : Bool) → (number_of row.about.ty == number_of ty) ≡ b → is_running row.state ≡ true → admit_before (Some (standing row)) (number_of ty) ≡ None → (is_running row.state ≡ true) × (row.about.ty ≡ ty)
+    by_type : (b : Bool) → (number_of row.about.ty == number_of ty) ≡ b → is_running row.state ≡ true → refused_by_row (Some (standing row)) (number_of ty) ≡ None → (is_running row.state ≡ true) × (row.about.ty ≡ ty)
     by_type true is up none = (up, one_type row.about.ty ty (grind (arith, nat_tests)))
     by_type false is up none = absurd (let bad = rw (up, is) at none in cc)
 
-    by_running : (b : Bool) → is_running row.state ≡ b → admit_before (Some (standing row)) (number_of ty) ≡ None → (is_running row.state ≡ true) × (row.about.ty ≡ ty)
+    by_running : (b : Bool) → is_running row.state ≡ b → refused_by_row (Some (standing row)) (number_of ty) ≡ None → (is_running row.state ≡ true) × (row.about.ty ≡ ty)
     by_running true is none = by_type (number_of row.about.ty == number_of ty) refl is none
     by_running false is none = absurd (let bad = rw is at none in cc)
 
 offered_to_gains : (m : Machine) (i : ℕ) (row : RowState) (ty : PayloadType) (s : Sample) (now : ℕ) → Fits m → slice_get m.rows i ≡ Some row → IsEvent ty s → Good m (offered_to m i row ty s now)
-offered_to_gains m i row ty s now fits here event = by_reason (admit_before (Some (standing row)) (number_of ty)) refl
+offered_to_gains m i row ty s now fits here event = by_reason (refused_by_row (Some (standing row)) (number_of ty)) refl
   where
-    by_method : (d : Method) → row.about.method ≡ d → admit_before (Some (standing row)) (number_of ty) ≡ None → Good m (offered_to m i row ty s now)
+    by_method : (d : Method) → row.about.method ≡ d → refused_by_row (Some (standing row)) (number_of ty) ≡ None → Good m (offered_to m i row ty s now)
     by_method Monitor is none =
         let own : IsEvent row.about.ty s = subst (λ w. IsEvent w s) (sym (right_type row ty none).1) event in
         rw (none, is) (tried_is (λ o. Good m o) m row s now (record { answer = Kept; after = with_rows m (at i (gains s)) }) (λ reason. gains_none m fits) (gains_none m fits)
@@ -76,7 +77,7 @@ offered_to_gains m i row ty s now fits here event = by_reason (admit_before (Som
         let own : IsEvent row.about.ty s = subst (λ w. IsEvent w s) (sym (right_type row ty none).1) event in
         rw (none, is) (gains_at m i (with_held s) row fits here (same_row refl refl own) (same_bytes_at m i (with_held s) (λ r. refl) fits.bytes))
 
-    by_reason : (o : Option Reason) → admit_before (Some (standing row)) (number_of ty) ≡ o → Good m (offered_to m i row ty s now)
+    by_reason : (o : Option Reason) → refused_by_row (Some (standing row)) (number_of ty) ≡ o → Good m (offered_to m i row ty s now)
     by_reason (Some reason) is = rw is (gains_none m fits)
     by_reason None is = by_method row.about.method refl is
 
@@ -106,25 +107,25 @@ ticked_due_gains m i row period now fits here up = by_held row.cell.held refl
     moves : Gains m (with_rows m (at i (moved_on period now)))
     moves = gains_at m i (moved_on period now) row fits here (same_row refl refl (moved_held row row period now (fits.held i row here))) (same_bytes_at m i (moved_on period now) (λ r. refl) fits.bytes)
 
-    keeps : (s : Sample) → row.cell.held ≡ Some s → row.next ≤ s.t → held_bytes m.rows + (length s.line + 1) ≤ room → Gains m (with_rows m (at i (λ r. moved_on period now (gains s r))))
+    keeps : (s : Sample) → row.cell.held ≡ Some s → row.next ≤ s.t → held_bytes m.rows + (length s.line + 1) ≤ intake_room → Gains m (with_rows m (at i (λ r. moved_on period now (gains s r))))
     keeps s is late room_for =
         let event : IsEvent row.about.ty s = subst (λ o. IsHeld row.about.ty o) is (fits.held i row here) in
         gains_at m i (λ r. moved_on period now (gains s r)) row fits here (one_more s up refl refl late event (moved_held row (gains s row) period now (fits.held i row here))) (gains_bytes m i (λ r. moved_on period now (gains s r)) s (λ r. refl) room_for)
 
-    by_reason : (s : Sample) → row.cell.held ≡ Some s → (o : Option Reason) → admit_after row.next s.t now ≡ o → Good m (ticked_due m i row period now)
+    by_reason : (s : Sample) → row.cell.held ≡ Some s → (o : Option Reason) → refused_by_time row.next s.t now ≡ o → Good m (ticked_due m i row period now)
     by_reason s is (Some reason) why = rw (is, why) moves
-    by_reason s is None why = by_room (nat_lt room (held_bytes m.rows + (length s.line + 1))) refl
+    by_reason s is None why = by_room (nat_lt intake_room (held_bytes m.rows + (length s.line + 1))) refl
       where
-        late_of : (n t now : ℕ) → admit_after n t now ≡ None → n ≤ t
+        late_of : (n t now : ℕ) → refused_by_time n t now ≡ None → n ≤ t
         late_of n t now why = grind (arith, nat_tests)
 
-        by_room : (b : Bool) → nat_lt room (held_bytes m.rows + (length s.line + 1)) ≡ b → Good m (ticked_due m i row period now)
+        by_room : (b : Bool) → nat_lt intake_room (held_bytes m.rows + (length s.line + 1)) ≡ b → Good m (ticked_due m i row period now)
         by_room true full = rw (is, why, full) (gains_none m fits)
         by_room false full = rw (is, why, full) (keeps s is (late_of row.next s.t now why) (grind (arith, nat_tests)))
 
     by_held : (o : Option Sample) → row.cell.held ≡ o → Good m (ticked_due m i row period now)
     by_held None is = rw is moves
-    by_held (Some s) is = by_reason s is (admit_after row.next s.t now) refl
+    by_held (Some s) is = by_reason s is (refused_by_time row.next s.t now) refl
 
 pub ticked_gains : (m : Machine) (i now : ℕ) → Fits m → Gains m (ticked m i now).after
 ticked_gains m i now fits = by_row (slice_get m.rows i) refl

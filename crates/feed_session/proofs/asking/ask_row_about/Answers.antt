@@ -3,7 +3,7 @@ use Rattle.act_model.specs.declared.acts.Act.TheVariants.{Register}
 use Rattle.act_model.specs.declared.acts.Answer.TheVariants as answer
 use Rattle.act_model.specs.History.{Done}
 use Rattle.feed_session.specs.Asking.{none, tally_of}
-use Rattle.feed_session.specs.declared.asking.Stopped.TheVariants as stopped
+use Rattle.feed_session.specs.declared.asking.SessionStop.TheVariants as stopped
 use Rattle.feed_session.proofs.Asked.{asked_badly, fails_one}
 use Rattle.feed_session.proofs.asking.ask_row_about.Goals as goal
 use Rattle.std.proofs.Common.{List, inr}

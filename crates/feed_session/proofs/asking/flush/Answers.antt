@@ -3,7 +3,7 @@ use Rattle.act_model.specs.declared.acts.Answer.TheVariants as answer
 use Rattle.act_model.specs.History.{Done}
 use Rattle.feed_session.specs.Asks.{flush_all}
 use Rattle.feed_session.specs.Session.{IsFlushed}
-use Rattle.feed_session.specs.declared.asking.Stopped.TheVariants as stopped
+use Rattle.feed_session.specs.declared.asking.SessionStop.TheVariants as stopped
 use Rattle.feed_session.proofs.Asked.{asked_badly, asked_well, done_as, fails_one}
 use Rattle.feed_session.proofs.Flushing.{flushed_left}
 use Rattle.feed_session.proofs.asking.flush.Goals as goal

@@ -6,7 +6,7 @@ use Rattle.act_model.specs.History.{Done}
 use Rattle.act_model.proofs.Histories.{made_nothing}
 use Rattle.feed_session.specs.Asks.{AsksRow, about_of}
 use Rattle.feed_session.specs.Asking.{Registers, none, tally_of}
-use Rattle.feed_session.specs.declared.asking.Stopped.TheVariants as stopped
+use Rattle.feed_session.specs.declared.asking.SessionStop.TheVariants as stopped
 use Rattle.feed_session.proofs.Asked.{asked_nothing}
 use Rattle.feed_session.proofs.Reading.{same_some}
 use Rattle.feed_session.proofs.asking.register.Goals as goal

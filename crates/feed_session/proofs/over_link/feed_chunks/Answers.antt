@@ -11,7 +11,7 @@ use Rattle.feed_session.specs.Asks.{offer_of}
 use Rattle.feed_session.specs.Asking.{both, cut_by, tally_of}
 use Rattle.feed_session.specs.Session.{CountsAll, ReadsOf, acts_of, items_of}
 use Rattle.feed_session.specs.declared.end.Fed.TheVariants as fed
-use Rattle.feed_session.specs.declared.tally.Tally.{Tally}
+use Rattle.feed_session.specs.declared.tally.OfferCounts.{OfferCounts}
 use Rattle.feed_session.proofs.Going.{begins_all, closed_ends, goes_on, not_started, ok_then, stopped_at, stopped_idle, taken_as, taken_idle, taken_of}
 use Rattle.feed_session.proofs.Reading.{all_read, few_first, some_read}
 use Rattle.feed_session.proofs.Telling.{cut_counts, cut_cuts, cut_ends, cut_reads, tells_chunk_end, tells_first, tells_header, tells_sample, told_front}
@@ -174,7 +174,7 @@ returns-in-End-clause-feeds g c =
     let read = when_none mid.refused (ReadsItem mid c.next_item.new.reader middle (to_come c.next_item.new.reader (left c.next_item.new.link)) it.End) known.going c.in-End.ensures.item in
     let end = fed.Fed tally.kept tally.held tally.dropped in
     let whole : ReadsOf end before (items_of p.taken ++ []) = subst (λ (l : List Item). ReadsOf end before l) (sym (append-nil (items_of p.taken))) (all_read c.in-Ok.reader mid before middle (items_of p.taken) None c.in-Ok.ensures p.passed read.2) in
-    let counts : CountsAll end (acts_of p.taken) = (ap (λ (t : Tally). t.kept) p.counted, ap (λ (t : Tally). t.held) p.counted, ap (λ (t : Tally). t.dropped) p.counted) in
+    let counts : CountsAll end (acts_of p.taken) = (ap (λ (t : OfferCounts). t.kept) p.counted, ap (λ (t : OfferCounts). t.held) p.counted, ap (λ (t : OfferCounts). t.dropped) p.counted) in
     rw c.next_item.ensures.written (record {
       taken = p.taken;
       ended = closed_ends g.A.Actor.number g.A.Actor.between g.met.A.Actor.joined g.met.A.Actor.number_stays p end c.closed.result (λ done is. (refl, is)) whole (some_read c.in-Ok.reader mid before middle (items_of p.taken) c.in-Ok.ensures p.passed) counts (rw c.fed.ensures at c.closed.ensures.closes);

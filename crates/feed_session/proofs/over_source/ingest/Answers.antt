@@ -10,7 +10,7 @@ use Rattle.feed_session.specs.Asking.{both, tally_of}
 use Rattle.feed_session.specs.Session.{CountsAll, ReadsOf, acts_of, items_of}
 use Rattle.feed_session.specs.declared.end.Fed.{Fed}
 use Rattle.feed_session.specs.declared.end.Fed.TheVariants as fed
-use Rattle.feed_session.specs.declared.tally.Tally.{Tally}
+use Rattle.feed_session.specs.declared.tally.OfferCounts.{OfferCounts}
 use Rattle.feed_session.proofs.Going.{begins_all, closed_ends, goes_on, header_stopped, header_taken, not_both, not_started, ok_then, starts, stopped_at, stopped_idle, taken_idle, taken_of}
 use Rattle.feed_session.proofs.Reading.{all_read, few_first, some_read}
 use Rattle.feed_session.proofs.over_source.ingest.Goals.{in-Header, in-Sample, in-ChunkEnd}
@@ -44,7 +44,7 @@ returns-in-End-clause-ingests g c =
     let read = when_none mid.refused (ReadsItem mid c.next.new.self middle (to_come c.next.new.self (left c.next.new.source)) it.End) known.going c.in-End.ensures.item in
     let end = fed.Fed tally.kept tally.held tally.dropped in
     let whole : ReadsOf end before (items_of p.taken ++ []) = subst (λ (l : List Item). ReadsOf end before l) (sym (append-nil (items_of p.taken))) (all_read c.in-Ok.reader mid before middle (items_of p.taken) None c.in-Ok.ensures p.passed read.2) in
-    let counts : CountsAll end (acts_of p.taken) = (ap (λ (t : Tally). t.kept) p.counted, ap (λ (t : Tally). t.held) p.counted, ap (λ (t : Tally). t.dropped) p.counted) in
+    let counts : CountsAll end (acts_of p.taken) = (ap (λ (t : OfferCounts). t.kept) p.counted, ap (λ (t : OfferCounts). t.held) p.counted, ap (λ (t : OfferCounts). t.dropped) p.counted) in
     record {
       taken = p.taken;
       ended = closed_ends g.A.Actor.number g.A.Actor.between g.met.A.Actor.joined g.met.A.Actor.number_stays p end c.closed.result (λ done is. (refl, is)) whole (some_read c.in-Ok.reader mid before middle (items_of p.taken) c.in-Ok.ensures p.passed) counts (rw c.fed.ensures at c.closed.ensures.closes);

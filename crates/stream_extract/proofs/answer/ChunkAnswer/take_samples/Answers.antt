@@ -1,7 +1,7 @@
 use Rattle.std.proofs.Common.{refl, ap, arith}
 use Rattle.stream_extract.specs.Answer.{Answering}
 use Rattle.stream_extract.proofs.Answers.{follows_earlier, follows_within, follows_later}
-use Rattle.stream_extract.proofs.answer.Answer.take_samples.Goals as goal
+use Rattle.stream_extract.proofs.answer.ChunkAnswer.take_samples.Goals as goal
 
 pub returns-then-run-query-clause-ok : goal.returns-then-run-query-clause-ok
 returns-then-run-query-clause-ok c = λ ys f.

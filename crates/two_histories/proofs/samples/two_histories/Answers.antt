@@ -1,7 +1,7 @@
 -- The laws as a contract.
 use Rattle.two_histories.proofs.Law as law
 use Rattle.two_histories.proofs.Examples as examples
-use Rattle.two_histories.proofs.lists.two_histories.Goals as goal
+use Rattle.two_histories.proofs.samples.two_histories.Goals as goal
 
 pub returns-clause-nothing_is_lost : goal.returns-clause-nothing_is_lost
 returns-clause-nothing_is_lost c = law.nothing_is_lost

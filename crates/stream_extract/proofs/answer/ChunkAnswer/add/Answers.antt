@@ -1,5 +1,5 @@
 use Rattle.stream_extract.proofs.Answers.{takes_past, takes_earlier, takes_within, takes_later}
-use Rattle.stream_extract.proofs.answer.Answer.add.Goals as goal
+use Rattle.stream_extract.proofs.answer.ChunkAnswer.add.Goals as goal
 
 pub returns-in-Past-clause-ok : goal.returns-in-Past-clause-ok
 returns-in-Past-clause-ok c = takes_past c.args.self.now (record { t = c.args.t; line = c.args.line.now }) c.args.out.now.items c.in-Past.ensures
