@@ -68,3 +68,34 @@ def report(hours):
     days_moved = days_ended - left_of(days_ended, 2, 1)
     lines.append(f"tiers {4 * hours_left} {4 * (days - days_moved)} {4 if days_moved else 0}\n")
     return "".join(lines)
+
+
+def weighed(data):
+    """The length, and a sum in which each byte has a weight of its own."""
+    total = 0
+    for byte in data:
+        total = (31 * total + byte) % 2**64
+    return f"{len(data)} {total}"
+
+
+def doors(hours):
+    """The links of each door, and two moments of each of two clocks."""
+    return f"{'link link closed ' * 2}{' '.join([str(now(hours))] * 4)}"
+
+
+def of_drill(tell):
+    """What is told of the drill of so many hours, if there is one."""
+    def told(hours, *words):
+        is_there = 1 <= int(hours) <= MOST_HOURS
+        return tell(*(int(word) for word in (hours, *words))) if is_there else "no drill"
+
+    return told
+
+
+# What a line of `crates/format_cases` tells of a drill, by its words.
+KINDS = {
+    "feed": of_drill(lambda hours, variable: feed(hours, variable).hex()),
+    "sum": of_drill(lambda hours, variable: weighed(feed(hours, variable))),
+    "report": of_drill(lambda hours: "; ".join(report(hours).rstrip("\n").split("\n"))),
+    "doors": of_drill(doors),
+}

@@ -9,6 +9,7 @@ import struct
 import time
 from datetime import datetime, timedelta
 
+import drill_model
 import format_lines
 import pb_model
 import store_model
@@ -585,6 +586,7 @@ for kind in (
     standard, clock, system_clock, over, taken, admit, scan, batch, pairs,
 ):
     KINDS[kind.__name__] = kind
+KINDS |= {f"drill_{word}": kind for word, kind in drill_model.KINDS.items()}
 
 
 def answer(case):

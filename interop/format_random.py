@@ -260,6 +260,8 @@ KINDS = {
     "answer": lambda rng: f"{rng.randrange(20)} {rng.randrange(20)} {rising(rng)} a",
     "admit": admit,
     "scan": scan,
+    "drill_sum": lambda rng: f"{rng.randrange(1, 9)} {rng.randrange(4)}",
+    "drill_report": lambda rng: rng.randrange(203),
 }
 # Messages and streams have most to go wrong.
 MOSTLY = ["fields", "event", "event", "event", "header", "header", "sample", "stream", "stream", "stream", "name"]

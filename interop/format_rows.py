@@ -8,6 +8,7 @@ from the program. `format_model.py` gives the same lines, and `format_cases` com
 import json
 from pathlib import Path
 
+import drill_model
 import format_lines
 from format_lines import TYPE_NAMES, hexed
 from pb_model import Event, Header
@@ -806,7 +807,21 @@ def lists():
     yield "pairs 454755 6d41", "454755 6d41"
 
 
+# Drills
+
+# Hours at which a file more or less is left in one of the stores, and the least and the most of a drill; and those of none.
+DRILLS = ["1", "4", "5", "7", "24", "28", "29", "47", "96", "200", "0", "201", str(2**32 - 1)]
+
+
+def drills():
+    """What is wanted of each is told by the model of the workload alone."""
+    cases = [(kind, hours, str(variable)) for kind, hours in (("feed", "1"), ("sum", "200")) for variable in range(4)]
+    cases += [("report", hours) for hours in DRILLS] + [("doors", "1"), ("doors", "200")]
+    for kind, *words in cases:
+        yield " ".join((f"drill_{kind}", *words)), drill_model.KINDS[kind](*words)
+
+
 def rows():
     """All cases with the lines that are wanted."""
-    for group in (moments, partitions, names, escapes, fields, events, headers, streams, edges, lists):
+    for group in (moments, partitions, names, escapes, fields, events, headers, streams, edges, lists, drills):
         yield from group()

@@ -11,7 +11,7 @@ ghost use Rattle.store_reopen.specs.Reopen.{IsUnopened};
 
 use crate::ledger::{Ledger, RowLeft};
 use crate::owner::{Owner, ask, get, opened};
-use crate::telling::{put_bytes, put_damage, text_of};
+use crate::telling::{Text, put_bytes, put_damage, text_of};
 use act_model::{Act, Answer};
 use anyhow::{Context, Result, bail};
 use archive_core::Archive;
@@ -21,7 +21,6 @@ use etl_rules::Config;
 use pb_messages::State;
 use series_model::{Blob, Blobs, Query};
 use std::alloc::Global;
-use std::fmt::Write as _;
 use store_reopen::{ReopenErr, reopen};
 use store_reports::{Damage, check, status};
 use tier_store::TierStore;
@@ -32,20 +31,22 @@ const IMAGES: u64 = 6;
 pub(crate) const ROOM: usize = 65_536;
 
 /// Puts why a disk isn't opened.
-pub(crate) fn put_refusal(text: &mut String, e: &ReopenErr<MemDisk>) -> Result<()> {
+pub(crate) fn put_refusal(text: &mut Text, e: &ReopenErr<MemDisk>) {
     match e {
-        ReopenErr::DiskFault(_) => text.push_str("disk fault")?,
-        ReopenErr::Memory(_) => text.push_str("memory")?,
-        ReopenErr::Damaged { name, at, .. } => put_damage(text, name, *at)?,
-        ReopenErr::GranularityDiffers { kept, .. } => write!(text, "granularity {kept:?}")?,
+        ReopenErr::DiskFault(_) => text.put("disk fault"),
+        ReopenErr::Memory(_) => text.put("memory"),
+        ReopenErr::Damaged { name, at, .. } => put_damage(text, name, *at),
+        ReopenErr::GranularityDiffers { kept, .. } => {
+            text.put(format_args!("granularity {kept:?}"));
+        }
     }
-    Ok(())
 }
 
 // The lines of samples in a raw text, in which a header stands in front of each year and an empty line between two.
 fn samples_of(alloc: Global, raw: &[u8]) -> Result<Vec<String>> {
-    let mut text = String::new(alloc);
-    put_bytes(&mut text, raw)?;
+    let mut text = Text::new(alloc);
+    put_bytes(&mut text, raw);
+    let text = text.into_string()?;
     let mut lines = Vec::new(alloc);
     let mut is_head = true;
     for line in text.as_str().split(',') {
@@ -109,18 +110,18 @@ pub(crate) fn put_wrong(
     disk: &MemDisk,
     config: &Config,
     ledger: &Ledger,
-    text: &mut String,
+    text: &mut Text,
 ) -> Result<bool> {
     let mut is_ahead = false;
     for choice in 0..IMAGES {
         match opened(alloc, disk.crash(alloc, choice)?, config) {
             Ok(owner) => {
                 let left = rows_left(alloc, owner)?;
-                is_ahead |= ledger.put_wrong(&left, text)?;
+                is_ahead |= ledger.put_wrong(&left, text);
             }
             Err(e) => {
-                text.push(' ')?;
-                put_refusal(text, &e)?;
+                text.put(' ');
+                put_refusal(text, &e);
             }
         }
     }
@@ -143,15 +144,15 @@ fn inspected(
 
 // What is reported as one line: each of its lines with a semicolon behind it, and the first damaged file.
 fn report_text(alloc: Global, report: &[u8], damage: Option<Damage>) -> Result<String> {
-    let mut text = String::new(alloc);
+    let mut text = Text::new(alloc);
     for line in text_of(report).lines() {
-        write!(text, "{line}; ")?;
+        text.put(format_args!("{line}; "));
     }
     match damage {
-        Some(damage) => put_damage(&mut text, &damage.name, damage.at)?,
-        None => text.push_str("all good")?,
+        Some(damage) => put_damage(&mut text, &damage.name, damage.at),
+        None => text.put("all good"),
     }
-    Ok(text)
+    text.into_string()
 }
 
 // What is reported of an image: a line for each row and each listed file, or why it isn't opened.
@@ -165,23 +166,24 @@ fn report(alloc: Global, image: MemDisk, config: &Config) -> Result<String>
             report_text(alloc, sink.bytes(), damage)
         }
         Err(e) => {
-            let mut text = String::new(alloc);
-            put_refusal(&mut text, &e)?;
-            Ok(text)
+            let mut text = Text::new(alloc);
+            put_refusal(&mut text, &e);
+            text.into_string()
         }
     }
 }
 
 /// What is reported of six images of a disk: that of the first, and each that isn't as the one before it.
 pub(crate) fn reports(alloc: Global, disk: &MemDisk, config: &Config) -> Result<String> {
-    let mut text = report(alloc, disk.crash(alloc, 0)?, config)?;
-    let mut last = text.as_str().to_string(alloc)?;
+    let mut text = Text::new(alloc);
+    let mut last = report(alloc, disk.crash(alloc, 0)?, config)?;
+    text.put(last.as_str());
     for choice in 1..IMAGES {
         let next = report(alloc, disk.crash(alloc, choice)?, config)?;
         if next != last {
-            write!(text, " | image {choice}: {next}")?;
+            text.put(format_args!(" | image {choice}: {next}"));
             last = next;
         }
     }
-    Ok(text)
+    text.into_string()
 }

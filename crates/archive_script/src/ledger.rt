@@ -1,11 +1,11 @@
 // What was told of each row, and whether what an image holds of it may be left then.
 use crate::asking::word;
+use crate::telling::Text;
 use act_model::Answer;
 use anyhow::Result;
 use disk_model::MemFile;
 use pb_messages::State;
 use std::alloc::Global;
-use std::fmt::Write as _;
 
 /// A row that an image holds, with the lines of its samples.
 #[derive(Drop)]
@@ -198,7 +198,7 @@ impl Ledger {
     /// Puts what is wrong with what an image holds: each row that was told is there, in its state; its samples are a
     /// front of what was accepted, and all that was told to be durable is among them. It tells whether the image holds
     /// more than was told to be durable.
-    pub(crate) fn put_wrong(&self, left: &[RowLeft], text: &mut String) -> Result<bool> {
+    pub(crate) fn put_wrong(&self, left: &[RowLeft], text: &mut Text) -> bool {
         let mut is_ahead = false;
         let mut left = left;
         for row in &self.rows {
@@ -206,18 +206,18 @@ impl Ledger {
                 Some((other, others)) if other.name == row.name => {
                     let wrong = row.wrong(other);
                     if !wrong.is_empty() {
-                        write!(text, " {} {wrong}", row.name)?;
+                        text.put(format_args!(" {} {wrong}", row.name));
                     }
                     is_ahead |= !row.is_there || row.durable < other.lines.len();
                     left = others;
                 }
-                _ if row.is_there => write!(text, " {} isn't there", row.name)?,
+                _ if row.is_there => text.put(format_args!(" {} isn't there", row.name)),
                 _ => {}
             }
         }
         if !left.is_empty() {
-            text.push_str(" has a row more")?;
+            text.put(" has a row more");
         }
-        Ok(is_ahead)
+        is_ahead
     }
 }

@@ -10,7 +10,7 @@ use crate::asking::{act_of, bytes, number, query, settings, word};
 use crate::images::{ROOM, put_refusal, put_wrong, reports};
 use crate::ledger::Ledger;
 use crate::owner::{Owner, ask, get, into_disk, opened};
-use crate::telling::{put_answer, put_bytes, put_got};
+use crate::telling::{Text, put_answer, put_bytes, put_got};
 use act_model::{Act, Answer};
 use anyhow::{Context, Result, bail};
 use archive_core::Archive;
@@ -18,7 +18,6 @@ use disk_model::{Disk, FileName, MemDisk, MemFile};
 use edge_io::MemSink;
 use etl_rules::Config;
 use std::alloc::Global;
-use std::fmt::Write as _;
 
 // Where nothing is told to fail in so many runs on end, each call is behind the script's last.
 const QUIET_RUNS: u32 = 32;
@@ -33,7 +32,7 @@ struct Run {
     // Whether anything failed.
     failed: bool,
     ledger: Ledger,
-    text: String,
+    text: Text,
 }
 
 // Asks for one act, or for a whole move step by step.
@@ -100,7 +99,7 @@ fn turned(run: &mut Run, owner: &mut Owner<Archive<MemDisk>>, line: &str) -> Res
     };
     owner.who = who;
     acted(run, owner, words.get(1..).unwrap_or(&[]))?;
-    run.text.push('\n')?;
+    run.text.put('\n');
     Ok(true)
 }
 
@@ -129,13 +128,13 @@ fn lived(run: &mut Run, disk: MemDisk, lines: &[&str], place: usize) -> Result<(
 {
     match opened(run.alloc, disk, &run.config) {
         Ok(owner) => {
-            run.text.push_str("opened\n")?;
+            run.text.put("opened\n");
             Ok((turns(run, owner, lines, place)?, true))
         }
         Err(e) => {
             run.failed = true;
-            put_refusal(&mut run.text, &e)?;
-            run.text.push('\n')?;
+            put_refusal(&mut run.text, &e);
+            run.text.put('\n');
             Ok((e.into_disk(), false))
         }
     }
@@ -161,19 +160,19 @@ fn lived_first(
 }
 
 // Puts what a file has, of a longer one its length.
-fn put_content(alloc: Global, text: &mut String, disk: &MemDisk, name: &FileName) -> Result<()> {
+fn put_content(alloc: Global, text: &mut Text, disk: &MemDisk, name: &FileName) -> Result<()> {
     let mut image = disk.crash(alloc, 0)?;
     let (Some(size), _) = image.extent(name) else {
-        text.push_str("no content\n")?;
+        text.put("no content\n");
         return Ok(());
     };
-    write!(text, "content {size} ")?;
+    text.put(format_args!("content {size} "));
     if size < 1000 {
         let mut bytes = vec![in alloc; 0u8; size as usize]?;
         image.read(name, 0, &mut bytes).ok().context("no read")?;
-        put_bytes(text, &bytes)?;
+        put_bytes(text, &bytes);
     }
-    text.push('\n')?;
+    text.put('\n');
     Ok(())
 }
 
@@ -215,7 +214,7 @@ fn took(
         }
         "images" => {
             let reports = reports(alloc, &disk, &run.config)?;
-            writeln!(run.text, "images: {reports}")?;
+            run.text.put(format_args!("images: {reports}\n"));
         }
         _ => {}
     }
@@ -252,7 +251,7 @@ fn new_run(alloc: Global, again: bool) -> Run {
         again,
         failed: false,
         ledger: Ledger::new(alloc),
-        text: String::new(alloc),
+        text: Text::new(alloc),
     }
 }
 
@@ -264,7 +263,7 @@ fn put_call(
     how: &str,
     call: u64,
     whole: &str,
-    why: &mut String,
+    why: &mut Text,
 ) -> Result<(bool, bool)> {
     let mut run = new_run(alloc, how == "asked again");
     let disk = if how == "stops" {
@@ -274,7 +273,7 @@ fn put_call(
     };
     let is_ahead = put_wrong(alloc, &disk, &run.config, &run.ledger, why)?;
     if run.again && reports(alloc, &disk, &run.config)?.as_str() != whole {
-        why.push_str(" ends otherwise")?;
+        why.put(" ends otherwise");
     }
     Ok((is_ahead, run.failed))
 }
@@ -285,28 +284,28 @@ fn put_each_call(
     script: &str,
     how: &str,
     whole: &str,
-    text: &mut String,
+    text: &mut Text,
 ) -> Result<()> {
     let (mut quiet, mut is_right, mut is_ahead) = (0u32, true, false);
     for call in 1..u64::MAX {
-        let mut why = String::new(alloc);
+        let mut why = Text::new(alloc);
         let (ahead, failed) = put_call(alloc, script, how, call, whole, &mut why)?;
         is_ahead |= ahead;
         if !why.is_empty() {
             is_right = false;
-            write!(text, " call {call}:{why}")?;
+            text.put(format_args!(" call {call}:{}", why.into_string()?));
         }
         quiet = if failed { 0 } else { quiet.saturating_add(1) };
         if quiet == QUIET_RUNS {
             break;
         }
     }
-    text.push_str(if is_right { " right" } else { "" })?;
-    text.push_str(if is_ahead {
+    text.put(if is_right { " right" } else { "" });
+    text.put(if is_ahead {
         ", some images hold more\n"
     } else {
         "\n"
-    })?;
+    });
     Ok(())
 }
 
@@ -318,9 +317,9 @@ pub(crate) fn told(alloc: Global, script: &str) -> Result<String> {
     let Run { mut text, .. } = run;
     for line in script.lines() {
         if let Some(how) = line.strip_prefix("each call ") {
-            text.push_str("each call")?;
+            text.put("each call");
             put_each_call(alloc, script, how, whole.as_str(), &mut text)?;
         }
     }
-    Ok(text)
+    text.into_string()
 }

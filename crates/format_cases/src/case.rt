@@ -2,7 +2,7 @@
 use partition_names::Granularity;
 use pb_wire::PayloadType;
 use pv_name::PvName;
-use std::alloc::{AllocError, Global};
+use std::alloc::Global;
 use std::fmt::{Display, Write as _};
 use std::str;
 
@@ -12,7 +12,7 @@ pub struct Case<'a> {
     pub alloc: Global,
     rest: &'a str,
     told: String,
-    // A word was of another form.
+    // A word was of another form, or memory was wanting.
     is_bad: bool,
 }
 
@@ -26,38 +26,34 @@ impl<'a> Case<'a> {
         }
     }
 
-    /// What was told, unless a word was of another form.
+    /// What was told, unless a word was of another form or memory was wanting.
     pub fn into_told(self) -> Option<String> {
         if self.is_bad { None } else { Some(self.told) }
     }
 
-    pub fn tell<D: Display + Drop>(&mut self, shown: D) -> Result<(), AllocError> {
-        match write!(self.told, "{shown}") {
-            Ok(()) => Ok(()),
-            Err(_) => Err(AllocError),
-        }
+    pub fn tell<D: Display + Drop>(&mut self, shown: D) {
+        self.is_bad |= write!(self.told, "{shown}").is_err();
     }
 
     /// Tells what stands between two items.
-    pub fn separate(&mut self, separator: &str) -> Result<(), AllocError> {
-        if self.told.is_empty() {
-            return Ok(());
+    pub fn separate(&mut self, separator: &str) {
+        if !self.told.is_empty() {
+            self.tell(separator);
         }
-        self.told.push_str(separator)
     }
 
     /// Tells bytes in hexadecimal, `-` for none.
-    pub fn tell_hex(&mut self, bytes: &[u8]) -> Result<(), AllocError> {
-        if bytes.is_empty() {
-            return self.told.push('-');
+    pub fn tell_hex(&mut self, bytes: &[u8]) {
+        match hex::encode(self.alloc, bytes) {
+            Ok(text) if text.is_empty() => self.tell('-'),
+            Ok(text) => self.tell(text),
+            Err(_) => self.is_bad = true,
         }
-        self.told.push_str(&hex::encode(self.alloc, bytes)?)
     }
 
     /// Tells that the case is none.
-    pub fn refuse(&mut self) -> Result<(), AllocError> {
+    pub fn refuse(&mut self) {
         self.is_bad = true;
-        Ok(())
     }
 
     /// All that is left.
@@ -91,17 +87,17 @@ impl<'a> Case<'a> {
     }
 
     /// Numbers with commas between, or `-` for none.
-    pub fn numbers(&mut self) -> Result<Vec<u64>, AllocError> {
+    pub fn numbers(&mut self) -> Vec<u64> {
         let mut numbers = Vec::new(self.alloc);
         let word = self.word();
         if word != "-" {
             for part in word.split(',') {
                 let number = part.parse::<u64>();
                 self.is_bad |= number.is_err();
-                numbers.push(number.unwrap_or(0))?;
+                self.is_bad |= numbers.push(number.unwrap_or(0)).is_err();
             }
         }
-        Ok(numbers)
+        numbers
     }
 
     /// Bytes in hexadecimal, or `-` for none.

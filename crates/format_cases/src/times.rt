@@ -6,32 +6,34 @@ use partition_names::{Granularity, Part};
 use pv_name::PvName;
 use std::alloc::AllocError;
 
-pub fn instant(case: &mut Case<'_>) -> Result<(), AllocError> {
+pub fn instant(case: &mut Case<'_>) {
     let t = arch_time::instant(case.signed(), case.number32(), case.number32());
-    case.tell(format_args!("{t:?}"))
+    case.tell(format_args!("{t:?}"));
 }
 
-pub fn split(case: &mut Case<'_>) -> Result<(), AllocError> {
+pub fn split(case: &mut Case<'_>) {
     let parts = arch_time::split(case.number());
-    case.tell(format_args!("{parts:?}"))
+    case.tell(format_args!("{parts:?}"));
 }
 
-pub fn iso(case: &mut Case<'_>) -> Result<(), AllocError> {
+pub fn iso(case: &mut Case<'_>) {
     let t = arch_time::parse_iso(case.rest().as_bytes());
-    case.tell(format_args!("{t:?}"))
+    case.tell(format_args!("{t:?}"));
 }
 
 pub fn print_iso(case: &mut Case<'_>) -> Result<(), AllocError> {
     let t = case.number();
     if t >= END {
-        return case.refuse();
+        case.refuse();
+        return Ok(());
     }
     let mut out = b"from ".to_vec(case.alloc)?;
     arch_time::print_iso(t, &mut out)?;
-    case.tell(text_of(&out))
+    case.tell(text_of(&out));
+    Ok(())
 }
 
-fn tell_part(case: &mut Case<'_>, part: Option<Part>) -> Result<(), AllocError> {
+fn tell_part(case: &mut Case<'_>, part: Option<Part>) {
     match part {
         Some(part) => case.tell(format_args!(
             "{} {} {}",
@@ -43,36 +45,36 @@ fn tell_part(case: &mut Case<'_>, part: Option<Part>) -> Result<(), AllocError> 
     }
 }
 
-pub fn partition(case: &mut Case<'_>) -> Result<(), AllocError> {
+pub fn partition(case: &mut Case<'_>) {
     let part = partition_names::part_of(case.granularity(), case.number());
-    tell_part(case, part)
+    tell_part(case, part);
 }
 
-pub fn parse_partition(case: &mut Case<'_>) -> Result<(), AllocError> {
+pub fn parse_partition(case: &mut Case<'_>) {
     let part = partition_names::parse(case.granularity(), case.rest().as_bytes());
-    tell_part(case, part)
+    tell_part(case, part);
 }
 
-pub fn granularity(case: &mut Case<'_>) -> Result<(), AllocError> {
+pub fn granularity(case: &mut Case<'_>) {
     match Granularity::of_number((case.number32() % 256) as u8) {
         Some(found) => case.tell(format_args!("{} {}", found.number(), text_of(found.name()))),
         None => case.tell("None"),
     }
 }
 
-pub fn granularity_named(case: &mut Case<'_>) -> Result<(), AllocError> {
+pub fn granularity_named(case: &mut Case<'_>) {
     let found = Granularity::of_name(case.rest().as_bytes());
-    case.tell(format_args!("{found:?}"))
+    case.tell(format_args!("{found:?}"));
 }
 
-pub fn holds(case: &mut Case<'_>) -> Result<(), AllocError> {
+pub fn holds(case: &mut Case<'_>) {
     let holds = partition_names::holds(case.granularity(), case.granularity());
-    case.tell(holds)
+    case.tell(holds);
 }
 
-fn tell_config(case: &mut Case<'_>, config: &Config) -> Result<(), AllocError> {
+fn tell_config(case: &mut Case<'_>, config: &Config) {
     for store in 1..4u8 {
-        case.tell(format_args!("{:?} ", config.granularity(store)))?;
+        case.tell(format_args!("{:?} ", config.granularity(store)));
     }
     case.tell(format_args!(
         "{} {} {} {}",
@@ -80,10 +82,10 @@ fn tell_config(case: &mut Case<'_>, config: &Config) -> Result<(), AllocError> {
         config.hold(2),
         config.gather(1),
         config.gather(2)
-    ))
+    ));
 }
 
-pub fn settings(case: &mut Case<'_>) -> Result<(), AllocError> {
+pub fn settings(case: &mut Case<'_>) {
     let stores = [case.granularity(), case.granularity(), case.granularity()];
     let hold = [case.number32(), case.number32()];
     let gather = [case.number32(), case.number32()];
@@ -93,14 +95,14 @@ pub fn settings(case: &mut Case<'_>) -> Result<(), AllocError> {
     }
 }
 
-pub fn shipped(case: &mut Case<'_>) -> Result<(), AllocError> {
-    tell_config(case, &Config::shipped())
+pub fn shipped(case: &mut Case<'_>) {
+    tell_config(case, &Config::shipped());
 }
 
-pub fn choose(case: &mut Case<'_>) -> Result<(), AllocError> {
+pub fn choose(case: &mut Case<'_>) {
     let (hold, gather, now) = (case.number32(), case.number32(), case.number());
-    let count = etl_rules::choose(&case.numbers()?, hold, gather, now);
-    case.tell(count)
+    let count = etl_rules::choose(&case.numbers(), hold, gather, now);
+    case.tell(count);
 }
 
 pub fn name(case: &mut Case<'_>) -> Result<(), AllocError> {
@@ -113,12 +115,13 @@ pub fn name(case: &mut Case<'_>) -> Result<(), AllocError> {
         }
         Err(fault) => case.tell(format_args!("{fault:?}")),
     }
+    Ok(())
 }
 
-pub fn same_key(case: &mut Case<'_>) -> Result<(), AllocError> {
+pub fn same_key(case: &mut Case<'_>) {
     match (case.name(), case.name()) {
         (Some(first), Some(second)) => case.tell(pv_name::same_key(&first, &second)),
-        _ => Ok(()),
+        _ => {}
     }
 }
 
@@ -127,9 +130,11 @@ pub fn path(case: &mut Case<'_>) -> Result<(), AllocError> {
         return Ok(());
     };
     let Some(part) = partition_names::part_of(case.granularity(), case.number()) else {
-        return case.refuse();
+        case.refuse();
+        return Ok(());
     };
     let mut out = b"sts/".to_vec(case.alloc)?;
     partition_names::file_path(&name, &part.name, &mut out)?;
-    case.tell(text_of(&out))
+    case.tell(text_of(&out));
+    Ok(())
 }
