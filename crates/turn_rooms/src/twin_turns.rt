@@ -80,7 +80,8 @@ impl<S: Room, I: Beside<S>> Twin<S, I> {
         let answer = room.apply(pass.number, n, act);
         let told = Snapshot::of(&answer);
         self.store_give::<Brand>(pass, n, room, &asked, &told);
-        self.store_resting.wake_one(&self.table.shared, 0);
+        self.store_resting
+            .wake_one(&self.table.shared, 0, pass.number);
         answer
     }
 
@@ -119,7 +120,8 @@ impl<S: Room, I: Beside<S>> Twin<S, I> {
     {
         let mut act = act;
         let mut rests = 0;
-        self.store_resting.let_pass();
+        self.store_resting
+            .let_pass(rt, &self.table.shared, 0, 2, pass.number);
         for _ in rt.forever() {
             match self.try_store_turn(pass, act) {
                 Tried::Done(answer) => return Turned::Done(answer),
@@ -127,7 +129,7 @@ impl<S: Room, I: Beside<S>> Twin<S, I> {
                 Tried::Busy { word, act: back } => {
                     act = back;
                     self.store_resting
-                        .rest(rt, &self.table.shared, 0, word, rests);
+                        .rest(rt, &self.table.shared, 0, 2, word, rests);
                     rests = rests.saturating_add(1);
                 }
             }
@@ -197,7 +199,8 @@ impl<S: Room, I: Beside<S>> Twin<S, I> {
         let answer = room.apply(pass.number, n, act);
         let told = Snapshot::of(&answer);
         self.intake_give::<Brand>(pass, n, room, &asked, &told);
-        self.intake_resting.wake_one(&self.table.shared, 1);
+        self.intake_resting
+            .wake_one(&self.table.shared, 1, pass.number);
         answer
     }
 
@@ -236,7 +239,8 @@ impl<S: Room, I: Beside<S>> Twin<S, I> {
     {
         let mut act = act;
         let mut rests = 0;
-        self.intake_resting.let_pass();
+        self.intake_resting
+            .let_pass(rt, &self.table.shared, 1, 2, pass.number);
         for _ in rt.forever() {
             match self.try_intake_turn(pass, act) {
                 Tried::Done(answer) => return Turned::Done(answer),
@@ -244,7 +248,7 @@ impl<S: Room, I: Beside<S>> Twin<S, I> {
                 Tried::Busy { word, act: back } => {
                     act = back;
                     self.intake_resting
-                        .rest(rt, &self.table.shared, 1, word, rests);
+                        .rest(rt, &self.table.shared, 1, 2, word, rests);
                     rests = rests.saturating_add(1);
                 }
             }
