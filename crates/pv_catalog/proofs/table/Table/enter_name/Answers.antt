@@ -1,8 +1,9 @@
 use Rattle.std.proofs.Common.{◌≡◌, ◌<◌, ◌++◌, ◌∷◌, [], ℕ, List, length, get_or, sym, ◌∙◌, ap, subst, arith}
+use Rattle.series_model.specs.Limits.{most_rows}
 use Rattle.pb_messages.specs.declared.about.State.TheVariants.{Retired}
 use Rattle.pv_name.specs.Key.{key_of}
 use Rattle.pv_catalog.specs.declared.row.Row.{Row}
-use Rattle.pv_catalog.specs.Rows.{most_rows, MayFollow, switched, renamed_row}
+use Rattle.pv_catalog.specs.Rows.{MayFollow, switched, renamed_row}
 use Rattle.pv_catalog.specs.Table.{TableState}
 use Rattle.pv_catalog.proofs.Listing.{some_then, none_then}
 use Rattle.pv_catalog.proofs.Refusing.{new_row, new_follows, new_over}
