@@ -127,15 +127,23 @@ def texts(arguments):
 
 
 def lines(record):
-    """The lines of a record of all threads, each with its thread, in the order in which the calls ended."""
+    """The lines of a record of all threads, each with its thread, in the order in which the calls ended. A close stands where it
+    began, since another thread's open may have its number before it has answered."""
     begun = {}
     for line in record.read_text().splitlines():
         thread, text = THREAD.fullmatch(line).groups()
-        if text.endswith(UNFINISHED):
-            begun[thread] = text.removesuffix(UNFINISHED)
-            continue
         resumed = RESUMED.match(text)
-        yield thread, begun.pop(thread) + resumed[1] if resumed else text
+        if resumed:
+            if thread not in begun:
+                continue
+            text = begun.pop(thread) + resumed[1]
+        elif text.endswith(UNFINISHED):
+            text = text.removesuffix(UNFINISHED)
+            if not text.startswith("close("):
+                begun[thread] = text
+                continue
+            text += ") = 0"
+        yield thread, text
     yield from begun.items()
 
 

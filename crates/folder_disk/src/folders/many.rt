@@ -3,17 +3,17 @@ use super::{Access, Folders, not_a_file};
 use crate::paths::ancestors;
 use disk_model::FileName;
 use std::alloc::Global;
-use std::collections::BTreeSet;
+use std::collections::{BTreeSet, VecDeque};
 use std::fs::{self, File, OpenOptions};
 use std::io::{self, ErrorKind};
 use std::rt::Files;
 use std::thread::{self, JoinHandle, Threads};
 
 // So many threads sync at a time.
-const THREADS: usize = 16;
+const THREADS: usize = 32;
 
-// So many files and folders are open at a time to be synced.
-const OPEN: usize = 128;
+// So many files and folders a thread syncs at most, so that 128 are open at a time.
+const SHARE: usize = 4;
 
 // Fewer names are synced in turn, without threads.
 const FEW: usize = 4;
@@ -31,23 +31,26 @@ struct Target {
     kind: Kind,
 }
 
-// What is open at a path to be synced.
+// What is to be synced at a path.
 #[derive(Drop)]
 struct Job {
     path: String,
     kind: Kind,
-    file: File,
+    // It is open until it is synced.
+    file: Option<File>,
     // Why its sync failed, where it did.
     failed: Option<io::Error>,
 }
 
 impl Job {
     fn run(&mut self) {
-        let written = match self.kind {
-            Kind::File => self.file.sync_data(),
-            Kind::Folder => self.file.sync_all(),
-        };
-        self.failed = written.err();
+        if let Some(file) = self.file.take() {
+            let written = match self.kind {
+                Kind::File => file.sync_data(),
+                Kind::Folder => file.sync_all(),
+            };
+            self.failed = written.err();
+        }
     }
 }
 
@@ -104,11 +107,8 @@ impl<R: Files<File = File> + Drop> Folders<R> {
         }
         self.begin()?;
         self.sync_above_stores(names)?;
-        for batch in self.targets(names)?.chunks(OPEN) {
-            let shares = self.opened_shares(batch)?;
-            self.sync_shares(rt, shares)?;
-        }
-        Ok(())
+        let targets = self.targets(names)?;
+        self.sync_targets(rt, &targets)
     }
 
     fn sync_in_turn(&mut self, names: &[FileName]) -> io::Result<()> {
@@ -155,20 +155,45 @@ impl<R: Files<File = File> + Drop> Folders<R> {
         Ok(targets)
     }
 
-    // What is there of these paths, open, in as many shares of one size as threads are to sync them.
-    fn opened_shares(&mut self, batch: &[Target]) -> io::Result<Vec<Vec<Job>>> {
-        let mut shares = Vec::new(self.alloc);
-        let size = batch.len().div_ceil(THREADS).max(1);
-        for targets in batch.chunks(size) {
-            let mut share = Vec::new(self.alloc);
-            for target in targets {
-                if let Some(job) = self.opened(target)? {
-                    share.push(job)?;
+    // Syncs each target, in threads, which begin as soon as their share is open. Until all have answered a sync counts
+    // as failed, so that no answer is lost.
+    fn sync_targets<H: Threads>(&mut self, rt: &H, targets: &[Target]) -> io::Result<()> {
+        let size = (targets.len() / THREADS).clamp(1, SHARE);
+        let mut running = VecDeque::with_capacity(self.alloc, THREADS)?;
+        let mut ended = Vec::with_capacity(self.alloc, targets.len())?;
+        let mut opened = Ok(());
+        self.failed = true;
+        for share in targets.chunks(size) {
+            match self.opened_share(share) {
+                Ok(jobs) => running.push_back(Share::start(rt, jobs))?,
+                Err(e) => {
+                    opened = Err(e);
+                    break;
                 }
             }
-            shares.push(share)?;
+            if running.len() >= THREADS
+                && let Some(share) = running.pop_front()
+            {
+                ended.push(share.ended(rt))?;
+            }
         }
-        Ok(shares)
+        for share in running {
+            ended.push(share.ended(rt))?;
+        }
+        self.failed = has_failed(&ended);
+        self.answered(ended)?;
+        opened
+    }
+
+    // What is there of these paths, open.
+    fn opened_share(&mut self, targets: &[Target]) -> io::Result<Vec<Job>> {
+        let mut share = Vec::new(self.alloc);
+        for target in targets {
+            if let Some(job) = self.opened(target)? {
+                share.push(job)?;
+            }
+        }
+        Ok(share)
     }
 
     // Nothing where nothing has the path. A link, a pipe or a folder in a file's place is refused.
@@ -182,7 +207,7 @@ impl<R: Files<File = File> + Drop> Folders<R> {
             Ok(file) => Ok(Some(Job {
                 path: String::from_str(self.alloc, path)?,
                 kind: target.kind,
-                file,
+                file: Some(file),
                 failed: None,
             })),
             Err(e) if e.kind() == ErrorKind::NotFound => Ok(None),
@@ -198,22 +223,6 @@ impl<R: Files<File = File> + Drop> Folders<R> {
             .read(true)
             .write(true)
             .open(&self.files, path)
-    }
-
-    // Syncs what is open, each share in a thread. Until all have answered a sync counts as failed,
-    // so that no answer is lost.
-    fn sync_shares<H: Threads>(&mut self, rt: &H, shares: Vec<Vec<Job>>) -> io::Result<()> {
-        let mut running = Vec::with_capacity(self.alloc, shares.len())?;
-        let mut ended = Vec::with_capacity(self.alloc, shares.len())?;
-        self.failed = true;
-        for share in shares {
-            running.push(Share::start(rt, share))?;
-        }
-        for share in running {
-            ended.push(share.ended(rt))?;
-        }
-        self.failed = has_failed(&ended);
-        self.answered(ended)
     }
 
     // The first error of all. The folders that were synced are remembered.
