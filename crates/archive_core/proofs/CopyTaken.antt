@@ -32,7 +32,7 @@ use Rattle.tier_store.specs.Seen.{Seen, granularities, IsSettled}
 use Rattle.tier_store.specs.Stores.{Stores, list_at}
 use Rattle.tier_store.specs.declared.copying.CopyEnd.{CopyEnd}
 use Rattle.tier_store.specs.declared.limbo.Retired.{Retired}
-use Rattle.tier_store.proofs.LeavingNames.{later_names}
+use Rattle.tier_store.proofs.RunningMoves.{later_names}
 use Rattle.tier_store.proofs.Places.{granularity_at, manifest_at}
 use Rattle.act_model.specs.Machine.{Machine, MoveState, Stage, Copies, HasCopied, HasPublished}
 use Rattle.act_model.specs.MoveBegin.{with_move}
@@ -49,15 +49,14 @@ use Rattle.archive_core.specs.Memory.{AreRowsOf}
 use Rattle.archive_core.specs.Stands.{Rests}
 use Rattle.archive_core.specs.Stepping.{HoldsStep, StepEnds, StepsOn, TakesMove, has_failed, was_spent, went_on, with_slots}
 use Rattle.archive_core.specs.Taking.{Taken}
-use Rattle.archive_core.proofs.Batches.{told_stands}
-use Rattle.archive_core.proofs.LimboTying.{limbo_beside}
+use Rattle.archive_core.proofs.Batches.{told_stands, put_after, tidy_step}
+use Rattle.archive_core.proofs.LimboTying.{limbo_beside, names_stay, pins_stay}
 use Rattle.archive_core.proofs.MoveLimbo.{HaveMachine, GoTogether}
 use Rattle.archive_core.proofs.MoveChoice.{ahead_own, next_high, next_low, next_place, source_low}
 use Rattle.archive_core.proofs.MovesKept.{goes_still, moves_stay, same_later, same_put}
-use Rattle.archive_core.proofs.PinTies.{names_stay, pins_stay}
-use Rattle.archive_core.proofs.SameNames.{of_all}
-use Rattle.archive_core.proofs.Settled.{rests_has}
-use Rattle.archive_core.proofs.TellingDamage.{of_part, told_alone}
+use Rattle.archive_core.proofs.Lists.{of_all, element, map_out}
+use Rattle.archive_core.proofs.Settled.{rests_has, stands_after, with_same}
+use Rattle.archive_core.proofs.MovedParts.{of_part, told_alone, copied_parts, ends_same, parts_are, parts_end}
 use Rattle.archive_core.proofs.MoveTable.{put_back, take_out, left_was, put_again, put_in, put_there}
 use Rattle.std.proofs.lemmas.Option.{same_Some}
 use Rattle.series_model.specs.Series.{end_of, since}
@@ -71,17 +70,13 @@ use Rattle.act_model.specs.Outcome.{runs}
 use Rattle.act_model.specs.Sound.{IsSound, CopiesOf, is_copying}
 use Rattle.act_model.proofs.MoveActs.{move_step_sound}
 use Rattle.archive_core.specs.MoveChoice.{move_end}
-use Rattle.archive_core.proofs.Lists.{element, map_out}
 use Rattle.archive_core.proofs.MoveCopying.{goes_with, go_into, left_remains, put_more}
-use Rattle.archive_core.proofs.MoveParts.{copied_parts, ends_same, parts_are, parts_end}
 use Rattle.archive_core.proofs.Windows.{index_low, all_in}
 use Rattle.durable_write.specs.Held as held_files
 use Rattle.tier_store.specs.declared.copying.CopyEnd.TheVariants as ends
 use Rattle.act_model.specs.declared.acts.Answer.TheVariants as answer
 use Rattle.tier_store.specs.Revival as revival
 use Rattle.tier_store.specs.Stored.{HoldsAll}
-use Rattle.archive_core.proofs.Strays.{put_after, tidy_step}
-use Rattle.archive_core.proofs.After.{stands_after, with_same}
 use Rattle.tier_store.specs.Given.{ChangesGiven}
 use Rattle.tier_store.specs.Strays.{MakesNoStray, targets}
 use Rattle.archive_core.specs.Strays.{IsWell, Tidies}

@@ -22,7 +22,7 @@ use Rattle.act_model.proofs.Rows.{each_get, length-each}
 use Rattle.archive_core.specs.declared.memory.RowMemory.{RowMemory}
 use Rattle.archive_core.specs.Memory.{IsRowOf, IsRowAt, AreRowsOf, cell_in, period_in, sampling_by}
 use Rattle.archive_core.proofs.Lists.{same_or_not, get_set_same, element}
-use Rattle.durable_write.proofs.Three.{get_set_other}
+use Rattle.durable_write.proofs.Staying.{get_set_other}
 use Rattle.act_model.proofs.RowActs.{same_bytes_is, same_bytes-refl}
 
 -- a row of the catalogue has its row of the machine

@@ -1,40 +1,204 @@
--- The stores' limbo stays the machine's, in acts that leave limbo and after a change: what is listed again has left it.
-use Rattle.std.proofs.Common.{◌≡◌, ℕ, ◌≤◌, List, [], ◌∷◌, Bool, true, false, cond, Option, Some, None, refl, sym, ◌∙◌, ap, subst, ◌⊎◌, inl, inr, ◌+◌, ◌++◌, arith}
-use Rattle.std.specs.List.{AllByRecursion}
-use Rattle.std.specs.Prelude.{◌↔◌, ◌==◌, Contains, slice_get, IsTrue}
-use Rattle.std.proofs.lemmas.Option.{same_Some}
-use Rattle.pb_messages.specs.declared.about.About.{About}
-use Rattle.pb_messages.specs.declared.about.State.{State}
-use Rattle.pb_messages.specs.declared.about.State.TheVariants.{Retired as RetiredState}
-use Rattle.disk_model.specs.Files.{Name}
-use Rattle.pv_catalog.specs.Rows.{KeepsRows}
-use Rattle.durable_write.proofs.Growing.{filed_grows}
-use Rattle.tier_store.specs.Limbo.{IsListedName, IsOfPlace, LimboStands}
-use Rattle.tier_store.specs.Pinned.{SeenAll, beside, Shows, KeepsShown}
-use Rattle.tier_store.specs.Seen.{Seen, granularities}
-use Rattle.tier_store.specs.declared.limbo.Retired.{Retired}
-use Rattle.tier_store.proofs.Staying.{limbo_kept, listed_place, place_listed}
-use Rattle.act_model.specs.Changes.{at, changed, changed_rows, added, without_held, Retires, made, each}
+-- Limbo is tied to the machine's: pins stay while what they name is shown, and files in limbo where partitions are listed or not.
+use Rattle.std.proofs.Common.{◌≡◌, ℕ, ◌+◌, List, [], Bool, true, false, Some, refl, sym, ◌∙◌, ap, ◌⊎◌, inl, inr, ◌∷◌, ◌++◌, subst, arith, ◌≢◌, suc, ◌≤◌, cond, Option, None}
+use Rattle.std.specs.Prelude.{slice_get, ◌==◌, Contains, IsTrue, All, filter, nat_eq, ◌↔◌}
 use Rattle.act_model.specs.Limbo.{FileState, tier_at, IsThere, files_of, unlisted}
-use Rattle.act_model.specs.Machine.{Machine, Change, AddsRow, SetsState, Renames, Appends, Publishes, Unlists}
+use Rattle.act_model.specs.Machine.{Machine, Change, SetsState, PinState, AddsRow, Renames, Appends, Publishes, Unlists}
+use Rattle.act_model.specs.Rows.{RowState, tier, window, is_empty, fresh_row, renamed_row, Store, Short, Medium, Long}
+use Rattle.tier_store.specs.Pinned.{SeenAll, KeepsShown, beside, Shows}
+use Rattle.pb_messages.specs.declared.about.State.{State}
+use Rattle.act_model.specs.Changes.{each, at, changed, added, made, without_held, changed_rows, Retires}
+use Rattle.act_model.specs.Crash.{DurableRow, kept_of}
 use Rattle.act_model.specs.OpenPiece.{name_of, bytes_of}
-use Rattle.act_model.specs.Rows.{RowState, fresh_row, renamed_row, Store, Short, Medium, Long, tier, window, is_empty}
-use Rattle.act_model.specs.Rule.{index_of}
-use Rattle.act_model.proofs.MadeLaws.{IsFresh, added_fresh, fresh, fresh_over}
-use Rattle.act_model.proofs.Rows.{Came, from_row, is_new, came, each_get}
-use Rattle.archive_core.specs.LimboTies.{IsRetiredOf, filed_of, AreBare, IsLimboOf, HasRetired, IsOneOf, AreRetired, AreUnlisted, NamesDiffer}
-use Rattle.archive_core.proofs.PinTies.{KeepsNames, names_stay}
-use Rattle.std.proofs.lemmas.List.Elements.{All-contains, Contains-append_cases, Contains-append_left, Contains-append_right}
+use Rattle.std.specs.List.{AllByRecursion}
+use Rattle.std.proofs.lemmas.List.Elements.{All-contains, All-contains_itself, All-filter, All-from_recursion, All-head, All-tail, filter_passes, Contains-append_cases, Contains-append_left, Contains-append_right}
+use Rattle.std.proofs.lemmas.Option.{same_Some}
 use Rattle.partition_names.specs.declared.part.Part.{Part}
 use Rattle.partition_names.specs.Part.{IsPart}
 use Rattle.tier_store.specs.Change.{Has, IsKnown}
-use Rattle.tier_store.specs.Stores.{Stores}
+use Rattle.tier_store.specs.Seen.{Seen, granularities}
+use Rattle.tier_store.specs.Stores.{Stores, list_at}
+use Rattle.tier_store.specs.declared.limbo.Retired.{Retired}
+use Rattle.act_model.specs.Rule.{index_of}
 use Rattle.archive_core.specs.Stands.{TellsHeaders, HoldsDurable, IsRuleOf, StoresGrow}
-use Rattle.archive_core.proofs.LimboLists.{contains_filter, from_filter, some_samples, some_file, lists_file, file_listed}
+use Rattle.std.specs.FinMap.{FinMap}
+use Rattle.std.specs.Ordering.{nat_cmp}
+use Rattle.pins.specs.Pieces.{PinOf}
+use Rattle.tier_store.proofs.ReadCalls.{stand_kept}
+use Rattle.archive_core.specs.Pins.{HasFileOf, ArePinsOf}
+use Rattle.archive_core.proofs.Lists.{get_front, same_or_not, no_moves, stays_listed, rows_go_on, same_grow}
+use Rattle.act_model.proofs.Rows.{each_forward, Came, from_row, is_new, came, each_get}
+use Rattle.std.proofs.lemmas.Bool.Decides.{Decides-eqb}
+use Rattle.partition_names.specs.declared.granularity.Granularity.{Granularity}
+use Rattle.partition_names.proofs.PartLemmas.{one_part, within}
+use Rattle.pv_catalog.specs.declared.row.Row.{Row}
+use Rattle.series_model.specs.declared.sample.Sample.{Sample}
+use Rattle.store_manifest.specs.declared.entry.Entry.{Entry}
+use Rattle.durable_write.specs.Held.{Filed, IsFiled}
+use Rattle.durable_write.specs.Plan.{of_row}
+use Rattle.durable_write.proofs.Written.{contains_entry}
+use Rattle.durable_write.proofs.Staying.{contains_map, filed_grows}
+use Rattle.tier_store.specs.Limbo.{ListsPlace, IsListedName, IsOfPlace, LimboStands}
+use Rattle.tier_store.proofs.Places.{manifest_at}
+use Rattle.archive_core.proofs.Windows.{RowFiles, own_files, list_is, index_low, all_in, windows, window_apart}
+use Rattle.act_model.proofs.Puts.{window-append}
+use Rattle.pb_messages.specs.declared.about.About.{About}
+use Rattle.disk_model.specs.Files.{Name}
+use Rattle.pv_catalog.specs.Rows.{KeepsRows}
+use Rattle.tier_store.proofs.Removals.{limbo_kept, listed_place, place_listed}
+use Rattle.act_model.proofs.MadeLaws.{IsFresh, added_fresh, fresh, fresh_over}
+use Rattle.archive_core.specs.LimboTies.{IsRetiredOf, filed_of, AreBare, IsLimboOf, HasRetired, IsOneOf, AreRetired, AreUnlisted, NamesDiffer}
 use Rattle.pv_catalog.proofs.Standing.{keeps_same}
-use Rattle.act_model.specs.Crash.{DurableRow, kept_of}
 use Rattle.act_model.specs.Sound.{IsSound, IsUnlisted}
-use Rattle.archive_core.proofs.Growth.{no_moves, stays_listed, rows_go_on, same_grow}
+use Rattle.pb_messages.specs.declared.about.State.TheVariants.{Retired as RetiredState}
+pub use Rattle.durable_write.proofs.Written.{contains_filter}
+
+-- The stores' pins stay the machine's while what is pinned is shown and rows keep their names.
+
+-- the row of this number has a row of the same name
+pub record HasNamed (later : List RowState) (i : ℕ) (r : RowState) : Type 0 where
+  pub row : RowState
+  pub here : slice_get later i ≡ Some row
+  pub name : row.name ≡ r.name
+
+abbrev pub KeepsNames : List RowState → List RowState → Type 0
+KeepsNames rows later = (i : ℕ) (r : RowState) → slice_get rows i ≡ Some r → HasNamed later i r
+
+pub names_stay : (rows : List RowState) → KeepsNames rows rows
+names_stay rows = λ i r here. record { row = r; here = here; name = refl }
+
+-- all that keeps what is shown and rows' names keeps the pins
+pub pins_stay : (tells : Bool) (old new : SeenAll) (told : Bool) (rows later : List RowState) (pins : FinMap nat_cmp PinState) (pinned : FinMap nat_cmp PinOf) → KeepsShown tells old new → KeepsNames rows later → ArePinsOf tells old told rows pins pinned → ArePinsOf tells new told later pins pinned
+pins_stay tells old new told rows later pins pinned keeps names are = record {
+  none = are.none;
+  each = λ n pin here. let has = are.each n pin here in record { own = has.own; there = has.there; is = record { owner = has.is.owner; number = has.is.number; pieces = λ t i piece got. by_piece (has.is.pieces t i piece got) } };
+  stand = stand_kept tells old new pinned keeps are.stand;
+}
+  where
+    by_piece : {own : PinOf} {i : ℕ} {piece : FileState} → HasFileOf tells old rows own i piece → HasFileOf tells new later own i piece
+    by_piece {own} {i} {piece} has =
+        let is = has.is in
+        let named = names piece.row is.row is.here in
+        let same : name_of is.row piece ≡ name_of named.row piece = ap (λ (n : List ℕ). name_of (record is.row { name = n }) piece) (sym named.name) in
+        record { file = has.file; there = has.there; is = record { row = named.row; here = named.here; named = is.named ∙ same; head_len = is.head_len; len = is.len; shows = keeps has.file.name _ is.shows } }
+
+-- rows that change by their numbers keep their names where each does
+pub names_each : (f : ℕ → RowState → RowState) (rows : List RowState) → ((i : ℕ) (r : RowState) → (f i r).name ≡ r.name) → KeepsNames rows (each f 0 rows)
+names_each f rows same = λ i r here. record { row = f (0 + i) r; here = each_forward f 0 rows i r here; name = same (0 + i) r }
+
+at_name : (k : ℕ) (f : RowState → RowState) → ((r : RowState) → (f r).name ≡ r.name) → (i : ℕ) (r : RowState) → (at k f i r).name ≡ r.name
+at_name k f same i r = by_test (i == k) refl
+  where
+    by_test : (b : Bool) → (i == k) ≡ b → (at k f i r).name ≡ r.name
+    by_test true is = rw is (same r)
+    by_test false is = rw is refl
+
+pub names_at : (k : ℕ) (f : RowState → RowState) (rows : List RowState) → ((r : RowState) → kept_of (f r) ≡ kept_of r) → KeepsNames rows (each (at k f) 0 rows)
+names_at k f rows stays = names_each (at k f) rows (at_name k f (λ r. ap (λ (d : DurableRow). d.name) (stays r)))
+
+-- so do those of a change that an archive without moves makes
+pub names_made : (m : Machine) (c : Change) → ((i : ℕ) (r : RowState) → (changed m.told m.limbo c i r).name ≡ r.name) → KeepsNames m.rows (made [] c m).rows
+names_made m c same = λ i r here.
+    let is = names_each (changed m.told m.limbo c) m.rows same i r here in
+    record { row = is.row; here = get_front (each (changed m.told m.limbo c) 0 m.rows) (added c m.rows) i is.row is.here; name = is.name }
+
+pub state_name : (m : Machine) (k : ℕ) (to : State) (i : ℕ) (r : RowState) → (changed m.told m.limbo (SetsState k to) i r).name ≡ r.name
+state_name m k to i r = at_name k (without_held to) (λ q. refl) i r
+
+-- A store lists a file of a row and a partition just where it has samples of that partition.
+
+-- one of the files starts there
+abbrev pub StartsAt : ℕ → List Filed → Type 0
+StartsAt start files = (h : Filed) × Contains files h × (h.entry.part.start ≡ start)
+
+-- one does, or none
+starts_or_not : (start : ℕ) (files : List Filed) → StartsAt start files ⊎ AllByRecursion (λ (h : Filed). h.entry.part.start ≢ start) files
+starts_or_not start [] = inr tt
+starts_or_not start (h ∷ files) = elim (same_or_not h.entry.part.start start) [
+  | inl same ↦ inl (h, (0, omega arith, refl), same)
+  | inr apart ↦ elim (starts_or_not start files) [
+    | inl later ↦ inl (later.0, (let at = later.1 in (suc at.0, (let low = at.1 in omega (arith, low)), at.2)), later.2)
+    | inr none ↦ inr (apart, none)
+  ]
+]
+
+-- where none does, there is no sample of the partition
+pub none_starts : (g : Granularity) (rows : List Row) (p : Part) (files : List Filed) → IsPart g p → All (IsFiled g rows) files → AllByRecursion (λ (h : Filed). h.entry.part.start ≢ p.start) files → window p (all_in files) ≡ []
+none_starts g rows p [] part filed none = refl
+none_starts g rows p (h ∷ files) part filed none =
+    window-append p h.samples (all_in files) ∙ (ap (λ (xs : List Sample). xs ++ window p (all_in files)) (window_apart g rows h p (All-head (IsFiled g rows) h files filed) part none.0) ∙ none_starts g rows p files part (All-tail (IsFiled g rows) h files filed) none.1)
+
+-- what passes is there still
+-- and what is there then was there, and passes
+pub from_filter : {A : Type 0} (test : A → Bool) (xs : List A) (x : A) → Contains (filter test xs) x → Contains xs x × (test x ≡ true)
+from_filter {A} test xs x there = (All-contains (λ (y : A). Contains xs y) (filter test xs) x (All-filter test (λ (y : A). Contains xs y) xs (All-contains_itself xs)) there, All-contains (λ (y : A). test y ≡ true) (filter test xs) x (filter_passes test xs) there)
+
+module _ (tells : Bool) (at : Seen) (m : Machine) (held : Stores) (has : Has tells at held) (holds : HoldsDurable held m) (gran : m.rule.granularity ≡ granularities at.manifests) (heads : TellsHeaders m.rule) (told : m.told ≡ true) (stands : IsTrue held.stands)
+    (f : FileState) (r : RowState) (here : slice_get m.rows f.row ≡ Some r) (unit : Granularity) (of_store : slice_get (granularities at.manifests) (index_of f.store) ≡ Some unit) (part : IsPart unit f.part) where
+  abbrev files : List Filed
+  files = of_row f.row (list_at (index_of f.store) held)
+
+  own : RowFiles m.rule held f.store f.row r
+  own = own_files tells at m held has holds gran heads told stands f.row r here f.store
+
+  filed : All (IsFiled unit held.rows) files
+  filed = subst (λ (g : Granularity). All (IsFiled g held.rows) files) (same_Some own.unit unit (sym own.of_store ∙ (ap (λ (gs : List Granularity). slice_get gs (index_of f.store)) gran ∙ of_store))) own.filed
+
+  tier_all : tier r f.store ≡ all_in files
+  tier_all = sym (list_is m held f.row r holds told here f.store)
+
+  -- where a file of the partition is listed, there are samples of it
+  pub some_samples : StartsAt f.part.start files → is_empty (window f.part (tier r f.store)) ≡ false
+  some_samples (h, there, start) =
+      let is = All-contains (IsFiled unit held.rows) files h filed there in
+      let mine = (within unit h.entry.part is.part).1 in
+      let theirs = (within unit f.part part).1 in
+      let same : h.entry.part ≡ f.part = one_part unit h.entry.part f.part f.part.start is.part part (omega (arith, start), omega (arith, start, mine)) (omega arith, theirs) in
+      let W : Filed → Type 0 = λ x. window x.entry.part (all_in files) ≡ x.samples in
+      let cut : window h.entry.part (all_in files) ≡ h.samples = All-contains W files h (All-from_recursion W files (windows unit held.rows files filed own.apart)) there in
+      ap (λ (xs : List Sample). is_empty (window f.part xs)) tier_all ∙ (ap (λ (p : Part). is_empty (window p (all_in files))) (sym same) ∙ ap is_empty (cut ∙ is.some))
+
+  -- and where there are samples of it, a file is listed
+  pub some_file : is_empty (window f.part (tier r f.store)) ≡ false → StartsAt f.part.start files
+  some_file some = elim (starts_or_not f.part.start files) [
+    | inl one ↦ one
+    | inr none ↦ absurd (
+        let gone : is_empty (window f.part (tier r f.store)) ≡ true = ap is_empty (ap (window f.part) tier_all ∙ none_starts unit held.rows f.part files part filed none) in
+        let both : true ≡ false = sym gone ∙ some in
+        cc (both)
+        )
+  ]
+
+  module _ (file : Retired) (series : file.entry.series ≡ f.row) (same : file.entry.part ≡ f.part) (number : file.name.0 ≡ index_of f.store + 1) where
+    pub lists_file : StartsAt f.part.start files → ListsPlace at.manifests file
+    lists_file (h, there, start) =
+        let three = has.known.three in
+        let low = index_low f.store in
+        let n = manifest_at at.manifests (index_of f.store) (omega (arith, low, three)) in
+        let known = has.known.each (index_of f.store) n.0 n.1 in
+        let from = from_filter (λ (x : Filed). nat_eq x.entry.series f.row) (list_at (index_of f.store) held) h there in
+        record {
+          place = index_of f.store;
+          manifest = n.0;
+          store = number;
+          here = n.1;
+          entry = h.entry;
+          within = subst (λ (es : List Entry). Contains es h.entry) (sym known.entries) (contains_entry (list_at (index_of f.store) held) h from.0);
+          series = (Decides-eqb h.entry.series f.row).0 from.1 ∙ sym series;
+          start = start ∙ ap (λ (p : Part). p.start) (sym same);
+        }
+
+    pub file_listed : ListsPlace at.manifests file → StartsAt f.part.start files
+    file_listed lists =
+        let store = lists.store in
+        let place : lists.place ≡ index_of f.store = omega (arith, store, number) in
+        let known = has.known.each lists.place lists.manifest lists.here in
+        let h = contains_map (list_at lists.place held) lists.entry (subst (λ (es : List Entry). Contains es lists.entry) known.entries lists.within) in
+        let there = subst (λ (k : ℕ). Contains (list_at k held) h.0) place h.1 in
+        let row : h.0.entry.series ≡ f.row = ap (λ (e : Entry). e.series) h.2 ∙ (lists.series ∙ series) in
+        let start : h.0.entry.part.start ≡ f.part.start = ap (λ (e : Entry). e.part.start) h.2 ∙ (lists.start ∙ ap (λ (p : Part). p.start) same) in
+        (h.0, contains_filter (λ (x : Filed). nat_eq x.entry.series f.row) (list_at (index_of f.store) held) h.0 there ((Decides-eqb h.0.entry.series f.row).1 row), start)
+
+-- The stores' limbo stays the machine's, in acts that leave limbo and after a change: what is listed again has left it.
 
 -- WHAT STAYS
 

@@ -1,51 +1,57 @@
--- A step of copying: what is left to copy is what remains, and what is ahead then is what the machine puts there.
-use Rattle.std.proofs.Common.{◌≡◌, ◌⊎◌, inl, inr, ℕ, ◌<◌, ◌≤◌, List, [], ◌∷◌, ◌++◌, map, take, Bool, true, false, Some, None, refl, sym, ◌∙◌, ap, subst, arith, append-nil, ◌+◌, length, drop, Option}
-use Rattle.std.specs.List.{list_any, AllByRecursion}
-use Rattle.std.specs.Prelude.{All, Contains, IsTrue, filter, nat_eq, nat_le, slice_get}
+-- What goes on in files of limbo: a flush, and a step of copying.
+use Rattle.std.proofs.Common.{◌≡◌, ℕ, ◌+◌, ◌<◌, ◌≤◌, List, [], ◌∷◌, ◌++◌, length, drop, Bool, true, false, Some, refl, sym, ◌∙◌, ap, subst, arith, append-nil, cond, ◌⊎◌, inl, inr, map, take, None, Option}
+use Rattle.std.specs.List.{AllByRecursion, flat_map, list_any}
+use Rattle.std.specs.Prelude.{All, Contains, IsTrue, filter, nat_eq, slice_get, nat_le}
 use Rattle.std.proofs.lemmas.Bool.Decides.{nat_tests}
-use Rattle.std.proofs.lemmas.List.Elements.{All-contains, Contains-append_cases, Contains-append_left, Contains-append_right}
-use Rattle.etl_mover.specs.Move.{MoveState as Moving}
-use Rattle.partition_names.specs.declared.granularity.Granularity.{Granularity}
+use Rattle.std.proofs.lemmas.List.Elements.{All-contains, All-from_recursion, recursion_from_All, Contains-append_cases, Contains-append_left, Contains-append_right}
 use Rattle.partition_names.specs.declared.part.Part.{Part}
 use Rattle.partition_names.specs.Part.{HoldsMoment}
-use Rattle.partition_names.proofs.PartLemmas.{one_part, within}
-use Rattle.series_model.specs.Series.{before, end_from, end_of, since, IsRising, RisesFrom}
+use Rattle.series_model.specs.Series.{end_from, end_of, RisesFrom, before, since, IsRising}
 use Rattle.series_model.specs.declared.sample.Sample.{Sample}
-use Rattle.store_manifest.specs.Entries.{Place}
 use Rattle.store_manifest.specs.Manifest.{ManifestState}
-use Rattle.store_manifest.specs.declared.entry.Entry.{Entry}
-use Rattle.durable_write.specs.Flush.{PlacesRise, file_at, put_all}
-use Rattle.durable_write.specs.Held.{Filed, IsFiled, entry_of, filed_at, samples_of, IsIn, bytes_of, file_of}
-use Rattle.durable_write.specs.Plan.{of_row}
-use Rattle.durable_write.proofs.Listed.{all_put_all, found, listed_at, rise_put_all}
-use Rattle.tier_store.specs.Moving.{RunsBeside}
-use Rattle.tier_store.specs.Pinned.{SeenAll, beside, KeepsShown}
-use Rattle.tier_store.specs.Retiring.{oldest}
-use Rattle.tier_store.specs.Revival.{AreWhole, samples_at}
-use Rattle.tier_store.specs.Revival as revival
+use Rattle.durable_write.specs.Flush.{put_all, with_batch, PlacesRise, file_at}
+use Rattle.durable_write.specs.Held.{Filed, samples_of, IsFiled, entry_of, filed_at, IsIn, bytes_of, file_of}
+use Rattle.durable_write.proofs.Places.{all_put_all, found, listed_at, rise_put_all}
+use Rattle.tier_store.specs.Revival.{AreWhole, samples_at, FlushesOver, fresh}
 use Rattle.tier_store.specs.Seen.{Seen, granularities}
 use Rattle.tier_store.specs.Stores.{Stores, list_at}
 use Rattle.tier_store.specs.declared.limbo.Retired.{Retired}
-use Rattle.tier_store.proofs.Places.{granularity_at}
-use Rattle.act_model.specs.Limbo.{FileState, Fits, files_of, put, revived}
-use Rattle.act_model.specs.Machine.{Machine, MoveState}
+use Rattle.act_model.specs.Limbo.{FileState, files_of, put, revived, Fits}
+use Rattle.act_model.specs.Machine.{Machine, Appends, MoveState}
+use Rattle.act_model.specs.Rows.{RowState, Store, Short, deep, durable, Medium, Long, holds, next_store, tier, is_empty, window}
+use Rattle.archive_core.proofs.Lists.{all_of, contains_head, of_all, contains_cases, contains_tail}
+use Rattle.archive_core.proofs.MoveLimbo.{HaveMachine, same_back as back_of_limbo, own_is, is_of_machine, from_put, have_durable, later_same, none_put, own_free, own_part, has_file, back_at, back_inside, none_window, own_named, some_window, GoTogether, put_append, put_together, rises_before, same_filter, RevivesAs, revives, GoesWith, window_has, StartBy, put_first, holds_at}
+use Rattle.tier_store.specs.Reviving.{AreBack, past}
+use Rattle.archive_core.proofs.Batches.{told_stands}
+use Rattle.tier_store.specs.Revival as revival
+use Rattle.std.proofs.Math.Seq.{drop-append_seam}
+use Rattle.pv_catalog.specs.Catalogue.{CatalogueState}
+use Rattle.series_model.specs.declared.batch.RowSamples.{RowSamples}
+use Rattle.series_model.proofs.OverLemmas.{end_of-over}
+use Rattle.series_model.proofs.RisingLists.{RisesFrom-lower, end_from-ge}
+use Rattle.tier_store.specs.Change.{IsKnown}
+use Rattle.tier_store.proofs.Places.{manifest_at, granularity_at}
+use Rattle.tier_store.proofs.Revived.{flush_revives}
+use Rattle.act_model.specs.Changes.{of_row}
+use Rattle.act_model.specs.Crash.{kept_of}
+use Rattle.act_model.specs.Sound.{LimboSound, MayMake, CopiesOf}
+use Rattle.archive_core.proofs.Windows.{batch_behind, kept_to, taken_durable, files_held, all_in}
+use Rattle.act_model.proofs.Copies.{all_append, all_front}
+use Rattle.partition_names.specs.declared.granularity.Granularity.{Granularity}
+use Rattle.partition_names.proofs.PartLemmas.{one_part, within}
+use Rattle.store_manifest.specs.Entries.{Place}
+use Rattle.store_manifest.specs.declared.entry.Entry.{Entry}
+use Rattle.durable_write.specs.Plan.{of_row as filed_of_row}
+use Rattle.tier_store.specs.Moving.{RunsBeside}
+use Rattle.tier_store.specs.Pinned.{SeenAll, beside, KeepsShown}
+use Rattle.tier_store.specs.Retiring.{oldest}
 use Rattle.act_model.specs.MoveStep.{is_later, remaining}
-use Rattle.act_model.specs.Rows.{RowState, Store, Short, Medium, Long, holds, next_store, tier, is_empty, window}
 use Rattle.act_model.specs.Rule.{index_of}
-use Rattle.act_model.specs.Sound.{CopiesOf}
 use Rattle.archive_core.specs.MoveChoice.{move_end}
 use Rattle.archive_core.specs.MoveTies.{GetsOne, GoInto, HasCopies, ends_from}
-use Rattle.archive_core.proofs.Batches.{told_stands}
-use Rattle.archive_core.proofs.LimboLists.{contains_filter, from_filter}
-use Rattle.archive_core.proofs.ListEnds.{own_entries}
-use Rattle.archive_core.proofs.Windows.{files_held, all_in}
-use Rattle.archive_core.proofs.MoveChanges.{before_oldest, end_put}
-use Rattle.archive_core.proofs.MoveLimbo.{HaveMachine, from_put, have_durable, later_same, none_put, own_free, own_part, same_back, has_file, back_at, back_inside, none_window, own_named, some_window, GoTogether, put_append, put_together, rises_before, same_filter, RevivesAs, revives, GoesWith, window_has}
-use Rattle.archive_core.proofs.SameNames.{all_of, contains_cases, contains_head, contains_tail, of_all}
-use Rattle.archive_core.proofs.MoveChoice.{ahead_own, from_zero}
-use Rattle.archive_core.proofs.PutFirst.{holds_at}
-use Rattle.durable_write.proofs.Revival.{put_all_new}
-use Rattle.tier_store.specs.Reviving.{AreBack, past}
+use Rattle.archive_core.proofs.LimboTying.{contains_filter, from_filter}
+use Rattle.archive_core.proofs.MoveChoice.{own_entries, before_oldest, end_put, ahead_own, from_zero}
+use Rattle.durable_write.proofs.Written.{put_all_new}
 use Rattle.std.proofs.lemmas.List.{take-append-drop}
 use Rattle.disk_model.specs.Files.{Content, Name}
 use Rattle.disk_model.specs.Past.{MayLeave}
@@ -54,12 +60,151 @@ use Rattle.pb_lines.specs.File.{IsFile}
 use Rattle.pb_lines.proofs.FileLines.{GoesOn}
 use Rattle.pb_lines.proofs.FileMeaning.{begin_alike}
 use Rattle.store_files.specs.Fronts.{Begins}
-use Rattle.act_model.specs.OpenPiece.{bytes_of as piece_bytes}
 use Rattle.archive_core.specs.LimboTies.{filed_of}
 use Rattle.archive_core.proofs.Opens.{told_tells}
-use Rattle.archive_core.proofs.PinMade.{lines_same}
+use Rattle.archive_core.proofs.LimboSwept.{lines_same}
 use Rattle.std.proofs.lemmas.List.Folds.{Any-from_list_any, list_any-from_Any}
 use Rattle.tier_store.proofs.CopyLimbo.{since_low}
+use Rattle.etl_mover.specs.Move.{MoveState as Moving}
+use Rattle.act_model.specs.OpenPiece.{bytes_of as piece_bytes}
+
+-- A flush that goes on in files of limbo: what the stores make of a row's samples is what the machine makes of them.
+
+-- SAMPLES
+
+-- samples that are all before n end no later
+end_by : (k n : ℕ) (xs : List Sample) → k ≤ n → AllByRecursion (λ (s : Sample). s.t < n) xs → end_from k xs ≤ n
+end_by k n [] low all = low
+end_by k n (x ∷ xs) low all = let first = all.0 in end_by (x.t + 1) n xs (omega (arith, first)) all.1
+
+-- rising samples are before their end
+before_end : (k n : ℕ) (xs : List Sample) → RisesFrom k xs → end_from k xs ≤ n → AllByRecursion (λ (s : Sample). s.t < n) xs
+before_end k n [] rises low = tt
+before_end k n (x ∷ xs) rises low = let end = end_from-ge (x.t + 1) xs rises.1 in (omega (arith, end, low), before_end (x.t + 1) n xs rises.1 low)
+
+all_rest : (P : Sample → Type 0) (xs ys : List Sample) → AllByRecursion P (xs ++ ys) → AllByRecursion P ys
+all_rest P [] ys all = all
+all_rest P (x ∷ xs) ys all = all_rest P xs ys all.1
+
+-- what is true of all samples of a row is true of those of each of its files
+abbrev OfRow : (Sample → Type 0) → ℕ → Filed → Type 0
+OfRow P i f = f.entry.series ≡ i → AllByRecursion P f.samples
+
+each_of_row : (P : Sample → Type 0) (i : ℕ) (files : List Filed) → AllByRecursion P (samples_of i files) → AllByRecursion (OfRow P i) files
+each_of_row P i [] all = tt
+each_of_row P i (f ∷ files) all = by_test (nat_eq f.entry.series i) refl all (each_of_row P i files)
+  where
+    by_test : (b : Bool) → nat_eq f.entry.series i ≡ b → AllByRecursion P (flat_map (λ (h : Filed). h.samples) (cond b (f ∷ filter (λ (h : Filed). nat_eq h.entry.series i) files) (filter (λ (h : Filed). nat_eq h.entry.series i) files))) → (AllByRecursion P (samples_of i files) → AllByRecursion (OfRow P i) files) → AllByRecursion (OfRow P i) (f ∷ files)
+    by_test true is both more = ((λ own_files. all_front P f.samples (samples_of i files) both), more (all_rest P f.samples (samples_of i files) both))
+    by_test false is rest more = ((λ own_files. absurd (let yes : nat_eq f.entry.series i ≡ true = grind (arith, nat_tests, own_files) in let both : true ≡ false = sym yes ∙ is in cc (both))), more rest)
+
+-- and the other way round
+row_of_each : (P : Sample → Type 0) (i : ℕ) (files : List Filed) → AllByRecursion (OfRow P i) files → AllByRecursion P (samples_of i files)
+row_of_each P i [] all = tt
+row_of_each P i (f ∷ files) all = by_test (nat_eq f.entry.series i) refl (row_of_each P i files all.1)
+  where
+    by_test : (b : Bool) → nat_eq f.entry.series i ≡ b → AllByRecursion P (samples_of i files) → AllByRecursion P (flat_map (λ (h : Filed). h.samples) (cond b (f ∷ filter (λ (h : Filed). nat_eq h.entry.series i) files) (filter (λ (h : Filed). nat_eq h.entry.series i) files)))
+    by_test true is rest = all_append P f.samples (samples_of i files) (all.0 (grind (arith, nat_tests, is))) rest
+    by_test false is rest = rest
+
+module _ (tells : Bool) (at : Seen) (limbo : List Retired) (m : Machine) (held : Stores) (have : HaveMachine tells at limbo m held) (told : m.told ≡ true)
+    (files : List Filed) (whole : AreWhole 0 tells at limbo held.stands files) (batch : List RowSamples) (made : Stores) (by : FlushesOver limbo files batch held made) (i : ℕ) (r : RowState) (here : slice_get m.rows i ≡ Some r) where
+  first : (m : ManifestState) × (slice_get at.manifests 0 ≡ Some m)
+  first = manifest_at at.manifests 0 (let three = have.has.known.three in omega (arith, three))
+
+  they_stand : IsTrue held.stands
+  they_stand = told_stands tells m.told held.stands have.told_is told
+
+  -- those of the machine, of this row in store 1
+  abbrev own_files : List FileState
+  own_files = files_of i Short m.limbo
+
+  back_is : AreBack 0 limbo files held.short by.back
+  back_is = let back = by.in_limbo in record { known = back.known; unlisted = back.unlisted; from = back.from; every = back.every }
+
+  of_own : (f : FileState) → Contains own_files f → Contains m.limbo f × (f.row ≡ i) × (f.store ≡ Short)
+  of_own f there = own_is tells at limbo m held have told Short first.0 first.1 i r here files whole held.short (λ p none. none) by.back back_is f there
+
+  was : r.short ≡ samples_of i held.short
+  was = (have.holds.each i (kept_of r) (kept_to m.rows i r here)).is.short told
+
+  same_back : (s : Sample) → samples_at by.back i s.t ≡ revived own_files r.short s
+  same_back s =
+      let known = have.has.known.each 0 first.0 first.1 in
+      back_of_limbo tells at limbo m held have told Short first.0 first.1 i r here files whole held.short (λ p none. none) by.back back_is (known.valid.filed.filed they_stand) known.valid.apart s
+      ∙ ap (λ (xs : List Sample). revived own_files xs s) (sym was)
+
+  -- WHERE THE BATCH GOES
+
+  row_sound : (end_of (deep r Short) ≤ end_of (durable r)) × (end_of r.short ≤ end_of (durable r))
+  row_sound = let row = have.sound.each_row i r here in let end = end_of-over (deep r Short) r.short row.short in (omega (arith, end), omega (arith, end))
+
+  covered : (f : FileState) → Contains own_files f → end_of f.samples ≤ end_of (durable r)
+  covered f there =
+      let of = of_own f there in
+      let is = of_all (LimboSound m.rule m.told m.rows) m.limbo f have.sound.each_file of.0 in
+      let low : end_of f.samples ≤ end_of (deep r f.store) = is.covered r (ap (slice_get m.rows) of.1 ∙ here) told in
+      let store : end_of (deep r f.store) ≡ end_of (deep r Short) = ap (λ (s : Store). end_of (deep r s)) of.2 in
+      let deeper = row_sound.0 in
+      omega (arith, low, store, deeper)
+
+  -- each of the files starts before what is later than all that is durable
+  starts : (n : ℕ) → end_of (durable r) ≤ n → StartBy n own_files
+  starts n late = all_of (λ (f : FileState). f.part.start ≤ n) own_files (λ f there.
+      let of = of_own f there in
+      let is = (have.tie.retired told).each f of.0 in
+      let is_filed = is.is.filed in
+      let some : f.samples ≡ is_filed.first ∷ is_filed.others = is_filed.some in
+      let rises : RisesFrom 0 (is_filed.first ∷ is_filed.others) = subst (λ (xs : List Sample). RisesFrom 0 xs) some is_filed.file.rising in
+      let inside : All (λ (s : Sample). HoldsMoment is.file.entry.part s.t) (is_filed.first ∷ is_filed.others) = subst (λ (xs : List Sample). All (λ (s : Sample). HoldsMoment is.file.entry.part s.t) xs) some is_filed.inside in
+      let from = (All-contains (λ (s : Sample). HoldsMoment is.file.entry.part s.t) (is_filed.first ∷ is_filed.others) is_filed.first inside (contains_head is_filed.first is_filed.others)).0 in
+      let end = end_from-ge (is_filed.first.t + 1) is_filed.others rises.1 in
+      let whole_end : end_of f.samples ≡ end_from (is_filed.first.t + 1) is_filed.others = ap end_of some in
+      let low = covered f there in
+      let start : is.file.entry.part.start ≡ f.part.start = ap (λ (p : Part). p.start) is.is.part in
+      omega (arith, from, end, whole_end, low, start, late))
+
+  -- the moment is before the end of what is durable
+  abbrev IsBefore : Sample → Type 0
+  IsBefore s = s.t < end_of (durable r)
+
+  -- all that store 1 lists and has in limbo of the row ends where what is durable does, or sooner
+  both_end : end_of (samples_of i (put_all held.short by.back)) ≤ end_of (durable r)
+  both_end = end_by 0 (end_of (durable r)) (samples_of i (put_all held.short by.back)) (omega arith) (row_of_each IsBefore i (put_all held.short by.back) (recursion_from_All (OfRow IsBefore i) (put_all held.short by.back) (all_put_all (OfRow IsBefore i) held.short by.back (All-from_recursion (OfRow IsBefore i) held.short listed) (All-from_recursion (OfRow IsBefore i) by.back back))))
+    where
+      listed : AllByRecursion (OfRow IsBefore i) held.short
+      listed = each_of_row IsBefore i held.short (subst (λ (xs : List Sample). AllByRecursion IsBefore xs) was (before_end 0 (end_of (durable r)) r.short (have.sound.each_row i r here).short row_sound.1))
+
+      back : AllByRecursion (OfRow IsBefore i) by.back
+      back = all_of (OfRow IsBefore i) by.back (λ h within series.
+          let o = is_of_machine tells at limbo m held have told Short first.0 first.1 i r here files whole held.short (λ p none. none) by.back back_is h within series in
+          let rises = (of_all (LimboSound m.rule m.told m.rows) m.limbo o.f have.sound.each_file (of_own o.f o.there).0).rising told in
+          subst (λ (xs : List Sample). AllByRecursion IsBefore xs) (sym o.samples) (before_end 0 (end_of (durable r)) o.f.samples rises (covered o.f o.there)))
+
+  module _ (may : MayMake m.rule m.told m.rows m.limbo (Appends batch)) where
+    later : RisesFrom (end_of (durable r)) (of_row i batch)
+    later = taken_durable m batch i r have.sound may here
+
+    -- the batch is behind all that store 1 lists and has in limbo of the row
+    pub batch_over : with_batch i (samples_of i (put_all held.short by.back)) batch ≡ samples_of i (put_all held.short by.back) ++ of_row i batch
+    batch_over = let both = samples_of i (put_all held.short by.back) in batch_behind batch i both (RisesFrom-lower (end_of both) (end_of (durable r)) (of_row i batch) later both_end)
+
+    fresh_is : fresh i (samples_of i (put_all held.short by.back)) batch ≡ of_row i batch
+    fresh_is = let both = samples_of i (put_all held.short by.back) in ap (drop (length both)) batch_over ∙ drop-append_seam both (of_row i batch)
+
+    -- what the stores put behind the list is what the machine puts there
+    put_is : (xs : List Sample) → RisesFrom (end_of (durable r)) xs → samples_of i held.short ++ (revival.revived by.back i xs ++ xs) ≡ put xs own_files r.short
+    put_is [] rises = append-nil (samples_of i held.short) ∙ sym was
+    put_is (s ∷ xs) rises =
+        ap (λ (ys : List Sample). samples_of i held.short ++ (ys ++ s ∷ xs)) (same_back s)
+        ∙ (ap (λ (ys : List Sample). ys ++ (revived own_files r.short s ++ s ∷ xs)) (sym was) ∙ sym (put_first s xs own_files r.short (starts s.t rises.0) rises.1))
+
+    pub short_over : (next : CatalogueState) (ns : List ManifestState) → IsKnown next ns made → granularities ns ≡ granularities at.manifests → samples_of i made.short ≡ put (of_row i batch) (files_of i Short m.limbo) r.short
+    short_over next ns known same_g =
+        flush_revives tells at next ns limbo files batch held made have.has.known known same_g they_stand whole by i
+        ∙ (ap (λ (xs : List Sample). samples_of i held.short ++ (revival.revived by.back i xs ++ xs)) fresh_is ∙ put_is (of_row i batch) later)
+
+-- A step of copying: what is left to copy is what remains, and what is ahead then is what the machine puts there.
 
 -- TESTS OF LISTS
 
@@ -254,7 +399,7 @@ module _ (tells : Bool) (at : Seen) (limbo : List Retired) (m : Machine) (held :
         → past back move.row (since (end_of (samples_of move.row ahead)) (all_in (oldest (index_of move.store) move.row count held))) ≡ remaining m r move
     left_remains count ends =
         let source = list_at (index_of move.store) held in
-        let fs = of_row move.row source in
+        let fs = filed_of_row move.row source in
         let is = files_held at.catalogue at.manifests held m (have_durable tells at limbo m held have rule) told move.row r here move.store in
         let last : move.to ≡ ends_from 0 (take count (map entry_of fs)) = ends ∙ ap (λ (es : List Entry). ends_from 0 (take count es)) (sym (own_entries move.row source)) in
         let front : all_in (take count fs) ≡ before move.to (tier r move.store) = sym (before_oldest is.unit held.rows 0 count fs is.filed is.apart (from_zero fs)) ∙ (λ k. before (sym last k) (sym is.samples k)) in
@@ -266,7 +411,7 @@ module _ (tells : Bool) (at : Seen) (limbo : List Retired) (m : Machine) (held :
     put_more [] together = append-nil (samples_of move.row ahead) ∙ (copies ∙ sym (put_append move.copied [] own (tier r to)))
     put_more (s ∷ xs) together =
         let all = samples_of move.row ahead in
-        let back_is : samples_at back move.row s.t ≡ revived own all s = same_back tells at limbo m held have told to n managed move.row r here retired whole ahead leads back in_limbo filed (rise_put_all listed files rise_listed) s in
+        let back_is : samples_at back move.row s.t ≡ revived own all s = back_of_limbo tells at limbo m held have told to n managed move.row r here retired whole ahead leads back in_limbo filed (rise_put_all listed files rise_listed) s in
         ap (λ (ys : List Sample). all ++ (ys ++ s ∷ xs)) back_is
         ∙ (sym (put_together s xs own all together) ∙ (ap (put (s ∷ xs) own) copies ∙ sym (put_append move.copied (s ∷ xs) own (tier r to))))
 
@@ -276,8 +421,8 @@ module _ (tells : Bool) (at : Seen) (limbo : List Retired) (m : Machine) (held :
       -- a sample that is copied stands in a file that is to be listed
       one_into : (s : Sample) → Contains (move.copied ++ copied) s → list_any (λ (f : Filed). holds f.entry.part s.t) more ≡ true
       one_into s there =
-          let inside : Contains (all_in (of_row move.row (put_all listed more))) s = subst (λ (xs : List Sample). Contains xs s) (sym more_is) (put_has (move.copied ++ copied) own (tier r to) s there) in
-          let one = in_one (of_row move.row (put_all listed more)) s inside in
+          let inside : Contains (all_in (filed_of_row move.row (put_all listed more))) s = subst (λ (xs : List Sample). Contains xs s) (sym more_is) (put_has (move.copied ++ copied) own (tier r to) s there) in
+          let one = in_one (filed_of_row move.row (put_all listed more)) s inside in
           by_file one.0 one.1 one.2
         where
           late : end_of (tier r to) ≤ s.t
@@ -286,11 +431,11 @@ module _ (tells : Bool) (at : Seen) (limbo : List Retired) (m : Machine) (held :
           was_listed : (h : Filed) → Contains listed h → h.entry.series ≡ move.row → Contains h.samples s → ⊥
           was_listed h was own_row has =
               let inside = contains_filter (λ (x : Filed). nat_eq x.entry.series move.row) listed h was (grind (arith, nat_tests, own_row)) in
-              let in_tier : Contains (tier r to) s = subst (λ (xs : List Sample). Contains xs s) (sym own_tier) (in_all (of_row move.row listed) h s inside has) in
+              let in_tier : Contains (tier r to) s = subst (λ (xs : List Sample). Contains xs s) (sym own_tier) (in_all (filed_of_row move.row listed) h s inside has) in
               let early = (of_all (λ (x : Sample). (0 ≤ x.t) × (x.t < end_of (tier r to))) (tier r to) s (rises_before 0 (tier r to) (tier_rises to)) in_tier).1 in
               omega (arith, early, late)
 
-          by_file : (h : Filed) → Contains (of_row move.row (put_all listed more)) h → Contains h.samples s → list_any (λ (f : Filed). holds f.entry.part s.t) more ≡ true
+          by_file : (h : Filed) → Contains (filed_of_row move.row (put_all listed more)) h → Contains h.samples s → list_any (λ (f : Filed). holds f.entry.part s.t) more ≡ true
           by_file h among has =
               let from = from_filter (λ (x : Filed). nat_eq x.entry.series move.row) (put_all listed more) h among in
               let test = from.1 in
@@ -307,7 +452,7 @@ module _ (tells : Bool) (at : Seen) (limbo : List Retired) (m : Machine) (held :
 
       -- Where nothing is listed in the place of a file that is to be, one of all copied samples lies in its partition.
       into_free : new.series ≡ move.row → (f : Filed) → Contains more f → file_at (filed_at f) listed ≡ None → list_any (λ (s : Sample). holds f.entry.part s.t) (move.copied ++ copied) ≡ true
-      into_free new_series f written free = by_case (put_from (move.copied ++ copied) own (tier r to) y (subst (λ (xs : List Sample). Contains xs y) more_is (in_all (of_row move.row (put_all listed more)) f y among in_f)))
+      into_free new_series f written free = by_case (put_from (move.copied ++ copied) own (tier r to) y (subst (λ (xs : List Sample). Contains xs y) more_is (in_all (filed_of_row move.row (put_all listed more)) f y among in_f)))
         where
           f_is : IsFiled n.granularity held.rows f
           f_is = All-contains (IsFiled n.granularity held.rows) more f (files_filed all same_g new more then) written
@@ -324,12 +469,12 @@ module _ (tells : Bool) (at : Seen) (limbo : List Retired) (m : Machine) (held :
           own_row : f.entry.series ≡ move.row
           own_row = of_all (λ (h : Filed). h.entry.series ≡ new.series) more f (ahead_own place tells all new more held then) written ∙ new_series
 
-          among : Contains (of_row move.row (put_all listed more)) f
+          among : Contains (filed_of_row move.row (put_all listed more)) f
           among = contains_filter (λ (h : Filed). nat_eq h.entry.series move.row) (put_all listed more) f (put_all_new more listed f then.ahead.rise written) (grind (arith, nat_tests, own_row))
 
           was_listed : Contains (tier r to) y → ⊥
           was_listed there =
-              let one = in_one (of_row move.row listed) y (subst (λ (xs : List Sample). Contains xs y) own_tier there) in
+              let one = in_one (filed_of_row move.row listed) y (subst (λ (xs : List Sample). Contains xs y) own_tier there) in
               let h : Filed = one.0 in
               let from = from_filter (λ (x : Filed). nat_eq x.entry.series move.row) listed h one.1 in
               let test = from.1 in
@@ -389,7 +534,7 @@ module _ (tells : Bool) (at : Seen) (limbo : List Retired) (m : Machine) (held :
       never f there none x has lies apart =
           let were = samples_of move.row ahead in
           let came = samples_at back move.row s.t in
-          let fs = of_row move.row (put_all listed more) in
+          let fs = filed_of_row move.row (put_all listed more) in
           let one = in_one fs x (subst (λ (ys : List Sample). Contains ys x) (sym ahead_is) (Contains-append_right were (came ++ s ∷ xs) x (Contains-append_right came (s ∷ xs) x has))) in
           let h : Filed = one.0 in
           let from = from_filter (λ (g : Filed). nat_eq g.entry.series move.row) (put_all listed more) h one.1 in

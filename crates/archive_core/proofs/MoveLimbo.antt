@@ -1,18 +1,17 @@
--- The files in limbo of the store to which a move copies: those that may come back are the machine's, and what it puts among them.
-use Rattle.std.proofs.Common.{◌≡◌, ◌⊎◌, inl, inr, ℕ, ◌+◌, ◌<◌, ◌≤◌, List, [], ◌∷◌, ◌++◌, Bool, true, false, cond, sym, refl, ◌∙◌, ap, arith, append_assoc, append-nil, length, map, Option, Some, None, subst}
+-- The files in limbo of the store to which a move copies, and what is put among them and behind a row's list.
+use Rattle.std.proofs.Common.{◌≡◌, ℕ, ◌+◌, ◌<◌, ◌≤◌, List, [], ◌∷◌, ◌++◌, Bool, true, false, cond, sym, refl, ◌∙◌, ap, arith, append_assoc, append-nil, ◌⊎◌, inl, inr, length, map, Option, Some, None, subst}
 use Rattle.std.specs.List.{AllByRecursion}
-use Rattle.std.specs.Prelude.{◌&&◌, Contains, filter, nat_le, ◌==◌, ◌≢◌, All, IsTrue, nat_eq, nat_lt, slice_get}
+use Rattle.std.specs.Prelude.{nat_le, nat_lt, ◌&&◌, Contains, filter, ◌==◌, ◌≢◌, All, IsTrue, nat_eq, slice_get}
 use Rattle.std.proofs.lemmas.Bool.Decides.{nat_tests}
 use Rattle.partition_names.specs.declared.part.Part.{Part}
 use Rattle.series_model.specs.declared.sample.Sample.{Sample}
-use Rattle.series_model.specs.Series.{end_from, end_of, RisesFrom}
-use Rattle.series_model.proofs.RisingLists.{end_from-ge}
+use Rattle.series_model.specs.Series.{RisesFrom, since, end_from, end_of}
 use Rattle.act_model.specs.Limbo.{FileState, revived, put, files_of}
-use Rattle.act_model.specs.MoveStep.{is_later}
 use Rattle.act_model.specs.Rows.{window, holds, is_empty, RowState, Store, same_store}
 use Rattle.act_model.proofs.Puts.{window-append}
-use Rattle.archive_core.proofs.PutFirst.{some_back, some_front, window_own}
-use Rattle.archive_core.proofs.SameNames.{contains_cases, contains_head, contains_tail, all_of, of_all}
+use Rattle.series_model.proofs.RisingLists.{RisesFrom-lower, end_from-ge}
+use Rattle.act_model.specs.MoveStep.{is_later}
+use Rattle.archive_core.proofs.Lists.{contains_cases, contains_head, contains_tail, all_of, of_all}
 use Rattle.std.proofs.lemmas.List.Elements.{All-contains, All-contains_itself, All-filter, All-from_recursion}
 use Rattle.disk_model.specs.Files.{Name}
 use Rattle.disk_model.specs.Past.{MayLeave}
@@ -29,10 +28,9 @@ use Rattle.store_manifest.specs.declared.entry.Entry.{Entry}
 use Rattle.durable_write.specs.Flush.{PlacesRise, file_at, is_place, put_all}
 use Rattle.durable_write.specs.Held.{Filed, IsFiled, IsIn, IsListed, entry_of, file_of, filed_at}
 use Rattle.durable_write.specs.Plan.{of_row}
-use Rattle.durable_write.proofs.Ahead.{contains_entry, put_has, put_itself}
-use Rattle.durable_write.proofs.Listed.{all_put_all, found, is_place-same, is_place-true, listed_at, rise_put_all, rise_filter}
-use Rattle.durable_write.proofs.Names.{same_file}
-use Rattle.durable_write.proofs.There.{contains_map}
+use Rattle.durable_write.proofs.Written.{contains_entry, put_has, put_itself, one_of_place as one_of_list}
+use Rattle.durable_write.proofs.Places.{all_put_all, found, is_place-same, is_place-true, listed_at, rise_put_all, rise_filter}
+use Rattle.durable_write.proofs.Staying.{same_file, contains_map, same_front}
 use Rattle.tier_store.specs.Change.{Has}
 use Rattle.tier_store.specs.Limbo.{IsListedName, IsOfPlace, ListsPlace}
 use Rattle.tier_store.specs.Pinned.{beside}
@@ -41,9 +39,8 @@ use Rattle.tier_store.specs.Seen.{Seen, granularities}
 use Rattle.tier_store.specs.Stores.{Stores, list_at}
 use Rattle.tier_store.specs.declared.limbo.Retired.{Retired}
 use Rattle.tier_store.specs.Reviving.{AreBack}
-use Rattle.tier_store.proofs.Places.{one_manifest}
-use Rattle.tier_store.proofs.Rising.{own_series}
-use Rattle.tier_store.proofs.Staying.{as_filed, listed_place, retired_listed}
+use Rattle.tier_store.proofs.Places.{one_manifest, own_series}
+use Rattle.tier_store.proofs.Removals.{as_filed, listed_place, retired_listed}
 use Rattle.act_model.specs.Machine.{Machine}
 use Rattle.act_model.specs.OpenPiece.{bytes_of}
 use Rattle.act_model.specs.Rule.{index_of}
@@ -54,15 +51,77 @@ use Rattle.archive_core.specs.LimboTies.{IsRetiredOf, IsLimboOf, filed_of}
 use Rattle.archive_core.specs.MoveChoice.{HaveDurable}
 use Rattle.archive_core.specs.Stands.{HoldsDurable}
 use Rattle.archive_core.proofs.Batches.{told_stands}
-use Rattle.archive_core.proofs.LimboLists.{contains_filter, from_filter, none_starts}
+use Rattle.archive_core.proofs.LimboTying.{contains_filter, from_filter, none_starts}
 use Rattle.archive_core.proofs.Opens.{told_tells}
-use Rattle.archive_core.proofs.PinMade.{lines_same}
+use Rattle.archive_core.proofs.LimboSwept.{lines_same, one_store, store_itself}
 use Rattle.archive_core.proofs.Windows.{AreApart, all_in, row_apart, windows}
-use Rattle.archive_core.proofs.LimboSwept.{one_store, store_itself}
-use Rattle.durable_write.proofs.Revival.{one_of_place as one_of_list}
-use Rattle.durable_write.proofs.Unique.{same_front}
 use Rattle.durable_write.specs.Held as held_files
 use Rattle.store_manifest.specs.Entries as entries
+
+-- What a batch puts behind a row's list: what comes back before its first sample, and the batch.
+
+-- a sample is listed: whatever partition it lies in has samples
+abbrev IsSeen : Sample → List Sample → Type 0
+IsSeen s xs = (part : Part) → holds part s.t ≡ true → is_empty (window part xs) ≡ false
+
+pub some_front : (xs ys : List Sample) → is_empty xs ≡ false → is_empty (xs ++ ys) ≡ false
+some_front [] ys some = absurd (cc (some))
+some_front (x ∷ xs) ys some = refl
+
+pub some_back : (xs ys : List Sample) → is_empty ys ≡ false → is_empty (xs ++ ys) ≡ false
+some_back [] ys some = some
+some_back (x ∷ xs) ys some = refl
+
+pub holds_at : (part : Part) (t : ℕ) → part.start ≤ t → t < part.end → holds part t ≡ true
+holds_at part t from to = grind (arith, nat_tests, from, to)
+
+pub window_own : (part : Part) (s : Sample) → holds part s.t ≡ true → window part (s ∷ []) ≡ s ∷ []
+window_own part s is =
+    let to : s.t < part.end = grind (arith, nat_tests, is) in
+    let from : part.start ≤ s.t = grind (arith, nat_tests, is) in
+    let under : nat_lt s.t part.end ≡ true = grind (arith, nat_tests, to) in
+    let above : nat_le part.start s.t ≡ true = grind (arith, nat_tests, from) in
+    ap (λ (b : Bool). since part.start (cond b (s ∷ []) [])) under ∙ ap (λ (b : Bool). cond b (s ∷ []) []) above
+
+seen_more : (s : Sample) (xs ys : List Sample) → IsSeen s xs → IsSeen s (xs ++ ys)
+seen_more s xs ys seen = λ part is. ap is_empty (window-append part xs ys) ∙ some_front (window part xs) (window part ys) (seen part is)
+
+seen_last : (s : Sample) (xs ys : List Sample) → IsSeen s (xs ++ (ys ++ s ∷ []))
+seen_last s xs ys = λ part is.
+    ap is_empty (window-append part xs (ys ++ s ∷ []) ∙ ap (λ (w : List Sample). window part xs ++ w) (window-append part ys (s ∷ [])))
+    ∙ some_back (window part xs) (window part ys ++ window part (s ∷ [])) (some_back (window part ys) (window part (s ∷ [])) (ap is_empty (window_own part s is)))
+
+-- none of the files' partitions starts later than n
+abbrev pub StartBy : ℕ → List FileState → Type 0
+StartBy n files = AllByRecursion (λ (f : FileState). f.part.start ≤ n) files
+
+-- nothing comes back before a later sample
+none_later : (files : List FileState) (listed : List Sample) (s x : Sample) → StartBy s.t files → s.t ≤ x.t → IsSeen s listed → revived files listed x ≡ []
+none_later [] listed s x starts late seen = refl
+none_later (f ∷ files) listed s x starts late seen = by_test (holds f.part x.t) refl (none_later files listed s x starts.1 late seen)
+  where
+    by_test : (b : Bool) → holds f.part x.t ≡ b → revived files listed x ≡ [] → cond b (cond (is_empty (window f.part listed)) f.samples []) (revived files listed x) ≡ []
+    by_test true is rest =
+        let low = starts.0 in
+        let end : x.t < f.part.end = grind (arith, nat_tests, is) in
+        ap (λ (b : Bool). cond b f.samples []) (seen f.part (holds_at f.part s.t low (omega (arith, late, end))))
+    by_test false is rest = rest
+
+put_after : (xs : List Sample) (files : List FileState) (listed : List Sample) (s : Sample) → StartBy s.t files → RisesFrom (s.t + 1) xs → IsSeen s listed → put xs files listed ≡ listed ++ xs
+put_after [] files listed s starts rises seen = sym (append-nil listed)
+put_after (x ∷ xs) files listed s starts rises seen =
+    let low = rises.0 in
+    let none : revived files listed x ≡ [] = none_later files listed s x starts (omega (arith, low)) seen in
+    ap (λ (ys : List Sample). put xs files (listed ++ (ys ++ x ∷ []))) none
+    ∙ (put_after xs files (listed ++ x ∷ []) s starts (RisesFrom-lower (s.t + 1) (x.t + 1) xs rises.1 (omega (arith, low))) (seen_more s listed (x ∷ []) seen) ∙ append_assoc listed (x ∷ []) xs)
+
+pub put_first : (s : Sample) (xs : List Sample) (files : List FileState) (listed : List Sample) → StartBy s.t files → RisesFrom (s.t + 1) xs → put (s ∷ xs) files listed ≡ listed ++ (revived files listed s ++ s ∷ xs)
+put_first s xs files listed starts rises =
+    let back = revived files listed s in
+    put_after xs files (listed ++ (back ++ s ∷ [])) s starts rises (seen_last s listed back)
+    ∙ (append_assoc listed (back ++ s ∷ []) xs ∙ ap (λ (ys : List Sample). listed ++ ys) (append_assoc back (s ∷ []) xs))
+
+-- The files in limbo of the store to which a move copies: those that may come back are the machine's, and what it puts among them.
 
 -- LISTS
 

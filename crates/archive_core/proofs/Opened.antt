@@ -1,54 +1,83 @@
--- The machine of an archive that was just opened.
-use Rattle.std.proofs.Common.{◌≡◌, inl, ℕ, zero, suc, ◌+◌, List, [], ◌∷◌, ◌++◌, ◌<◌, ◌≤◌, get_or, length, length-append, append-nil, Bool, true, false, Option, Some, None, max, refl, sym, ◌∙◌, ap, subst, arith}
-use Rattle.std.specs.Prelude.{◌&&◌, slice_get, map, IsTrue}
+-- The machine of an archive that was just opened, and acts that only read.
+use Rattle.std.proofs.Common.{◌≡◌, List, true, refl, sym, ◌∙◌, ap, subst, ℕ, length, Bool, Some, inl, zero, suc, [], ◌∷◌, arith, ◌+◌, ◌++◌, ◌<◌, ◌≤◌, get_or, length-append, append-nil, false, Option, None, max, inr}
+use Rattle.std.specs.Prelude.{slice_get, IsTrue, ◌&&◌, map, slice_index}
+use Rattle.std.proofs.lemmas.Option.{same_Some}
+use Rattle.pv_catalog.specs.declared.row.Row.{Row}
+use Rattle.tier_store.specs.Stores.{Stores, list_at, whole_in}
+use Rattle.act_model.specs.Machine.{Machine, PinState, MoveState, held_bytes, find_row}
+use Rattle.act_model.specs.Rows.{accepted, RowState, Store, Short, Medium, Long, durable, tier}
+use Rattle.std.proofs.lemmas.List.{length-map}
+use Rattle.series_model.specs.Series.{over, end_of, IsRising}
+use Rattle.series_model.specs.declared.sample.Sample.{Sample}
+use Rattle.store_manifest.specs.Manifest.{ManifestState}
+use Rattle.durable_write.specs.Held.{Filed, samples_of}
+use Rattle.tier_store.specs.Change.{Has, OnlyReads}
+use Rattle.tier_store.specs.Pinned.{beside, SeenAll, LeavesFronts}
+use Rattle.tier_store.specs.Seen.{Seen, granularities, AtEach, IsSettled}
+use Rattle.act_model.specs.Crash.{DurableRow, kept, kept_of}
+use Rattle.act_model.specs.NextLife.{opened, listed_row, with_next}
+use Rattle.act_model.specs.Rule.{Rule, index_of}
+use Rattle.act_model.specs.Whole.{whole, known, past, wholes, AllFollow}
+use Rattle.archive_core.specs.Opening.{IsOpened, end_at, memories, memory_of, next_in}
+use Rattle.archive_core.specs.Stands.{Rests, IsDurable, HoldsDurable, HasSettings, TellsHeaders, Stands, AreDurable, IsDurableAt}
+use Rattle.durable_write.specs.Ends.{End, IsFailed}
+use Rattle.archive_core.specs.Parts.{Parts}
 use Rattle.std.specs.FinMap.{FinMap, get, empty, get-empty}
 use Rattle.std.specs.Ordering.{nat_cmp}
 use Rattle.std.proofs.lemmas.Bool.Decides.{nat_tests}
-use Rattle.std.proofs.lemmas.List.{length-map}
-use Rattle.std.proofs.lemmas.Option.{same_Some}
 use Rattle.series_model.specs.Sampling.{first_cell}
-use Rattle.series_model.specs.Series.{end_of, over, IsRising}
-use Rattle.series_model.specs.declared.sample.Sample.{Sample}
 use Rattle.series_model.proofs.OverLemmas.{end_of-over, over_rising}
 use Rattle.pv_name.specs.Key.{key_of}
-use Rattle.pv_catalog.specs.Rows.{AreRows, HasKey}
-use Rattle.pv_catalog.specs.declared.row.Row.{Row}
-use Rattle.store_manifest.specs.Manifest.{ManifestState}
-use Rattle.durable_write.specs.Held.{Filed, samples_of}
+use Rattle.pv_catalog.specs.Rows.{AreRows, HasKey, HasName}
 use Rattle.pins.specs.Pieces.{PinOf}
-use Rattle.tier_store.specs.Change.{Has}
-use Rattle.tier_store.specs.Pinned.{beside}
-use Rattle.tier_store.proofs.OpeningPieces.{stand_none}
-use Rattle.tier_store.specs.Seen.{Seen, granularities}
-use Rattle.tier_store.specs.Stores.{Stores}
+use Rattle.tier_store.proofs.ReadCalls.{stand_none}
 use Rattle.tier_store.specs.declared.limbo.Retired.{Retired}
-use Rattle.tier_store.proofs.WithoutLimbo.{none_whole}
-use Rattle.act_model.specs.Crash.{DurableRow, kept_of, kept}
-use Rattle.act_model.specs.Machine.{Machine, PinState, MoveState, held_bytes}
-use Rattle.act_model.specs.NextLife.{listed_row, opened, with_next}
-use Rattle.act_model.specs.Rows.{RowState, Store, Short, Medium, Long, accepted, durable, tier}
-use Rattle.act_model.specs.Rule.{Rule}
+use Rattle.tier_store.proofs.Revived.{none_whole}
 use Rattle.act_model.specs.Sound.{BasesSound, RowSound, IsSound}
-use Rattle.act_model.specs.Whole.{known, past, whole, wholes}
 use Rattle.act_model.proofs.Wholes.{whole_is}
 use Rattle.act_model.specs.Changes.{each}
 use Rattle.etl_rules.specs.Config.{ConfigState}
-use Rattle.etl_mover.specs.Move.{MoveState as Moving}
-use Rattle.moves.specs.Table as table
 use Rattle.moves.specs.declared.table.Running.{Running}
 use Rattle.archive_core.specs.MoveTies.{AreMovesOf}
 use Rattle.archive_core.specs.declared.memory.RowMemory.{RowMemory}
 use Rattle.archive_core.specs.LimboTies.{AreBare}
 use Rattle.archive_core.specs.Memory.{AreRowsOf, IsRowOf}
 use Rattle.archive_core.specs.Pins.{ArePinsOf}
-use Rattle.archive_core.specs.Opening.{end_at, memories, memory_of, next_in, IsOpened}
-use Rattle.intake.specs.Tails.{TailState}
-use Rattle.archive_core.specs.Stands.{Rests, HasSettings, TellsHeaders, IsDurable, HoldsDurable}
-use Rattle.archive_core.proofs.KeptRows.{sampling_cell, sampling_period}
+use Rattle.intake.specs.Tails.{TailState, tail_at}
+use Rattle.archive_core.proofs.KeptRows.{sampling_cell, sampling_period, row_at}
 use Rattle.archive_core.proofs.LimboTying.{empty_limbo}
 use Rattle.archive_core.proofs.Lists.{element, get_front, get_last}
-use Rattle.archive_core.proofs.Making.{kept_from as from_kept}
-use Rattle.archive_core.proofs.ListEnds.{place_end, place_rises}
+use Rattle.archive_core.proofs.MoveChoice.{place_end, place_rises}
+use Rattle.moves.specs.Table as table
+use Rattle.durable_write.specs.Plan.{of_row}
+use Rattle.tier_store.specs.Details.{AreCounted, IsDescribed, SaysDescribed, none_has, is_described}
+use Rattle.tier_store.specs.Opening.{end_of_answer}
+use Rattle.tier_store.specs.Telling.{ReadsOf}
+use Rattle.act_model.specs.declared.acts.Answer.{Answer}
+use Rattle.act_model.specs.declared.details.Details.{Details}
+use Rattle.act_model.specs.Details.{Describes, IsDetails, first_time, last_time, details_refused}
+use Rattle.act_model.specs.Reply.{Reply, reply_of}
+use Rattle.archive_core.specs.Ends.{AskEnds, is_spent, is_failed, is_answered}
+use Rattle.archive_core.proofs.Registered.{end_kind, details_never_want, find_some}
+use Rattle.archive_core.proofs.Batches.{told_stands}
+use Rattle.archive_core.proofs.Acting.{rests_again, IsAct}
+use Rattle.archive_core.proofs.Opens.{told_tells}
+use Rattle.archive_core.proofs.MovesKept.{parts_of, row_parts}
+use Rattle.archive_core.proofs.Windows.{accepted_held, whole_held, kept_from as from_kept}
+use Rattle.archive_core.proofs.Settled.{rests_has}
+use Rattle.tier_store.specs.Frame.{Frame}
+use Rattle.act_model.specs.declared.acts.Answer.TheVariants as answer
+use Rattle.disk_model.specs.Past.{Passes}
+use Rattle.disk_model.proofs.Passing.{passes_none, passes_then}
+use Rattle.pv_catalog.specs.Catalogue.{CatalogueState}
+use Rattle.tier_store.proofs.Frames.{fronts_on, fronts_read, nothing_fronts}
+use Rattle.archive_core.specs.Acting.{Settling}
+use Rattle.archive_core.specs.Leaving.{ReadsAlone, files_of}
+use Rattle.act_model.proofs.NextLife.{opened_follow}
+use Rattle.etl_mover.specs.Move.{MoveState as Moving}
+use Rattle.act_model.specs.declared.acts.Act.TheVariants.{Details as DetailsAct}
+
+-- The machine of an archive that was just opened.
 
 -- THE ROWS
 
@@ -451,3 +480,182 @@ opened_as tells at held has are rule doors same_g headers config settings slots 
     let empty_tails : Rests tells (record { at = at; limbo = limbo; pinned = pinned; tails = tails; kept = own; doubt = None; doors = doors; config = config; slots = slots }) r.0 =
     subst (λ (t : List TailState). Rests tells (record { at = at; limbo = limbo; pinned = pinned; tails = t; kept = own; doubt = None; doors = doors; config = config; slots = slots }) r.0) (sym none) empty_limbo in
     (r.0, r.1, lowered_holds tells held r.0 r.2, subst (λ (k : List RowMemory). Rests tells (record { at = at; limbo = limbo; pinned = pinned; tails = tails; kept = k; doubt = None; doors = doors; config = config; slots = slots }) r.0) (sym is) empty_tails, r.4, r.5 ∙ lowered_told tells held.stands)
+
+-- The act that tells details: what the stores tell is what the machine tells.
+
+module _ (R : Type 0) (tells reader_tells : Bool) (bytes : R → List ℕ) (faults : R → ℕ) (p : Parts) (m : Machine) (r : Rests tells p m) (i : ℕ) (name : List ℕ) (named : HasName p.at.catalogue.rows i name) (result : Answer R) (new : Seen)
+    (says : ReadsOf (SaysDescribed tells name (tail_at p.tails i).samples) (end_of_answer result) r.stands.store.before) (has_new : Has tells new r.stands.store.before) (same_g : granularities new.manifests ≡ granularities p.at.manifests) (frame : Frame tells (beside p.at p.limbo) (beside new p.limbo)) (reads : OnlyReads tells p.at new (end_of_answer result)) where
+  abbrev held : Stores
+  held = r.stands.store.before
+
+  abbrev tail : List Sample
+  tail = (tail_at p.tails i).samples
+
+  abbrev n : Machine
+  n = record m { faults = new.faults }
+
+  abbrev Ends : Answer R → Type 0
+  Ends given = AskEnds tells (Describes name) p m (record p { at = new }) (reply_of reader_tells bytes faults given)
+
+  -- the archive stands for the machine as it did
+  read : Stands tells (record p { at = new }) n
+  read = rests_again tells p m r new same_g frame has_new
+
+  same_rows : p.at.catalogue.rows ≡ held.rows
+  same_rows = (rests_has tells p m r).known.rows
+
+  module _ (k : ℕ) (d : Details) (has : HasName held.rows k name) (is : IsDescribed tells held k tail d) where
+    its_row : HasName p.at.catalogue.rows k name
+    its_row = subst (λ (rows : List Row). HasName rows k name) (sym same_rows) has
+
+    found : find_row m name ≡ Some k
+    found = find_some tells p m r.stands name k its_row
+
+    same_row : i ≡ k
+    same_row = same_Some i k (sym (find_some tells p m r.stands name i named) ∙ found)
+
+    row : (row : RowState) × (slice_get m.rows k ≡ Some row) × ((d.name ≡ row.name) × (d.about ≡ row.about) × (d.state ≡ row.state)) × (row.tail ≡ tail)
+    row =
+        let at = row_at p.at.catalogue.rows p.kept p.tails m.rows r.stands.rows k its_row.row its_row.here in
+        let one : is.row ≡ its_row.row = same_Some is.row its_row.row (sym is.here ∙ (ap (λ (rows : List Row). slice_get rows k) (sym same_rows) ∙ its_row.here)) in
+        let names = is.known.0 ∙ (ap (λ (x : Row). x.name) one ∙ sym at.4.name) in
+        let abouts = is.known.1 ∙ (ap (λ (x : Row). x.about) one ∙ sym at.4.about) in
+        let states = is.known.2 ∙ (ap (λ (x : Row). x.state) one ∙ sym at.4.state) in
+        (at.0, at.1, (names, abouts, states), at.4.tail ∙ ap (λ (j : ℕ). (tail_at p.tails j).samples) (sym same_row))
+
+    -- of a told machine all is told that the machine tells
+    details : m.told ≡ true → IsDetails m.rule m.rows k row.0 d
+    details on = record {
+      accepted_is = counted.accepted_is ∙ ap length (sym accepted_same);
+      durable_is = counted.durable_is ∙ ap length (whole_held m r.stands.sound held r.stands.store.holds on k row.0 row.1);
+      first = counted.first ∙ ap first_time (sym accepted_same);
+      last = counted.last ∙ ap last_time (sym accepted_same);
+      files = λ store. (parts_of (files_in store), row_parts tells new m held has_new r.stands.store.holds gran r.stands.rule.headers on stands k row.0 row.1 store, count store);
+    }
+      where
+        stands : IsTrue held.stands
+        stands = told_stands tells m.told held.stands r.stands.store.told on
+
+        gran : m.rule.granularity ≡ granularities new.manifests
+        gran = r.stands.rule.granularity ∙ sym same_g
+
+        counted : AreCounted (whole_in k held) tail d
+        counted = is.counted (told_tells tells m.told held.stands r.stands.store.told on) stands
+
+        -- the tail goes over all that is durable
+        accepted_same : whole accepted m.rows k ≡ over (whole_in k held) tail
+        accepted_same = accepted_held m r.stands.sound held r.stands.store.holds on k row.0 row.1 ∙ ap (λ (xs : List Sample). over (whole_in k held) xs) row.3
+
+        files_in : Store → List Filed
+        files_in store = of_row k (list_at (index_of store) held)
+
+        counts : (store : Store) → slice_index d.files (index_of store) ≡ length (files_in store)
+        counts Short = is.short
+        counts Medium = is.medium
+        counts Long = is.long
+
+        count : (store : Store) → slice_index d.files (index_of store) ≡ length (parts_of (files_in store))
+        count store = counts store ∙ sym (length-map (files_in store) (λ (f : Filed). f.entry.part))
+
+    told : Ends (answer.Described d)
+    told = is_answered n (record { i = k; row = row.0; details = d; found = found; here = row.1; known = row.2; told = details; answered = refl; same = refl }) read
+
+  -- what the stores say
+  by_says : (given : Answer R) (s : Stores) → SaysDescribed tells name tail given s → s ≡ held → Ends given
+  by_says _ _ (none_has {held = s} none) same = absurd (none i (subst (λ (rows : List Row). HasName rows i name) (same_rows ∙ sym (ap (λ (x : Stores). x.rows) same)) named))
+  by_says _ _ (is_described {held = s} k d has is) same = moved s same k d has is
+    where
+      moved : (s : Stores) → s ≡ held → (k : ℕ) (d : Details) → HasName s.rows k name → IsDescribed tells s k tail d → Ends (answer.Described d)
+      moved s same k d has is = (subst (λ (x : Stores). (k : ℕ) (d : Details) → HasName x.rows k name → IsDescribed tells x k tail d → Ends (answer.Described d)) (sym same) told) k d has is
+
+  pub details_end : Ends result
+  details_end = elim (end_kind result) [
+    | inl fault ↦ (
+        let failed : IsFailed (end_of_answer result) = subst (λ (given : Answer R). IsFailed (end_of_answer given)) (sym fault) tt in
+        subst (λ (given : Answer R). Ends given) (sym fault) (is_failed read (reads.cause failed))
+        )
+    | inr others ↦ elim others [
+      | inl spent ↦ subst (λ (given : Answer R). Ends given) (sym spent) (is_spent read)
+      | inr done ↦ by_says result held (subst (λ (end : End (Answer R) ⊥). ReadsOf (SaysDescribed tells name tail) end held) done says) refl
+    ]
+  ]
+
+-- the count of faults is nothing to what is told
+pub describes_goes : (name : List ℕ) (m : Machine) (f : ℕ) (given : Reply) (new : Machine) → Describes name (record m { faults = f }) given new → Describes name m given new
+describes_goes name m f given new is = record { i = is.i; row = is.row; details = is.details; found = is.found; here = is.here; known = is.known; told = is.told; answered = is.answered; same = is.same }
+
+-- it isn't told as want of memory
+pub describes_tells : (name : List ℕ) (m : Machine) (given : Reply) (new : Machine) → Describes name m given new → given ≡ answer.Memory → ⊥
+describes_tells name m given new is told = let both = sym is.answered ∙ told in cc (both)
+
+abbrev pub describes_act : (who : ℕ) (name : List ℕ) → IsAct who (DetailsAct name) (Describes name)
+describes_act who name = record { refuse = λ old. details_refused name; passes = λ old m is. is; counts = λ old m f. refl; refuses = λ m f. refl; changes = λ m f. refl; goes = describes_goes name; never = λ old. details_never_want name; tells_more = describes_tells name; steps = λ m given new acts. acts; wants = λ m n none. none }
+
+-- Acts that settle a doubt and only read the disk, or don't call it.
+
+-- the stores are as they were
+pub reads_none : (tells : Bool) (p q : Parts) → files_of q ≡ files_of p → ReadsAlone tells p q
+reads_none tells p q same = record {
+  fronts = subst (λ (all : SeenAll). LeavesFronts tells (files_of p) all) (sym same) (nothing_fronts tells (files_of p));
+  quiet = λ settled. (
+    subst (λ (all : SeenAll). IsSettled all.stores) (sym same) settled,
+    λ told. (ap (λ (all : SeenAll). all.stores.files) same, subst (λ (all : SeenAll). Passes (λ a b. b ≡ a) p.at.past all.stores.past) (sym same) (passes_none (λ a b. b ≡ a) p.at.past (λ a left. refl))),
+  );
+}
+
+-- one after another
+pub reads_then : (tells : Bool) (p q r : Parts) → ReadsAlone tells p q → ReadsAlone tells q r → ReadsAlone tells p r
+reads_then tells p q r first second = record {
+  fronts = fronts_on tells (files_of p) (files_of q) (files_of r) first.fronts second.fronts;
+  quiet = λ settled.
+      let one = first.quiet settled in
+      let two = second.quiet one.0 in
+      (two.0, λ told. ((two.1 told).0 ∙ (one.1 told).0, passes_then (λ a b. b ≡ a) (λ a b. b ≡ a) p.at.past q.at.past r.at.past (one.1 told).1 (two.1 told).1 (λ a b image was within left holds. holds ∙ within)));
+}
+
+-- a doubt was settled, or it couldn't be
+pub reads_settling : {A E : Type 0} (tells : Bool) (p q : Parts) (end : End A E) → Settling tells p q end → (IsSettled p.at → files_of q ≡ files_of p) → ReadsAlone tells p q
+reads_settling {A} {E} tells p q end settling same = record { fronts = settling.fronts; quiet = λ settled. (subst (λ (all : SeenAll). IsSettled all.stores) (sym (same settled)) settled, settling.settles.quiet settled) }
+
+-- the memory of the stores is as it was
+pub reads_beside : (tells : Bool) (p q : Parts) → (q.at.catalogue ≡ p.at.catalogue) × (q.at.manifests ≡ p.at.manifests) → q.limbo ≡ p.limbo → (IsTrue tells → (q.at.files ≡ p.at.files) × Passes (λ a b. b ≡ a) p.at.past q.at.past) → ReadsAlone tells p q
+reads_beside tells p q same limbo read = record {
+  fronts = fronts_read tells (files_of p) (files_of q) same.0 same.1 limbo (λ told. (read told).0) (λ told. (read told).1);
+  quiet = λ settled. (
+    record {
+      catalogue = subst (λ (c : CatalogueState). c.journal.sound ≡ true) (sym same.0) settled.catalogue;
+      manifests = subst (λ (ms : List ManifestState). AtEach ms (λ i m. m.journal.sound ≡ true)) (sym same.1) settled.manifests;
+    },
+    read,
+  );
+}
+
+-- What opens on stores follows bases as what a crash left in them.
+
+-- the durable row that stores hold, all of whose samples are told
+abbrev row_held : Stores → ℕ → Row → DurableRow
+row_held s i row = record { name = row.name; about = row.about; state = row.state; base = row.base; short = samples_of i s.short; medium = samples_of i s.medium; long = samples_of i s.long }
+
+is_held : (s : Stores) (i : ℕ) (row : Row) (r : DurableRow) → IsDurable true s i row r → r ≡ row_held s i row
+is_held s i row r d = rw (← d.name, ← d.about, ← d.state, ← d.base, ← d.short refl, ← d.medium refl, ← d.long refl) refl
+
+one_held : (s : Stores) (i : ℕ) (a b : DurableRow) → IsDurableAt true s i a → IsDurableAt true s i b → a ≡ b
+one_held s i a b p q =
+    let same : p.row ≡ q.row = same_Some p.row q.row (sym p.here ∙ q.here) in
+    is_held s i p.row a p.is ∙ (ap (λ r. row_held s i r) same ∙ sym (is_held s i q.row b q.is))
+
+rows_alike : (xs ys : List DurableRow) → length xs ≡ length ys → ((i : ℕ) (a b : DurableRow) → slice_get xs i ≡ Some a → slice_get ys i ≡ Some b → a ≡ b) → xs ≡ ys
+rows_alike [] [] long same = refl
+rows_alike [] (b ∷ ys) long same = absurd (omega arith)
+rows_alike (a ∷ xs) [] long same = absurd (omega arith)
+rows_alike (a ∷ xs) (b ∷ ys) long same = ap (λ x. x ∷ xs) (same zero a b refl refl) ∙ ap (λ w. b ∷ w) (rows_alike xs ys (omega arith) (λ i. same (suc i)))
+
+-- stores hold one durable part
+one_part : (s : Stores) (xs ys : List DurableRow) → AreDurable true s xs → AreDurable true s ys → xs ≡ ys
+one_part s xs ys p q = rows_alike xs ys (p.count ∙ sym q.count) (λ i a b here there. one_held s i a b (p.each i a here) (q.each i b there))
+
+pub opens_following : (rule : Rule) (held : Stores) (left m : Machine) → left.told ≡ true → m.told ≡ true → HoldsDurable held left → HoldsDurable held m → IsOpened rule m → AllFollow durable left.rows → AllFollow accepted m.rows
+opens_following rule held left m t told p q opens follow =
+    let same : kept left ≡ kept m = one_part held (kept left) (kept m) (subst (λ b. AreDurable b held (kept left)) t p) (subst (λ b. AreDurable b held (kept m)) told q) in
+    let is : m ≡ opened rule true m.doors m.faults (kept left) = opens.fresh told ∙ ap (λ ds. opened rule true m.doors m.faults ds) (sym same) in
+    subst (λ (n : Machine). AllFollow accepted n.rows) (sym is) (opened_follow rule true m.doors m.faults left follow)

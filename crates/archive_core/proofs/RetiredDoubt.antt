@@ -22,9 +22,9 @@ use Rattle.tier_store.specs.Retiring.{AreOldest, Enter, HandedOver, Leaves, Stay
 use Rattle.tier_store.specs.Seen.{Seen, granularities}
 use Rattle.tier_store.specs.Stores.{Stores}
 use Rattle.tier_store.specs.declared.limbo.Retired.{Retired}
-use Rattle.tier_store.proofs.Dropped.{same_entries}
-use Rattle.tier_store.proofs.Handing.{name_left}
-use Rattle.tier_store.proofs.Staying.{among_is, is_among, limbo_kept, stay_cases, stay_from}
+use Rattle.tier_store.proofs.Showing.{same_entries}
+use Rattle.tier_store.proofs.Retirements.{name_left}
+use Rattle.tier_store.proofs.Removals.{among_is, is_among, limbo_kept, stay_cases, stay_from}
 use Rattle.act_model.specs.Changes.{made, Retires}
 use Rattle.act_model.specs.Limbo.{FileState}
 use Rattle.act_model.specs.Machine.{Machine, Change, Unlists}
@@ -37,16 +37,12 @@ use Rattle.archive_core.specs.MoveChoice.{HaveDurable}
 use Rattle.archive_core.specs.MoveTies.{ends_from}
 use Rattle.archive_core.specs.Retiring.{IsRetiring, SettlesRetired}
 use Rattle.archive_core.specs.Stands.{IsRuleOf, HoldsDurable}
-use Rattle.archive_core.proofs.Growth.{no_moves, rows_go_on, same_grow, stays_listed}
-use Rattle.archive_core.proofs.LeavingFiles.{leaving, leaving_differ, leaving_listed, listed_after, named, one_named, differ_both, part_leaves, part_of, part_own}
-use Rattle.archive_core.proofs.LimboEnters.{listed_is}
-use Rattle.archive_core.proofs.LimboTying.{GoesOn, limbo_made, KeepsFiles, retired_stays, untold_retires}
-use Rattle.archive_core.proofs.LimboSwept.{stay_differ}
-use Rattle.archive_core.proofs.Lists.{element, map_in, map_out}
-use Rattle.archive_core.proofs.MoveRetires.{own, own_name, owns_differ, retires_with}
+use Rattle.archive_core.proofs.Lists.{no_moves, rows_go_on, same_grow, stays_listed, element, map_in, map_out}
+use Rattle.archive_core.proofs.RetiredLimbo.{leaving, leaving_differ, leaving_listed, listed_after, named, one_named, differ_both, part_leaves, part_of, part_own, names_unlisted, untold_limbo}
+use Rattle.archive_core.proofs.LimboSwept.{listed_is, stay_differ}
+use Rattle.archive_core.proofs.LimboTying.{GoesOn, limbo_made, KeepsFiles, retired_stays, untold_retires, names_stay}
+use Rattle.archive_core.proofs.MovesKept.{own, own_name, owns_differ, retires_with}
 use Rattle.archive_core.proofs.Windows.{index_low}
-use Rattle.archive_core.proofs.PinTies.{names_stay}
-use Rattle.archive_core.proofs.RetiredLimbo.{names_unlisted, untold_limbo}
 
 -- THE FILES THAT WERE HANDED OVER
 

@@ -20,8 +20,8 @@ use Rattle.archive_core.specs.MoveTies.{ends_from, AreMovesOf, HasListed, IsAtSt
 use Rattle.archive_core.specs.Retiring.{lengths_of, AreOfOthers, LimboRetires, AreCopiedTo}
 use Rattle.archive_core.specs.Stands.{HoldsDurable, Stands, Rests, InDoubt, IsDoubtOf, IsReady}
 use Rattle.archive_core.proofs.Lists.{element}
-use Rattle.archive_core.proofs.MoveChanges.{retire_holds}
-use Rattle.archive_core.proofs.MoveCovers.{covered, ends_move as ends_move_at, grown_is, grown_not_covered, to_ends, untold_covered}
+use Rattle.archive_core.proofs.MoveChoice.{retire_holds, source_low, next_place}
+use Rattle.archive_core.proofs.MovedParts.{covered, ends_move as ends_move_at, grown_is, grown_not_covered, to_ends, untold_covered}
 use Rattle.std.specs.Ordering.{nat_cmp}
 use Rattle.std.proofs.lemmas.Bool.Decides.{nat_tests}
 use Rattle.disk_model.specs.Past.{MayLeave, Passes}
@@ -40,7 +40,7 @@ use Rattle.tier_store.specs.Revival.{AreWhole, KeepsWholeOf}
 use Rattle.tier_store.specs.Seen.{IsSettled, granularities, Seen}
 use Rattle.tier_store.specs.declared.limbo.Retired.{Retired}
 use Rattle.tier_store.specs.declared.retirement.RetireEnd.{RetireEnd}
-use Rattle.tier_store.proofs.Handing.{all_stay}
+use Rattle.tier_store.proofs.Retirements.{all_stay}
 use Rattle.act_model.specs.Rows.{RowState, Store, Short, Medium, Long, next_store, tier}
 use Rattle.act_model.specs.Sound.{IsSound}
 use Rattle.act_model.proofs.MoveActs.{move_step_sound, step_may}
@@ -50,20 +50,18 @@ use Rattle.archive_core.specs.Memory.{AreRowsOf}
 use Rattle.archive_core.specs.Parts.{Parts}
 use Rattle.archive_core.specs.Pins.{ArePinsOf}
 use Rattle.archive_core.specs.declared.memory.Doubt.{Doubt}
-use Rattle.archive_core.proofs.Batches.{told_stands}
-use Rattle.archive_core.proofs.PinsSwept.{pinned_stay}
-use Rattle.archive_core.proofs.RetiredRows.{moves_retired, moves_same, move_same, of_retired, rows_unlisted}
+use Rattle.archive_core.proofs.Batches.{told_stands, no_names, tidy_step}
+use Rattle.archive_core.proofs.LimboSwept.{pinned_stay}
+use Rattle.archive_core.proofs.RetiredLimbo.{moves_retired, moves_same, move_same, of_retired, rows_unlisted, limbo_retires, pins_retired}
 use Rattle.archive_core.proofs.RetiredDoubt.{limbo_cut, retiring_handed}
-use Rattle.archive_core.proofs.RetiredLimbo.{limbo_retires, pins_retired}
-use Rattle.archive_core.proofs.Settled.{no_own, rests_has}
+use Rattle.archive_core.proofs.Settled.{no_own, rests_has, stands_after, with_same}
 use Rattle.etl_mover.specs.declared.moving.Stage.TheVariants.{Published}
 use Rattle.moves.specs.Table.{at}
 use Rattle.series_model.specs.Series.{end_of}
 use Rattle.durable_write.specs.Plan.{of_row}
-use Rattle.tier_store.proofs.Left.{has_left}
+use Rattle.tier_store.proofs.Holding.{has_left}
 use Rattle.archive_core.specs.Stepping.{HoldsStep, StepsOn, TakesMove, has_failed, is_doubted, not_removed, was_spent, went_on, with_slots, StepEnds}
 use Rattle.archive_core.proofs.Windows.{list_is}
-use Rattle.archive_core.proofs.MoveChoice.{source_low, next_place}
 use Rattle.archive_core.proofs.MovesKept.{long_listed}
 use Rattle.act_model.specs.declared.acts.Answer.TheVariants as answer
 use Rattle.tier_store.specs.declared.retirement.RetireEnd.TheVariants as ends
@@ -75,8 +73,6 @@ use Rattle.act_model.specs.declared.acts.Act.TheVariants.{MoveStep}
 use Rattle.act_model.specs.Reply.{Reply}
 use Rattle.archive_core.specs.Taking.{Taken}
 use Rattle.archive_core.proofs.MoveTable.{left_was, put_again, put_back, take_out}
-use Rattle.archive_core.proofs.Strays.{no_names, tidy_step}
-use Rattle.archive_core.proofs.After.{stands_after, with_same}
 
 -- What the stores say of a retirement.
 pub record StoresRetired (tells : Bool) (place row : ℕ) (published : List ℕ) (q : Parts) (new : Seen) (limbo : List Retired) (result : Result RetireEnd DiskErr) : Type 0 where

@@ -1,8 +1,32 @@
--- The archive once a doubt is settled.
-use Rattle.std.proofs.Common.{◌≡◌, ◌≢◌, ◌⊎◌, inl, inr, zero, suc, ◌+◌, ◌<◌, ◌≤◌, List, [], ◌∷◌, length, Bool, true, false, Option, Some, None, refl, sym, ◌∙◌, ap, subst, arith, ℕ}
+-- The archive once a doubt is settled, and what it stands for after a call of the stores.
+use Rattle.std.proofs.Common.{◌≡◌, List, Bool, ℕ, refl, sym, ◌∙◌, ap, subst, ◌≢◌, ◌⊎◌, inl, inr, zero, suc, ◌+◌, ◌<◌, ◌≤◌, [], ◌∷◌, length, true, false, Option, Some, None, arith}
 use Rattle.std.specs.FinMap.{FinMap}
-use Rattle.std.specs.List.{AllByRecursion}
 use Rattle.std.specs.Ordering.{nat_cmp}
+use Rattle.tier_store.specs.Pinned.{beside, SeenAll, KeepsShown}
+use Rattle.tier_store.specs.Seen.{Seen, granularities, IsSettled}
+use Rattle.tier_store.specs.declared.limbo.Retired.{Retired}
+use Rattle.tier_store.specs.Change.{IsKnown, Has, IsOpen, HasEither}
+use Rattle.tier_store.specs.Stores.{Stores, list_at, samples_in}
+use Rattle.act_model.specs.Machine.{MoveState, Change, AddsRow, SetsState, Renames, Appends, Publishes, Unlists, Machine, PinState}
+use Rattle.act_model.specs.Rows.{RowState, Store, fresh_row, renamed_row, next_store, period_of}
+use Rattle.archive_core.specs.Growing.{HasRunning}
+use Rattle.archive_core.specs.Stands.{StoresGo, Stands, IsDoubtOf, IsReady, HasSettings, IsBetween, TellsHeaders, Rests, StoresGrow, InDoubt, IsPartOf, AreDurable, HoldsDurable}
+use Rattle.archive_core.proofs.Lists.{same_grow, grow_fewer, rows_go_on, same_or_not, get_set_same, get_front}
+use Rattle.archive_core.proofs.LimboTying.{KeepsNames, names_stay, names_made, state_name, pins_stay, KeepsFiles, limbo_beside, limbo_changed, limbo_held}
+use Rattle.act_model.specs.Sound.{IsSound, MayMake}
+use Rattle.archive_core.specs.LimboTies.{IsLimboOf}
+use Rattle.archive_core.specs.Memory.{AreRowsOf, IsRowAt, cell_in, period_in, fresh_memory, renamed_memory, cleared, set_by, row_ends, IsCleared}
+use Rattle.archive_core.specs.Parts.{Parts}
+use Rattle.archive_core.specs.Pins.{ArePinsOf}
+use Rattle.tier_store.specs.Frame.{Frame}
+use Rattle.pv_catalog.proofs.Standing.{keeps_same}
+use Rattle.archive_core.proofs.RetiredDoubt.{retiring_stays, settled_retired}
+use Rattle.etl_rules.specs.Config.{ConfigState}
+use Rattle.pins.specs.Pieces.{PinOf}
+use Rattle.tier_store.specs.Beginning.{AreNested}
+use Rattle.act_model.specs.Rule.{Rule, index_of}
+use Rattle.tier_store.specs.Revival.{KeepsWhole, AreWhole}
+use Rattle.std.specs.List.{AllByRecursion}
 use Rattle.std.specs.Prelude.{◌==◌, ◌&&◌, IsTrue, slice_get, slice_set, map, Vec}
 use Rattle.std.specs.declared.alloc.Global.{Global}
 use Rattle.std.proofs.lemmas.Bool.Decides.{nat_tests}
@@ -11,7 +35,6 @@ use Rattle.std.proofs.lemmas.Option.{same_Some, slice_get_within}
 use Rattle.intake.specs.Tails.{TailState, tail_at}
 use Rattle.pb_messages.specs.declared.about.About.{About}
 use Rattle.pb_messages.specs.declared.about.State.{State}
-use Rattle.pb_messages.specs.declared.about.State.TheVariants.{Retired as RetiredState}
 use Rattle.pv_catalog.specs.Catalogue.{HasState}
 use Rattle.pv_catalog.specs.declared.row.Row.{Row}
 use Rattle.intake.specs.Row.{SampledRow, after}
@@ -20,55 +43,116 @@ use Rattle.series_model.specs.Series.{end_of, since, IsRising}
 use Rattle.series_model.specs.declared.batch.RowSamples.{RowSamples}
 use Rattle.series_model.specs.declared.sample.Sample.{Sample}
 use Rattle.series_model.proofs.RisingLists.{RisesFrom-lower}
-use Rattle.etl_mover.specs.Move.{MoveState as Moving}
 use Rattle.moves.specs.declared.table.Running.{Running}
 use Rattle.durable_write.specs.Held.{Filed}
-use Rattle.durable_write.specs.Plan.{of_row as files_in}
-use Rattle.tier_store.specs.Change.{Has, IsKnown, IsOpen, HasEither}
-use Rattle.tier_store.specs.Frame.{Frame}
-use Rattle.tier_store.specs.Pinned.{beside}
-use Rattle.tier_store.specs.Revival.{AreWhole}
-use Rattle.tier_store.specs.Seen.{Seen, IsSettled, granularities}
-use Rattle.tier_store.specs.Stores.{Stores, list_at, samples_in}
-use Rattle.tier_store.specs.declared.limbo.Retired.{Retired}
 use Rattle.act_model.specs.Changes.{added, each, at, changed, made, of_row, Retires, Settles, no_doubt, as_not_made, as_made, without_held}
 use Rattle.act_model.specs.Crash.{kept_of, kept}
 use Rattle.act_model.specs.Limbo.{FileState}
-use Rattle.act_model.specs.Machine.{Machine, MoveState, PinState, Change, AddsRow, SetsState, Renames, Appends, Publishes, Unlists}
-use Rattle.act_model.specs.Rows.{RowState, Store, fresh_row, renamed_row, next_store, period_of}
 use Rattle.act_model.proofs.Rows.{Came, from_row, is_new, came, each_forward, more_rows}
-use Rattle.act_model.specs.Rule.{index_of}
-use Rattle.act_model.specs.Sound.{IsSound, MayMake}
 use Rattle.act_model.proofs.StepLaws.{settled_sound, settled_none}
 use Rattle.archive_core.specs.declared.memory.RowEnd.{RowEnd}
 use Rattle.archive_core.specs.declared.memory.RowMemory.{RowMemory}
 use Rattle.archive_core.specs.declared.memory.Doubt.{Doubt}
-use Rattle.archive_core.specs.declared.memory.Doubt.TheVariants as kind
-use Rattle.archive_core.proofs.After.{stands_after, KeepsLimbo, limbo_of_frame}
 use Rattle.archive_core.proofs.Batches.{ListsBatch, none_beyond, lists_or_not, holds_with, holds_without, told_stands}
-use Rattle.archive_core.proofs.Growth.{same_grow}
 use Rattle.archive_core.proofs.KeptRows.{sampling_period, sampling_cell}
-use Rattle.archive_core.proofs.LimboTying.{limbo_beside, limbo_changed, limbo_held}
-use Rattle.archive_core.proofs.Making.{kept_to, taken_later}
-use Rattle.archive_core.proofs.RetiredRows.{IsEarly, listed_same, same_made, moves_settled, row_came, unlisted_there}
+use Rattle.archive_core.proofs.Windows.{kept_to, taken_later, index_low}
+use Rattle.archive_core.proofs.RetiredLimbo.{IsEarly, listed_same, same_made, moves_settled, row_came, unlisted_there, names_unlisted}
 use Rattle.archive_core.proofs.MovesKept.{reach_ends, source_ends, SameLater, leaves_ahead, moves_stay, same_later, same_put, reach, source_on}
 use Rattle.archive_core.proofs.MoveChoice.{next_high, next_low}
-use Rattle.archive_core.proofs.PinTies.{KeepsNames, names_stay, names_made, state_name, pins_stay}
 use Rattle.archive_core.specs.Flushing.{GivesUp, ListsEnds, IsTrimmed}
-use Rattle.archive_core.specs.Growing.{HasRunning}
-use Rattle.archive_core.specs.LimboTies.{IsLimboOf}
 use Rattle.archive_core.specs.MoveTies.{AreMovesOf}
-use Rattle.archive_core.specs.Memory.{IsRowAt, AreRowsOf, cell_in, period_in, fresh_memory, renamed_memory, cleared, set_by, row_ends, IsCleared}
-use Rattle.archive_core.specs.Parts.{Parts}
-use Rattle.archive_core.specs.Pins.{ArePinsOf}
-use Rattle.archive_core.specs.Stands.{Stands, Rests, StoresGo, StoresGrow, InDoubt, IsPartOf, IsReady, IsDoubtOf, AreDurable, HoldsDurable}
 use Rattle.archive_core.specs.Retiring.{IsRetiring, SettlesRetired}
-use Rattle.archive_core.proofs.RetiredDoubt.{settled_retired}
-use Rattle.archive_core.proofs.RetiredLimbo.{names_unlisted}
-use Rattle.archive_core.proofs.StoresGoing.{go_beside}
-use Rattle.archive_core.proofs.Lists.{same_or_not, get_set_same, get_front}
-use Rattle.durable_write.proofs.Three.{get_set_other}
-use Rattle.archive_core.proofs.Windows.{index_low}
+use Rattle.durable_write.proofs.Staying.{get_set_other}
+use Rattle.archive_core.specs.declared.memory.Doubt.TheVariants as kind
+use Rattle.pb_messages.specs.declared.about.State.TheVariants.{Retired as RetiredState}
+use Rattle.etl_mover.specs.Move.{MoveState as Moving}
+use Rattle.durable_write.specs.Plan.{of_row as files_in}
+
+-- What is known of a doubted change stays so while the doubt stands.
+
+-- beside fewer moves
+pub go_fewer : (tells : Bool) (all : SeenAll) (told : Bool) (rows : List RowState) (moves fewer : FinMap nat_cmp MoveState) (before after : Stores) → ((row : ℕ) → HasRunning fewer row → HasRunning moves row) → (c : Change) → StoresGo tells all told rows moves before after c → StoresGo tells all told rows fewer before after c
+go_fewer tells all told rows moves fewer before after were (AddsRow name about) go = grow_fewer were go
+go_fewer tells all told rows moves fewer before after were (SetsState row to) go = grow_fewer were go
+go_fewer tells all told rows moves fewer before after were (Renames row name) go = grow_fewer were go
+go_fewer tells all told rows moves fewer before after were (Appends batch) go = grow_fewer were go
+go_fewer tells all told rows moves fewer before after were (Publishes row store copied) go = grow_fewer were go
+go_fewer tells all told rows moves fewer before after were (Unlists row store to) go = go
+
+-- where the files in limbo are shown still
+go_stays : (tells : Bool) (old new : Seen) (limbo : List Retired) (told : Bool) (rows later : List RowState) (moves : FinMap nat_cmp MoveState) (before after : Stores) → KeepsFiles tells (beside old limbo) (beside new limbo) rows later
+    → (c : Change) → StoresGo tells (beside old limbo) told rows moves before after c → StoresGo tells (beside new limbo) told later moves before after c
+go_stays tells old new limbo told rows later moves before after keeps (AddsRow name about) go = go
+go_stays tells old new limbo told rows later moves before after keeps (SetsState row to) go = go
+go_stays tells old new limbo told rows later moves before after keeps (Renames row name) go = go
+go_stays tells old new limbo told rows later moves before after keeps (Appends batch) go = go
+go_stays tells old new limbo told rows later moves before after keeps (Publishes row store copied) go = go
+go_stays tells old new limbo told rows later moves before after keeps (Unlists row store to) go = retiring_stays tells old new limbo told rows later before after row store to keeps go
+
+-- beside stores that are known as before
+pub go_beside : (tells : Bool) (old new : Seen) (limbo : List Retired) (told : Bool) (rows : List RowState) (moves : FinMap nat_cmp MoveState) (before after : Stores) → IsKnown old.catalogue old.manifests before → IsKnown new.catalogue new.manifests before → granularities new.manifests ≡ granularities old.manifests
+    → KeepsShown tells (beside old limbo) (beside new limbo) → (c : Change) → StoresGo tells (beside old limbo) told rows moves before after c → StoresGo tells (beside new limbo) told rows moves before after c
+go_beside tells old new limbo told rows moves before after was now same_g shown c go =
+    go_stays tells old new limbo told rows rows moves before after
+    (record { shown = λ file bytes there. shown file.name bytes; variables = rows_go_on old new before before was now (same_grow moves before); names = names_stay rows; granularity = same_g }) c go
+
+-- where rows change in memory and keep their names
+pub go_named : (tells : Bool) (at : Seen) (limbo : List Retired) (told : Bool) (rows later : List RowState) (moves : FinMap nat_cmp MoveState) (before after : Stores) → KeepsNames rows later → (c : Change) → StoresGo tells (beside at limbo) told rows moves before after c → StoresGo tells (beside at limbo) told later moves before after c
+go_named tells at limbo told rows later moves before after names c go =
+    go_stays tells at at limbo told rows later moves before after (record { shown = λ file bytes there shown. shown; variables = keeps_same at.catalogue.rows; names = names; granularity = refl }) c go
+
+-- What an archive stands for after a call of the stores, or a change of what it keeps.
+
+-- the settings are those of stores with partitions of the same length
+pub settings_kept : (at new : Seen) (config : ConfigState) (rule : Rule) → granularities new.manifests ≡ granularities at.manifests → HasSettings at config rule → HasSettings new config rule
+settings_kept at new config rule same_g s = record { hold = s.hold; gather = s.gather; nested = λ place low. subst (AreNested place) (sym same_g) (s.nested place low) }
+
+-- What is kept through every act: the settings and the doors of the archive, the rule and the doors of the machine. The machine has the disk's count.
+pub record Carries (p q : Parts) (m n : Machine) : Type 0 where
+  pub config : q.config ≡ p.config
+  pub doors : q.doors ≡ p.doors
+  pub rule : n.rule ≡ m.rule
+  pub own_doors : n.doors ≡ m.doors
+  pub faults : n.faults ≡ q.at.faults
+  pub granularity : granularities q.at.manifests ≡ granularities p.at.manifests
+
+-- The archive stands for another machine, where its limbo, its pins, its rows and its stores are those of that.
+abbrev pub stands_after : (tells : Bool) (p : Parts) (m : Machine) → Stands tells p m → (q : Parts) (n : Machine) → Carries p q m n → IsSound n → IsLimboOf tells (beside q.at q.limbo) n.told n.rows n.limbo → ArePinsOf tells (beside q.at q.limbo) n.told n.rows n.pins q.pinned
+    → AreRowsOf q.at.catalogue.rows q.kept q.tails n.rows → IsDoubtOf q.doubt n.doubt → IsReady q.kept n.rows n.moves n.doubt → IsBetween tells q.at q.limbo q.slots n → Stands tells q n
+stands_after tells p m s q n carries sound limbo pins rows doubt ready store = record {
+  sound = sound;
+  rule = record { granularity = ap (λ (r : Rule). r.granularity) carries.rule ∙ (s.rule.granularity ∙ sym carries.granularity); headers = subst (λ (r : Rule). TellsHeaders r) (sym carries.rule) s.rule.headers };
+  limbo = limbo;
+  settings = subst (λ (r : Rule). HasSettings q.at q.config r) (sym carries.rule) (subst (λ (config : ConfigState). HasSettings q.at config m.rule) (sym carries.config) (settings_kept p.at q.at p.config m.rule carries.granularity s.settings));
+  pins = pins;
+  faults = carries.faults;
+  doors = carries.own_doors ∙ (s.doors ∙ sym carries.doors);
+  rows = rows;
+  doubt = doubt;
+  ready = ready;
+  store = store;
+}
+
+-- what is true of an archive is so where limbo and the pins are the same
+pub with_same : (P : Parts → Type 0) (p : Parts) (limbo : List Retired) (pinned : FinMap nat_cmp PinOf) → limbo ≡ p.limbo → pinned ≡ p.pinned → P p → P (record p { limbo = limbo; pinned = pinned })
+with_same P p limbo pinned same_limbo same_pins is =
+    subst (λ (q : FinMap nat_cmp PinOf). P (record p { limbo = limbo; pinned = q })) (sym same_pins) (subst (λ (l : List Retired). P (record p { limbo = l })) (sym same_limbo) is)
+
+-- WHAT A CALL OF THE STORES KEEPS THAT LEAVES LIMBO AS IT IS
+
+-- whatever was shown is so still, and limbo stays whole
+pub record KeepsLimbo (tells : Bool) (old new : SeenAll) : Type 0 where
+  pub shown : KeepsShown tells old new
+  pub whole : KeepsWhole tells old new
+
+pub limbo_of_frame : (tells : Bool) (old new : SeenAll) → Frame tells old new → KeepsLimbo tells old new
+limbo_of_frame tells old new frame = record { shown = frame.shown; whole = frame.whole }
+
+-- with limbo as it was
+pub frame_with : (tells : Bool) (all : SeenAll) (at : Seen) (limbo same : List Retired) → limbo ≡ same → Frame tells all (beside at limbo) → Frame tells all (beside at same)
+frame_with tells all at limbo same is frame = subst (λ (l : List Retired). Frame tells all (beside at l)) is frame
+
+-- The archive once a doubt is settled.
 
 -- WHAT IS KEPT IN MEMORY ALONE
 

@@ -13,7 +13,7 @@ use Rattle.pins.specs.Pieces.{PinOf}
 use Rattle.pv_catalog.specs.Catalogue.{CatalogueState}
 use Rattle.pv_catalog.specs.Rows.{KeepsRows}
 use Rattle.durable_write.specs.Ends.{end_of_disk}
-use Rattle.durable_write.proofs.Rises.{rose_after}
+use Rattle.durable_write.proofs.Staying.{rose_after}
 use Rattle.tier_store.specs.Change.{EndsFrom, Has, Changes, HoldsBy}
 use Rattle.tier_store.specs.Limbo.{IsListedName, IsNeeded, IsSwept as IsSweptOf, LimboStands, staying, LeavesKept, IsKeptName, IsPinnedFile}
 use Rattle.tier_store.specs.Moving.{LeavesLater, LeavesNames}
@@ -44,25 +44,21 @@ use Rattle.archive_core.specs.Pins.{ArePinsOf}
 use Rattle.archive_core.specs.Stands.{Stands, Rests, IsDoubtOf, IsReady}
 use Rattle.archive_core.specs.Sweeping.{removal_reply, sweep_reply}
 use Rattle.archive_core.specs.Written.{AreWritten}
-use Rattle.archive_core.proofs.Crashes.{HoldsDoubted}
-use Rattle.archive_core.proofs.Acting.{crash_settling, IsAct, Went, acted}
-use Rattle.archive_core.proofs.Growth.{rows_go_on, same_grow, stays_listed}
-use Rattle.archive_core.proofs.LimboSwept.{just, left_is, stay_differ, stays, swept_count, swept_ties}
-use Rattle.archive_core.proofs.LimboTying.{KeepsFiles, ListsSame}
+use Rattle.archive_core.proofs.Acting.{HoldsDoubted, crash_settling, IsAct, Went, acted}
+use Rattle.archive_core.proofs.Lists.{rows_go_on, same_grow, stays_listed}
+use Rattle.archive_core.proofs.LimboSwept.{just, left_is, stay_differ, stays, swept_count, swept_ties, pinned_stay}
+use Rattle.archive_core.proofs.LimboTying.{KeepsFiles, ListsSame, names_stay}
 use Rattle.archive_core.proofs.Batches.{told_stands}
 use Rattle.archive_core.proofs.MovesKept.{goes_still, moves_stay, moves_left, same_later}
-use Rattle.archive_core.proofs.SweptMoves.{copied_named, names_left, swept_put}
+use Rattle.archive_core.proofs.MoveTable.{copied_named, names_left, swept_put}
 use Rattle.archive_core.proofs.Opens.{undoubted}
-use Rattle.archive_core.proofs.PinTies.{names_stay}
-use Rattle.archive_core.proofs.PinsSwept.{pinned_stay}
-use Rattle.archive_core.proofs.Settled.{rests_has, doubt_beside}
-use Rattle.archive_core.proofs.After.{KeepsLimbo, stands_after, with_same}
-use Rattle.archive_core.proofs.Making.{count_of}
+use Rattle.archive_core.proofs.Settled.{rests_has, doubt_beside, KeepsLimbo, stands_after, with_same}
+use Rattle.archive_core.proofs.Windows.{count_of}
 use Rattle.archive_core.specs.Growing.{HasRunning}
 use Rattle.archive_core.specs.Acting.{Acted, Settling}
 use Rattle.archive_core.specs.Strays.{ActsTidily}
 use Rattle.act_model.specs.declared.acts.Act.TheVariants.{Sweep}
-use Rattle.tier_store.proofs.LeavingFronts.{fronts_shown}
+use Rattle.tier_store.proofs.Frames.{fronts_shown}
 use Rattle.archive_core.specs.Leaving.{KeepsListed, files_of}
 
 -- WHAT THE STORES' SWEEP COMES TO

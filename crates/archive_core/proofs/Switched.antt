@@ -28,15 +28,14 @@ use Rattle.archive_core.specs.Memory.{IsCleared, cleared, set_by}
 use Rattle.archive_core.specs.Parts.{Parts}
 use Rattle.archive_core.specs.Stands.{Stands, Rests}
 use Rattle.archive_core.specs.Wanting.{NoneRefuses, Wants}
-use Rattle.archive_core.proofs.Growth.{switch_grows}
+use Rattle.archive_core.proofs.Lists.{switch_grows}
 use Rattle.archive_core.specs.Switching.{IsFound, IsUnset, act_of, from_of, to_of, wrong_of, wrong_reply, switching, switch_reply}
-use Rattle.archive_core.proofs.Changing.{Makes}
+use Rattle.archive_core.proofs.Acting.{Makes, IsAct, Went, acted}
 use Rattle.archive_core.proofs.KeptRows.{find_is, row_at}
-use Rattle.archive_core.proofs.Making.{switch_holds}
+use Rattle.archive_core.proofs.Windows.{switch_holds}
 use Rattle.archive_core.proofs.Settled.{rests_has}
 use Rattle.act_model.specs.Reply.{Reply}
 use Rattle.act_model.specs.Rows.{RowState}
-use Rattle.archive_core.proofs.Acting.{IsAct, Went, acted}
 use Rattle.archive_core.specs.Acting.{Acted}
 use Rattle.act_model.specs.Outcome.{Acts, all_go}
 use Rattle.act_model.specs.Step.{Step, refuse_by, change_by}

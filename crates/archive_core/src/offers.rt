@@ -32,7 +32,8 @@ impl<D: Disk> Archive<D> {
         ensures moves { self.new.moves ≡ self.old.moves }
     {
         let at = row as usize;
-        match reason_by_row(&self.store.catalogue().rows()[at], ty) {
+        let variable = &self.store.catalogue().rows()[at];
+        match reason_by_row(variable, self.rows[at].next, ty) {
             Some(reason) => Offered::Dropped(reason),
             None => offer_row(&mut self.intake, &mut self.rows[at], row, sample, now),
         }

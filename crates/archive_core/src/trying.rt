@@ -2,7 +2,8 @@
 ghost use Rattle.std.specs.Prelude.{◌≡◌, ◌⊎◌, true, false, ◌≤◌, ◌<◌, ◌+◌, ◌++◌, ◌∷◌, [], ℕ, length, Some, None, IfSome};
 ghost use Rattle.std.specs.Prelude.{IsSome, OnOk, OnErr};
 ghost use Rattle.intake.specs.Tails.{tail_at, held_bytes, KeepsTails, SetsTail};
-ghost use Rattle.series_model.specs.Admission.{admit_before, admit_after};
+ghost use Rattle.series_model.specs.Limits.{intake_room};
+ghost use Rattle.series_model.specs.Admission.{refused_by_row, refused_by_time};
 ghost use Rattle.intake.specs.Row.{SampledRow};
 ghost use Rattle.act_model.specs.declared.answers.Ticked.TheVariants.{TickNone, NotDue};
 ghost use Rattle.act_model.specs.Rows.{is_running, number_of};
@@ -11,10 +12,11 @@ ghost use Rattle.archive_core.specs.Trying.{IsTried, IsOffered, IsTickedDue, mov
 
 use crate::memory::RowMemory;
 use act_model::{Offered, Ticked};
-use intake::{Intake, ROOM};
+use intake::Intake;
 use pb_messages::{PayloadType, State};
 use pv_catalog::Row;
-use series_model::{Reason, Sample, Standing, admit};
+use series_model::limits::INTAKE_ROOM;
+use series_model::{Reason, Sample, Standing, refused_by_row, refused_by_time};
 
 /// Why a sample isn't accepted.
 #[derive(Drop)]
@@ -34,31 +36,19 @@ pub(crate) fn runs(row: &Row) -> bool
     matches!(row.state, State::Running)
 }
 
-// The first of the first three reasons to drop a sample of the type that is offered to this row.
-pub(crate) fn reason_by_row(row: &Row, ty: PayloadType) -> Option<Reason>
-    ensures { (next : ℕ) → result ≡ admit_before
+// The first of the first three reasons to drop a sample of the type that is offered to this row, whose next sample is
+// at `next` at the earliest.
+pub(crate) fn reason_by_row(row: &Row, next: u64, ty: PayloadType) -> Option<Reason>
+    ensures { result ≡ refused_by_row
         (Some (record { is_running = is_running row.now.state; ty = number_of row.now.about.ty; next = next }))
         (number_of ty) }
 {
-    if !runs(row) {
-        Some(Reason::Paused)
-    } else if row.about.ty.number() != ty.number() {
-        Some(Reason::WrongType)
-    } else {
-        None
-    }
-}
-
-// The first of the last two reasons to drop a sample at `t`, of a row that takes samples from `next` on.
-fn reason_by_time(next: u64, t: u64, now: u64) -> Option<Reason>
-    ensures { result ≡ admit_after next t now }
-{
-    let row = Standing {
-        is_running: true,
-        ty: 0,
+    let standing = Standing {
+        is_running: runs(row),
+        ty: row.about.ty.number(),
         next,
     };
-    admit(Some(row), 0, t, now)
+    refused_by_row(Some(standing), ty.number())
 }
 
 // Whether a sample of the row would be accepted. Where it would, there is memory for it.
@@ -74,11 +64,11 @@ pub(crate) fn examine(
     ensures tails { KeepsTails intake.old intake.new }
     ensures held { held_bytes intake.new ≡ held_bytes intake.old }
 {
-    if let Some(reason) = reason_by_time(next, sample.t, now) {
+    if let Some(reason) = refused_by_time(next, sample.t, now) {
         return Err(Refusal::Dropped(reason));
     }
     let held = intake.held();
-    if sample.line.bytes().len() as u64 >= ROOM - held {
+    if sample.line.bytes().len() as u64 >= INTAKE_ROOM - held {
         return Err(Refusal::IntakeFull { held });
     }
     match intake.reserve(row, 1) {
@@ -89,8 +79,8 @@ pub(crate) fn examine(
 
 // Accepts a sample for which there is room and memory.
 pub(crate) fn keep(intake: &mut Intake, memory: &mut RowMemory, row: u32, sample: Sample)
-    requires time { sample.t < 18446744073709551615 }
-    requires room { held_bytes intake.old + (length sample.line + 1) ≤ 67108864 }
+    requires time { sample.t < u64.MAX }
+    requires room { held_bytes intake.old + (length sample.line + 1) ≤ intake_room }
     requires spare { 1 ≤ (tail_at intake.old row).spare }
     ensures tail { SetsTail row ((tail_at intake.old row).samples ++ sample ∷ []) intake.old intake.new }
     ensures memory { memory.new ≡ record memory.old { next = sample.t + 1 } }
@@ -107,7 +97,7 @@ pub(crate) fn try_sample(
     sample: Sample,
     now: u64,
 ) -> Result<(), Refusal>
-    requires time { sample.t < 18446744073709551615 }
+    requires time { sample.t < u64.MAX }
     ensures tried { IsTried memory.old.next (held_bytes intake.old) sample.t (length sample.line) now result }
     ensures kept { OnOk result (SetsTail row ((tail_at intake.old row).samples ++ sample ∷ []) intake.old intake.new
         × (memory.new ≡ record memory.old { next = sample.t + 1 })) }
@@ -127,7 +117,7 @@ pub(crate) fn offer_row(
     sample: Sample,
     now: u64,
 ) -> Offered
-    requires time { sample.t < 18446744073709551615 }
+    requires time { sample.t < u64.MAX }
     ensures { IsOffered intake.old memory.old row sample now result intake.new memory.new }
 {
     if let Some(scan) = &mut memory.scan {
@@ -178,7 +168,7 @@ pub(crate) fn try_held(intake: &mut Intake, memory: &mut RowMemory, row: u32, no
     requires sampled { IsSome memory.old.scan }
     requires due { (sampled : SampledRow) → memory.old.scan ≡ Some sampled → sampled.cell.due ≤ now }
     requires time { (sampled : SampledRow) (s : SampleValue) → memory.old.scan ≡ Some sampled
-        → sampled.cell.held ≡ Some s → s.t < 18446744073709551615 }
+        → sampled.cell.held ≡ Some s → s.t < u64.MAX }
     ensures { (sampled : SampledRow) → memory.old.scan ≡ Some sampled
         → IsTickedDue intake.old memory.old sampled row now result intake.new memory.new }
 {
@@ -213,7 +203,7 @@ pub(crate) fn tick_row(
     now: u64,
 ) -> Ticked
     requires time { (sampled : SampledRow) (s : SampleValue) → memory.old.scan ≡ Some sampled
-        → sampled.cell.held ≡ Some s → s.t < 18446744073709551615 }
+        → sampled.cell.held ≡ Some s → s.t < u64.MAX }
     ensures none { (memory.old.scan ≡ None) ⊎ (is_running ≡ false)
         → (result ≡ TickNone) × (intake.new ≡ intake.old) × (memory.new ≡ memory.old) }
     ensures early { (sampled : SampledRow) → memory.old.scan ≡ Some sampled → is_running ≡ true → now < sampled.cell.due

@@ -1,34 +1,80 @@
--- One list of a batch after another.
-use Rattle.std.proofs.Common.{◌≡◌, ◌⊎◌, inl, inr, ℕ, ◌+◌, ◌<◌, ◌≤◌, Bool, true, false, cond, List, [], ◌∷◌, ◌++◌, length, map, take, drop, get_or, refl, sym, ap, ◌∙◌, subst, arith, Option, None, Some}
-use Rattle.std.specs.Prelude.{filter, nat_eq, nat_lt, slice_get, All, IfSome}
-use Rattle.std.specs.List.{AllByRecursion}
+-- Batches: the headers of their files, how many samples they have, and one list after another.
+use Rattle.std.proofs.Common.{List, [], ◌∷◌, ◌∙◌, ap, ◌≡◌, ◌++◌, get_or, sym, ℕ, ◌+◌, ◌<◌, ◌≤◌, length, map, arith, ◌⊎◌, inl, inr, Option, None, Some, refl, subst, take, append-nil, Bool, true, false, cond, drop, ◌*◌, ◌^◌}
+use Rattle.std.specs.Prelude.{All, IfSome, Contains, IsTrue, filter, nat_eq, nat_lt, slice_get, FitsSigned}
+use Rattle.std.proofs.lemmas.List.Elements.{All-nil, All-contains, All-cons, filter_passes, filter_agree, All-filter, Contains-push, recursion_from_All}
+use Rattle.partition_names.specs.declared.granularity.Granularity.{Granularity}
+use Rattle.durable_write.specs.declared.piece.Piece.{Piece}
+use Rattle.durable_write.specs.Held.{Filed, Held, filed_at, IsFiled, AreFiled, bytes_of, entry_of, samples_of}
+use Rattle.durable_write.specs.Flush.{PlacesRise, put_all, Grows, GrowsOwn, HasHeaderOf, MakesFiles, file_at, listed_bytes, with_batch, with_files, HoldsBoth, Flushes, EndsRow, bytes_in}
+use Rattle.std.specs.List.{AllByRecursion, AllZip, sum_by}
+use Rattle.std.proofs.lemmas.List.{length-append, length-map, get_or-map, take_more, take-append-drop, map-append, get_or_default}
+use Rattle.series_model.specs.declared.batch.RowSamples.{RowSamples}
+use Rattle.pb_lines.proofs.FileMeaning.{begin_alike}
+use Rattle.durable_write.proofs.Places.{found, listed_at, all_put_all, rise_put_all, last_of_rising, put_other, put_behind, put_over, put_within, start_before, last_view, same_last}
 use Rattle.std.proofs.lemmas.Bool.{cond-true, cond-false, cases_eq, cases_order}
 use Rattle.std.proofs.lemmas.Bool.Decides.{nat_tests}
-use Rattle.std.proofs.lemmas.List.{take_more, take-append-drop, length-append, length-map, map-append, get_or-map, get_or_default}
-use Rattle.std.proofs.lemmas.List.Elements.{filter_passes, filter_agree, All-nil, All-contains, All-filter, Contains-push, recursion_from_All}
-use Rattle.std.specs.List.Sorted.{IsStableByKey, IsNonDecreasingBy, ties}
+use Rattle.std.specs.List.Sorted.{IsStableByKey, IsNonDecreasingBy, ties, IsPermutation}
 use Rattle.std.specs.Ordering.{nat_cmp, is_lt}
 use Rattle.partition_names.specs.Part.{IsPart}
 use Rattle.series_model.specs.declared.sample.Sample.{Sample}
-use Rattle.series_model.specs.declared.batch.RowSamples.{RowSamples}
 use Rattle.series_model.specs.Series.{over, IsRising}
 use Rattle.series_model.proofs.OverLemmas.{over_flushed}
 use Rattle.series_model.proofs.RisingLists.{RisesFrom-front}
-use Rattle.partition_names.specs.declared.granularity.Granularity.{Granularity}
 use Rattle.store_manifest.specs.declared.entry.Entry.{Entry}
 use Rattle.pv_catalog.specs.declared.row.Row.{Row}
-use Rattle.durable_write.specs.declared.piece.Piece.{Piece}
 use Rattle.durable_write.specs.declared.plan.Target.{Target}
-use Rattle.durable_write.specs.Held.{Filed, Held, entry_of, filed_at, samples_of}
 use Rattle.store_manifest.specs.Entries.{put}
-use Rattle.durable_write.specs.Flush.{with_batch, with_files, put_all, HoldsBoth, Flushes, PlacesRise, EndsRow}
 use Rattle.durable_write.specs.Plan.{of_row, StartBefore, EndsAt, IsLastOf, later_of, last_with, samples_with, Gains, HoldsRow, Adds, Plans, PlansOn, KeepsRows}
-use Rattle.durable_write.proofs.PutFile.{last_of_rising, put_other, put_behind, put_over, put_within, start_before}
-use Rattle.durable_write.proofs.Listed.{rise_put_all}
 use Rattle.pb_lines.proofs.FileLines.{all-append}
-use Rattle.durable_write.proofs.Lasts.{last_view, same_last}
-use Rattle.durable_write.proofs.Ahead.{leads_still, leads_with}
-use Rattle.durable_write.proofs.KeptHeaders.{headers_kept}
+use Rattle.durable_write.proofs.Written.{leads_still, leads_with}
+use Rattle.std.proofs.lemmas.List.Sorted.{sum_by-IsPermutation}
+use Rattle.std.proofs.lemmas.List.Sums.{sum_by-cons, sum_by_more, sum_by-take-le}
+use Rattle.pb_lines.proofs.Running.{lines_long}
+use Rattle.std.specs.Option.{option_map}
+use Rattle.std.specs.Int.{w32}
+use Rattle.arch_time.specs.YearTime.{IsSampleYear}
+use Rattle.line_escape.specs.Escaping.{escaped}
+use Rattle.line_escape.proofs.EscapingLemmas.{length-escaped}
+use Rattle.pb_wire.specs.Payload.{row_of}
+use Rattle.pb_wire.specs.Message.{varint, blob}
+use Rattle.pb_wire.specs.Spelling.{field_text, number_text}
+use Rattle.pb_messages.specs.declared.info.PayloadInfo.{PayloadInfo}
+use Rattle.pb_messages.specs.InfoSpelling.{message_text, pair_text, pair_field, optional_field, required_fields, sign_extended, info_text, FitsInfo}
+use Rattle.pb_messages.proofs.InfoSpellingLemmas.{texts_apart}
+
+-- A flush keeps the headers of listed files, and new files have their rows' own.
+
+-- the header of a file by what was listed at its place
+abbrev Header : Held → Filed → Type 0
+Header held f = HasHeaderOf held.rows f (file_at (filed_at f) held.files)
+
+grown_header : (g : Granularity) (held : Held) (p : Piece) (f : Filed) → AreFiled g held → IsTrue held.stands → Grows g held p f → Header held f
+grown_header g held p f filed stands grows = go (listed_at held.files (filed_at f))
+  where
+    own : GrowsOwn g held p f
+    own = grows.own stands
+
+    go : (file_at (filed_at f) held.files ≡ None) ⊎ ((h : Filed) × Contains held.files h × (filed_at h ≡ filed_at f) × (file_at (filed_at f) held.files ≡ Some h)) → Header held f
+    go (inl none) = subst (λ (o : Option Filed). HasHeaderOf held.rows f o) (sym none) (own.anew none)
+    go (inr (h, within, is, there)) =
+        let old = All-contains (IsFiled g held.rows) held.files h (filed.filed stands) within in
+        let bytes : bytes_of f ≡ bytes_of h ++ p.bytes.items = own.bytes ∙ ap (λ (o : Option Filed). listed_bytes o ++ p.bytes.items) there in
+        let alike = begin_alike (bytes_of f) (bytes_of h) [] p.bytes.items f.head h.head own.filed.info old.info f.samples h.samples own.filed.file old.file (append-nil (bytes_of f) ∙ bytes) in
+        subst (λ (o : Option Filed). HasHeaderOf held.rows f o) (sym there) alike.heads
+
+grown_headers : (g : Granularity) (held : Held) (ps : List Piece) (fs : List Filed) → AreFiled g held → IsTrue held.stands → AllZip (Grows g held) ps fs → All (Header held) fs
+grown_headers g held [] [] filed stands each = All-nil (Header held)
+grown_headers g held [] (f ∷ fs) filed stands each = absurd each
+grown_headers g held (p ∷ ps) [] filed stands each = absurd each
+grown_headers g held (p ∷ ps) (f ∷ fs) filed stands each = All-cons (Header held) f fs (grown_header g held p f filed stands each.0) (grown_headers g held ps fs filed stands each.1)
+
+pub headers_kept : (g : Granularity) (held : Held) (ps : List Piece) (fs : List Filed) → AreFiled g held → PlacesRise held.files → IsTrue held.stands → MakesFiles g held ps fs → All (λ (f : Filed). HasHeaderOf held.rows f (file_at (filed_at f) held.files)) (put_all held.files fs)
+headers_kept g held ps fs filed apart stands makes =
+    all_put_all (Header held) held.files fs
+    (λ k d lt. subst (λ (o : Option Filed). HasHeaderOf held.rows (get_or held.files k d) o) (sym (found held.files apart k d lt)) refl)
+    (grown_headers g held ps fs filed stands makes.each)
+
+-- One list of a batch after another.
 
 -- SAMPLES OF ONE ROW
 
@@ -316,3 +362,57 @@ rows_follow seen xs i x rises low is k d behind within =
     let here : (seen x).row ≡ (seen (get_or xs i x)).row = ap (λ y. (seen y).row) is in
     let there : (seen (get_or xs k x)).row ≡ (seen (get_or xs k d)).row = ap (λ y. (seen y).row) (get_or_default xs k x d within) in
     omega arith
+
+-- How many samples a batch has.
+
+abbrev pub samples_in : RowSamples → ℕ
+samples_in p = length p.samples
+
+-- each sample takes a newline at least
+bytes_long : (ps : List RowSamples) → sum_by samples_in ps ≤ bytes_in ps
+bytes_long [] = omega arith
+bytes_long (p ∷ ps) = omega (arith, sum_by-cons samples_in p ps, lines_long p.samples, bytes_long ps)
+
+-- a batch that may be flushed has at most so many, in whatever order
+pub few_samples : (parts order : List RowSamples) → IsPermutation parts order → bytes_in parts ≤ 67_108_864 → sum_by samples_in order ≤ 67_108_864
+few_samples parts order moved few = omega (arith, sum_by-IsPermutation samples_in parts order moved, bytes_long parts, few)
+
+-- the samples up to the next list, by what code sees of it
+pub counted_next : {X : Type 0} (seen : X → RowSamples) (order : List X) (i m n : ℕ) (x : X) → i < length order → x ≡ get_or order i x → m ≤ sum_by samples_in (take i (map seen order)) → n ≤ length (seen x).samples → m + n ≤ sum_by samples_in (take (i + 1) (map seen order))
+counted_next {X} seen order i m n x low is before more =
+    let here : length (get_or (map seen order) i (seen x)).samples ≡ length (seen x).samples = ap samples_in (get_or-map seen order i x (seen x) low ∙ ap seen (sym is)) in
+    omega (arith, sum_by_more samples_in (map seen order) i (seen x) (omega (arith, low, length-map order seen)), here, before, more)
+
+-- so many are reached with it, in any part of the batch
+pub counted_within : {X : Type 0} (seen : X → RowSamples) (order : List X) (parts : List RowSamples) (i m n : ℕ) (x : X) → IsPermutation parts (map seen order) → bytes_in parts ≤ 67_108_864 → i < length order → x ≡ get_or order i x → m ≤ sum_by samples_in (take i (map seen order)) → n ≤ length (seen x).samples → m + n ≤ 67_108_864
+counted_within {X} seen order parts i m n x moved few low is before more = omega (arith, counted_next seen order i m n x low is before more, sum_by-take-le samples_in (map seen order) (i + 1), few_samples parts (map seen order) moved few)
+
+-- A header whose line is in memory fits.
+
+text_long : (n : ℕ) (b : List ℕ) → length b ≤ length (field_text n (blob b))
+text_long n b = omega (arith, length-append (number_text (n * 8 + 2)) (number_text (length b) ++ b), length-append (number_text (length b)) b)
+
+pairs_short : (n : ℕ) (ps : List (List ℕ × List ℕ)) → length (message_text (map (pair_field 15) ps)) < n → AllByRecursion (λ p. length (pair_text p) < n) ps
+pairs_short n [] short = tt
+pairs_short n (p ∷ ps) short =
+    let both = length-append (field_text 15 (blob (pair_text p))) (message_text (map (pair_field 15) ps)) in
+    (omega (arith, both, text_long 15 (pair_text p)), pairs_short n ps (omega (arith, both)))
+
+pub fits_in_memory : (info : PayloadInfo) → length (escaped (info_text info)) < 2 ^ 64 → IsSampleYear info.year → IfSome info.count (FitsSigned w32) → FitsInfo info
+unfolding info_text
+fits_in_memory info short year count =
+    let rest = optional_field 4 (option_map sign_extended info.count) in
+    let pairs = map (pair_field 15) info.headers in
+    let one = field_text 1 (varint (row_of info.ty).number) in
+    let two = field_text 2 (blob info.name) in
+    let three = field_text 3 (varint (sign_extended info.year)) in
+    let whole = ap length (texts_apart (required_fields info) (rest ++ pairs)) ∙ length-append (message_text (required_fields info)) (message_text (rest ++ pairs)) in
+    let tail = ap length (texts_apart rest pairs) ∙ length-append (message_text rest) (message_text pairs) in
+    let head = length-append one (two ++ (three ++ [])) in
+    let next = length-append two (three ++ []) in
+    record {
+      name = omega (arith, length-escaped (info_text info), whole, head, next, text_long 2 info.name);
+      year = year;
+      count = count;
+      headers = pairs_short (2 ^ 64) info.headers (omega (arith, length-escaped (info_text info), whole, tail));
+    }

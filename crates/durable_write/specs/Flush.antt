@@ -1,6 +1,7 @@
 -- What a flush makes of what is held, and what it appends to each file.
 use Rattle.std.specs.Prelude.{◌≡◌, ◌≤◌, ◌+◌, ◌&&◌, ℕ, ℤ, Bool, List, [], ◌∷◌, ◌++◌, length, map, nat_eq, if◌then◌else◌, All, Option, None, Some, slice_get, IsTrue}
 use Rattle.std.specs.List.{AllZip}
+use Rattle.series_model.specs.Limits.{intake_room}
 use Rattle.series_model.specs.declared.sample.Sample.{Sample}
 use Rattle.series_model.specs.declared.batch.RowSamples.{RowSamples}
 use Rattle.series_model.specs.Series.{over, IsRising}
@@ -38,7 +39,7 @@ bytes_in (p ∷ ps) = length (lines_of p.samples) + bytes_in ps
 -- a batch may be flushed: at most 64 MiB of samples of rows that stand
 pub record CanFlush (rows : List Row) (batch : List RowSamples) : Type 0 where
   pub each : All (IsOfRow rows) batch
-  pub few : bytes_in batch ≤ 67_108_864
+  pub few : bytes_in batch ≤ intake_room
 
 -- a row's samples, and over them each of the batch's lists of that row
 abbrev pub with_batch : ℕ → List Sample → List RowSamples → List Sample

@@ -79,10 +79,14 @@ IsTarget target = IfSome target.listed (λ (e : Entry). IsPart target.granularit
 abbrev pub OfLast : (Piece → Type 0) → List Piece → Type 0
 OfLast P pieces = (rest : List Piece) (p : Piece) → pieces ≡ rest ++ p ∷ [] → P p
 
+-- as many entries as one commit of a manifest may set: 49 bytes each in the greatest batch
+abbrev pub most_pieces : ℕ
+most_pieces = 21_913_098
+
 -- the pieces are few enough to be listed in one commit, of partitions, and none is of a row behind this one
 pub record IsDraft (g : Granularity) (row : ℕ) (pieces : List Piece) : Type 0 where
   pub parts : All (λ (p : Piece). IsPart g p.entry.part) pieces
-  pub few : length pieces ≤ 21_913_098
+  pub few : length pieces ≤ most_pieces
   pub rows : All (λ (p : Piece). p.entry.series ≤ row) pieces
 
 -- The entry is that of the row's last file: of the last piece if that is of the row, else the last that is listed.
@@ -143,7 +147,7 @@ pub record IsPushed (s : Sample) (start : Piece) (old new : List Piece) : Type 0
   pub piece : Piece
   pub appended : IsAppended s start piece
   pub are : new ≡ old ++ piece ∷ []
-  pub room : length old < 21_913_098
+  pub room : length old < most_pieces
 
 -- the last piece has one sample more
 pub record IsExtended (s : Sample) (old new : List Piece) : Type 0 where

@@ -3,6 +3,7 @@ ghost use Rattle.std.specs.Prelude.{◌≡◌, ◌≢◌, ◌≤◌, ◌<◌, �
 ghost use Rattle.std.specs.Prelude.{IsTrue, true, false};
 ghost use Rattle.disk_model.specs.Files.{Name, Rose};
 ghost use Rattle.disk_model.specs.Past.{Passes};
+ghost use Rattle.gate_journal.specs.Batches.{greatest_batch};
 ghost use Rattle.gate_journal.specs.Generations.{IsOwn};
 ghost use Rattle.gate_journal.specs.Journal.{JournalState};
 ghost use Rattle.partition_names.specs.Part.{IsPart};
@@ -18,7 +19,6 @@ use crate::piece::Piece;
 use crate::relisting::relist;
 use crate::writing::write_all;
 use disk_model::{Disk, DiskErr};
-use gate_journal::GREATEST_BATCH;
 use pv_catalog::Row;
 use std::alloc::{AllocError, Global};
 use store_manifest::{Change, Manifest};
@@ -54,7 +54,7 @@ pub fn flush_pieces<D: Disk>(
     requires sound { IsTrue manifest.old.journal.sound }
     requires parts { All (λ p. IsPart manifest.old.granularity p.entry.part) pieces.now }
     requires rows { All (λ p. p.entry.series < length rows.now) pieces.now }
-    requires few { length pieces.now * SET_BYTES ≤ GREATEST_BATCH }
+    requires few { length pieces.now * SET_BYTES ≤ greatest_batch }
     requires stored { IsTrue D.tells → (catalogue : JournalState) × (held : Held) × (ahead : Held) × (fs : List Filed)
         × HasCopied catalogue manifest.old (store, rows.now) (D.files disk.old) (D.opened disk.old)
         (D.past disk.old) held ahead

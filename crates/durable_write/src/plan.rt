@@ -17,7 +17,7 @@ ghost use Rattle.durable_write.specs.Held.{Held};
 ghost use Rattle.durable_write.specs.Flush.{IsSampleOf, IsOfRow, CanFlush, header_of, HoldsBoth, Flushes};
 ghost use Rattle.durable_write.specs.Plan.{IsAppended, GoesTo, OfLast, IsLastPiece, side_of, IsBegun, IsPushed};
 ghost use Rattle.durable_write.specs.Plan.{IsExtended, IsDraft, IsTarget, Adds, IsLastOf, later_of, last_with, PlansOn};
-ghost use Rattle.durable_write.specs.Plan.{KeepsRows};
+ghost use Rattle.durable_write.specs.Plan.{KeepsRows, most_pieces};
 
 use crate::piece::Piece;
 use arch_time::{END, START, split};
@@ -83,7 +83,7 @@ pub fn plan_flush(
         → Flushes manifest.now.granularity held batch.now plan.pieces.items plan.count) }
     ensures parts { IfOk result (λ plan. All (λ p. IsPart manifest.now.granularity p.entry.part) plan.pieces.items) }
     ensures rows { IfOk result (λ plan. All (λ p. p.entry.series < length rows.now) plan.pieces.items) }
-    ensures few { IfOk result (λ plan. length plan.pieces.items ≤ MOST_PIECES) }
+    ensures few { IfOk result (λ plan. length plan.pieces.items ≤ most_pieces) }
 {
     let order = by_row(alloc, batch)?;
     let mut pieces = Vec::new(alloc);

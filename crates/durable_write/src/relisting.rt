@@ -2,6 +2,7 @@
 ghost use Rattle.std.specs.Prelude.{◌≡◌, ◌≤◌, length, OnOk, OnErr, IsErrOf, IsTrue, true, false};
 ghost use Rattle.disk_model.specs.Files.{Name, Rose};
 ghost use Rattle.disk_model.specs.Past.{Passes};
+ghost use Rattle.gate_journal.specs.Batches.{greatest_batch};
 ghost use Rattle.gate_journal.specs.Generations.{IsOwn, AtOwn};
 ghost use Rattle.gate_journal.specs.Journal.{JournalState};
 ghost use Rattle.store_manifest.specs.Entries.{AllCanFollow, all_changed};
@@ -13,7 +14,6 @@ ghost use Rattle.durable_write.specs.Ahead.{CanRelist};
 ghost use Rattle.durable_write.specs.Three.{Anything};
 
 use disk_model::{Disk, DiskErr};
-use gate_journal::GREATEST_BATCH;
 use store_manifest::{Change, Manifest};
 
 /// Lists other files of the same rows in one commit. A crash at any moment leaves what was held, or what is next.
@@ -24,7 +24,7 @@ pub fn relist<D: Disk>(
 ) -> Result<(), DiskErr>
     requires sound { IsTrue manifest.old.journal.sound }
     requires follow { AllCanFollow manifest.old.granularity manifest.old.entries changes.now }
-    requires few { length (batch_of changes.now) ≤ GREATEST_BATCH }
+    requires few { length (batch_of changes.now) ≤ greatest_batch }
     requires can { IsTrue D.tells
         → (catalogue : JournalState) × (shelf : Shelf) × (held : Held) × (next : Held) × CanRelist catalogue
         manifest.old shelf (D.files disk.old) (D.opened disk.old) (D.past disk.old) held next changes.now }

@@ -1,5 +1,6 @@
 -- A move between its calls, and how what it has written stands ahead of what its destination lists.
 use Rattle.std.specs.Prelude.{◌≡◌, ◌⊎◌, ◌≤◌, ◌+◌, ◌==◌, ℕ, List, [], ◌∷◌, ◌++◌, All, Option, Some, length, map, filter, take, slice_get, IfSome}
+use Rattle.series_model.specs.Limits.{most_parts}
 use Rattle.disk_model.specs.Files.{Name}
 use Rattle.partition_names.specs.declared.granularity.Granularity.{Granularity}
 use Rattle.partition_names.specs.Granularity.{Holds}
@@ -77,7 +78,7 @@ pub record IsMove (fine : Granularity) (move : MoveState) : Type 0 where
   pub nested : Holds move.granularity fine
   pub parts : All (λ (e : Entry). IsPart fine e.part × (e.series ≡ move.series)) move.parts
   pub in_order : InOrder move.parts
-  pub few : length move.parts ≤ 65_536
+  pub few : length move.parts ≤ most_parts
   pub at : move.at ≤ length move.parts
   pub pending : All (λ (e : Entry). IsPart move.granularity e.part × (e.series ≡ move.series)) move.pending
   pub most : FewPending move

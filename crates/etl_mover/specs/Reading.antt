@@ -4,6 +4,10 @@ use Rattle.disk_model.specs.Files.{Name, Files}
 use Rattle.disk_model.specs.Past.{Past, Passes}
 use Rattle.line_escape.specs.Unescaping.{HasNoNewline}
 
+-- as many bytes as one step of copying appends, but for a line that is longer
+abbrev pub most_copied : ℕ
+most_copied = 1_048_576
+
 -- the disk was only read
 pub record OnlyReads (files later : Files) (opened after : Name → ℕ) (old new : Past) : Type 0 where
   pub same : later ≡ files

@@ -10,4 +10,5 @@ mod reading;
 mod stepping;
 mod writing;
 
-pub use moving::{Copied, MOST_PARTS, Move, Stage};
+pub use moving::{Copied, Move, Stage};
+pub use reading::MOST_BYTES;

@@ -1,6 +1,7 @@
 // A move, and its beginning.
 ghost use Rattle.std.specs.Prelude.{◌≡◌, ◌≤◌, IfOk, length, map, slice_get};
 ghost use Rattle.std.specs.Option.{option_copied};
+ghost use Rattle.series_model.specs.Limits.{most_parts};
 ghost use Rattle.partition_names.specs.Granularity.{Holds};
 ghost use Rattle.store_manifest.specs.Entries.{AreEntries};
 ghost use Rattle.durable_write.specs.Plan.{IsLastOf};
@@ -12,9 +13,6 @@ use pv_name::PvName;
 use std::alloc::{AllocError, Global};
 use std::marker::Model;
 use store_manifest::{Entry, Manifest};
-
-/// As many parts as one move may have.
-pub const MOST_PARTS: usize = 65_536;
 
 /// How far a move has come.
 #[derive(Clone, Copy, Debug, PartialEq, Eq)]
@@ -86,7 +84,7 @@ impl Move {
         parts: usize,
     ) -> Result<Move, AllocError>
         requires some { 1 ≤ parts }
-        requires most { parts ≤ MOST_PARTS }
+        requires most { parts ≤ most_parts }
         requires listed { parts ≤ length (of_series series source.now.entries) }
         ensures begun { IfOk result (HasBegun source.now dest.now series name.now parts) }
         ensures running { Holds dest.now.granularity source.now.granularity

@@ -1,7 +1,7 @@
 // Reads of a part's file, which leave the disk as it is.
 ghost use Rattle.std.specs.Prelude.{◌≡◌, ◌⊎◌, ◌≤◌, ◌<◌, ◌+◌, ℕ, List, Some, length, take, drop, IfOk, IsErrOf, IsTrue};
 ghost use Rattle.disk_model.specs.Files.{HasFile, Rose};
-ghost use Rattle.etl_mover.specs.Reading.{OnlyReads, IsChunk, cut_to_line};
+ghost use Rattle.etl_mover.specs.Reading.{OnlyReads, IsChunk, cut_to_line, most_copied};
 
 use disk_model::{Disk, DiskErr, FileName};
 use line_escape::line_len;
@@ -44,7 +44,7 @@ pub(crate) fn read_lines<D: Disk>(
     requires some { 1 ≤ rest }
     requires there { IsTrue D.tells → HasFile (D.files disk.old) name.now (λ b. from + rest ≤ length b) }
     ensures chunk { IsTrue D.tells → (b : List ℕ) → D.files disk.old name.now ≡ Some b
-        → IfOk result (λ v. IsChunk (drop from b) rest MOST_BYTES v.items) }
+        → IfOk result (λ v. IsChunk (drop from b) rest most_copied v.items) }
     ensures reads { IsTrue D.tells → OnlyReads (D.files disk.old) (D.files disk.new)
         (D.opened disk.old) (D.opened disk.new) (D.past disk.old) (D.past disk.new) }
     ensures faults { D.faults disk.old ≤ D.faults disk.new }
@@ -64,7 +64,7 @@ pub(crate) fn read_lines<D: Disk>(
 
 // Cuts more bytes than one step appends to their first line, whose newline stands at `end`, if there is one.
 fn cut_to_line(bytes: &mut Vec<u8>, end: usize)
-    ensures { bytes.new.items ≡ cut_to_line MOST_BYTES end bytes.old.items }
+    ensures { bytes.new.items ≡ cut_to_line most_copied end bytes.old.items }
 {
     if bytes.len() > MOST_BYTES && end < bytes.len() {
         bytes.truncate(end + 1);

@@ -10,7 +10,7 @@ ghost use Rattle.etl_mover.specs.declared.moving.Copied.TheVariants.{Done};
 ghost use Rattle.etl_mover.specs.declared.moving.Stage.TheVariants.{Copying};
 ghost use Rattle.etl_mover.specs.Copying.{SetsLast};
 ghost use Rattle.etl_mover.specs.Move.{IsMove};
-ghost use Rattle.etl_mover.specs.Reading.{OnlyReads};
+ghost use Rattle.etl_mover.specs.Reading.{OnlyReads, most_copied};
 ghost use Rattle.etl_mover.specs.Step.{GoesTo, GoesNowhere, IsPlacedOrNot, CanRevive, CanCopy, IsLongUnopened, Takes};
 ghost use Rattle.etl_mover.specs.Step.{Advances, Copies, CopiesPart, SetsPart, between, finished, source_file};
 ghost use Rattle.etl_mover.specs.Step.{target_file, with_pending};
@@ -18,7 +18,7 @@ ghost use Rattle.etl_mover.specs.Writing.{LeavesFile};
 
 use crate::copying::{Start, set_last, take_part};
 use crate::moving::{Copied, Move, file_name};
-use crate::reading::{MOST_BYTES, read, read_lines};
+use crate::reading::{read, read_lines};
 use crate::writing::write_file;
 use disk_model::{Disk, DiskErr, FileName};
 use partition_names::part_of;
@@ -49,7 +49,7 @@ fn read_part<D: Disk>(
     requires there { IsTrue D.tells → HasFile (D.files disk.old) name.now (λ b. len ≤ length b) }
     ensures takes { IsTrue D.tells → (b : List ℕ) → D.files disk.old name.now ≡ Some b
         → IfOk result (λ l. (l.head.items ≡ take part.now.head_len b)
-        × Takes (take part.now.head_len b) (between from len b) MOST_BYTES l.lines.items entry.now l.entry) }
+        × Takes (take part.now.head_len b) (between from len b) most_copied l.lines.items entry.now l.entry) }
     ensures keeps { IfOk result (λ l. (l.entry.part ≡ entry.now.part) × (l.entry.series ≡ entry.now.series)
         × (l.entry.len ≡ entry.now.len + length l.lines.items)) }
     ensures reads { IsTrue D.tells → OnlyReads (D.files disk.old) (D.files disk.new)
@@ -134,7 +134,7 @@ impl Move {
             → IsLongUnopened n (target_file self.old start.now) (D.files disk.old) (D.opened disk.old) }
         ensures copies { IsTrue D.tells → (b : List ℕ) → D.files disk.old (source_file self.old part.now) ≡ Some b
             → IfOk result (λ n. (lines : List ℕ) × (length lines ≡ n)
-            × Copies (target_file self.old start.now) start.now part.now from len MOST_BYTES b self.old.pending
+            × Copies (target_file self.old start.now) start.now part.now from len most_copied b self.old.pending
             self.new.pending (D.files disk.old) (D.files disk.new) (D.opened disk.new) (D.past disk.new) lines) }
         ensures leaves { IsTrue D.tells
             → LeavesFile (target_file self.old start.now) start.now.at (D.files disk.old) (D.files disk.new)
@@ -174,7 +174,7 @@ impl Move {
         requires room { IsTrue D.tells → (n : ℕ) → start.now.at ≡ Some n
             → IsLongUnopened n (target_file self.old start.now) (D.files disk.old) (D.opened disk.old) }
         ensures copies { IsTrue D.tells → (b : List ℕ) → D.files disk.old (source_file self.old part.now) ≡ Some b
-            → OnOk result (CopiesPart self.old self.new start.now part.now from len MOST_BYTES b
+            → OnOk result (CopiesPart self.old self.new start.now part.now from len most_copied b
             (D.files disk.old) (D.files disk.new) (D.opened disk.new) (D.past disk.new)) }
         ensures leaves { IsTrue D.tells
             → LeavesFile (target_file self.old start.now) start.now.at (D.files disk.old) (D.files disk.new)
@@ -211,7 +211,7 @@ impl Move {
         ensures copies { IsTrue D.tells → (p : EntryValue) (start : StartValue) (b : List ℕ)
             → GoesTo self.old revived p start
             → D.files disk.old (source_file self.old p) ≡ Some b
-            → OnOk result (CopiesPart self.old self.new start p from len MOST_BYTES b
+            → OnOk result (CopiesPart self.old self.new start p from len most_copied b
             (D.files disk.old) (D.files disk.new) (D.opened disk.new) (D.past disk.new)) }
         ensures leaves { IsTrue D.tells → (p : EntryValue) (start : StartValue) → GoesTo self.old revived p start
             → LeavesFile (target_file self.old start) start.at (D.files disk.old) (D.files disk.new)
@@ -281,7 +281,7 @@ impl Move {
         ensures copies { IsTrue D.tells → (part : EntryValue) (start : StartValue) (b : List ℕ)
             → GoesTo self.old (option_copied revived.entry) part start
             → D.files disk.old (source_file self.old part) ≡ Some b
-            → OnOk result (CopiesPart self.old self.new start part from len MOST_BYTES b
+            → OnOk result (CopiesPart self.old self.new start part from len most_copied b
             (D.files disk.old) (D.files disk.new) (D.opened disk.new) (D.past disk.new)) }
         ensures leaves { IsTrue D.tells → (part : EntryValue) (start : StartValue)
             → GoesTo self.old (option_copied revived.entry) part start

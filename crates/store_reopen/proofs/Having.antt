@@ -1,30 +1,46 @@
--- The stores that are opened have what reads give of the image.
-use Rattle.std.proofs.Common.{◌≡◌, ◌≢◌, inl, inr, ℕ, zero, suc, ◌<◌, ◌≤◌, ◌+◌, List, [], ◌∷◌, length, get_or, map, Bool, true, false, Some, refl, sym, ◌∙◌, ap, subst, arith}
-use Rattle.std.specs.Prelude.{All, IsTrue, slice_get}
+-- What a disk has that is opened: what one journal says and where it is bad, what all four hold through loads and reads, and what the stores have.
+use Rattle.std.proofs.Common.{◌≡◌, ◌≢◌, ◌+◌, inl, inr, ℕ, List, [], get_or, refl, sym, ◌∙◌, ap, subst, arith, Some, ◌⊎◌, zero, suc, ◌∷◌, length, ◌++◌, take, None, length-append, add-one, Option, ◌<◌, ◌≤◌, map, Bool, true, false}
+use Rattle.disk_model.specs.Files.{Name, Files, Content}
+use Rattle.disk_model.specs.Past.{Past, Passes, MayLeave}
+use Rattle.gate_journal.specs.Kept.{Says, StillSays, IsKept as IsJournalKept}
+use Rattle.partition_names.specs.declared.granularity.Granularity.{Granularity}
+use Rattle.store_manifest.specs.Manifest.{manifest_name, StaysOrBegins, ManifestState, IsKept}
+use Rattle.pv_catalog.specs.Catalogue.{catalogue_name, IsStored}
+use Rattle.pv_catalog.specs.Rows.{IsCatalogue, AreRows}
+use Rattle.std.specs.Prelude.{slice_get, unwrap_or, All, IsTrue}
+use Rattle.gate_journal.specs.Generations.{IsOwn, AtOwn, KeepsBatches, at_name, generation_batches, generation_name, HasBatchesOf, IsBadOf}
+use Rattle.gate_journal.proofs.Keeping.{keeps_says, kept_stays, one_value}
+use Rattle.gate_journal.proofs.Owning.{says_of, own_store}
+use Rattle.store_manifest.specs.declared.entry.Entry.{Entry}
+use Rattle.store_manifest.specs.Batches.{Folds, Configured}
+use Rattle.store_manifest.proofs.Committing.{one_listing}
+use Rattle.pv_catalog.specs.declared.row.Row.{Row}
+use Rattle.durable_write.proofs.Commits.{other_journal}
+use Rattle.store_reopen.specs.OneJournal.{NoneOpened, IsGate, IsBadFile}
+use Rattle.std.proofs.lemmas.Option.{same_Some, none-some, slice_get_cases, slice_get_within}
+use Rattle.gate_journal.specs.Batches.{HasBatches, IsBadJournal, IsShort, open_gates, framed_bytes}
+use Rattle.disk_model.proofs.Passing.{passes_weaker, passes_then}
+use Rattle.store_reopen.specs.Loading.{Catalogue, Manifest, granularity_at, StillSay, KeepsSaid, Journal, Value, Means, KeepsJournal, name_of}
+use Rattle.gate_journal.specs.Journal.{JournalState, IsSettledWith}
+use Rattle.pv_catalog.proofs.Meaning.{one_meaning}
+use Rattle.std.specs.Int.{to_le_bytes, w32}
+use Rattle.gate_journal.proofs.Holding.{settled_seen}
+use Rattle.gate_journal.proofs.OneReading.{one_list}
+use Rattle.gate_journal.proofs.Telling.{none_told, one_generation_told}
+use Rattle.store_manifest.specs.Batches as manifest
+use Rattle.pv_catalog.specs.Rows as catalogue
+use Rattle.std.proofs.lemmas.Bool.{cases_eq, false≢true}
+use Rattle.partition_names.specs.declared.granularity.Granularity.TheVariants.{Hour}
+use Rattle.durable_write.proofs.Staying.{manifests_differ}
 use Rattle.std.specs.List.{AllByRecursion}
 use Rattle.std.proofs.lemmas.List.Elements.{All-from_recursion, All-map, All-head, All-tail, All-nil, All-cons}
-use Rattle.std.proofs.lemmas.Option.{slice_get_cases, slice_get_within, same_Some}
-use Rattle.std.proofs.lemmas.Bool.{false≢true}
 use Rattle.pv_name.specs.Key.{key_of}
-use Rattle.disk_model.specs.Files.{Name, Files}
-use Rattle.disk_model.specs.Past.{Past, MayLeave, Passes}
 use Rattle.disk_model.specs.declared.disk.Disk.{Ghosts}
-use Rattle.disk_model.proofs.Passing.{passes_weaker}
-use Rattle.gate_journal.specs.Kept.{Says, StillSays}
-use Rattle.gate_journal.specs.Kept as journal
-use Rattle.partition_names.specs.declared.granularity.Granularity.{Granularity}
 use Rattle.partition_names.specs.Part.{IsPart}
 use Rattle.etl_rules.specs.Config.{ConfigState}
 use Rattle.store_files.specs.Fronts.{Begins}
-use Rattle.store_manifest.specs.declared.entry.Entry.{Entry}
-use Rattle.store_manifest.specs.Batches.{Configured, Folds}
 use Rattle.store_manifest.specs.Entries.{InOrder, place, comes_before}
-use Rattle.store_manifest.specs.Manifest.{ManifestState, IsKept, manifest_name}
-use Rattle.store_manifest.proofs.Committing.{one_listing}
-use Rattle.pv_catalog.specs.declared.row.Row.{Row}
-use Rattle.pv_catalog.specs.Catalogue.{catalogue_name, IsStored}
-use Rattle.pv_catalog.specs.Rows.{IsCatalogue, AreRows}
-use Rattle.durable_write.specs.Held.{Shelf, Filed, Held, IsListed, AreFiled, AreIn, entry_of, file_of, shelf_of, bytes_of, filed_at, Shelf}
+use Rattle.durable_write.specs.Held.{Shelf, Filed, Held, IsListed, AreFiled, AreIn, entry_of, file_of, shelf_of, bytes_of, filed_at}
 use Rattle.durable_write.specs.Flush.{PlacesRise}
 use Rattle.durable_write.specs.Stored.{KeysDiffer, AreHeld, TierStored}
 use Rattle.tier_store.specs.Stores.{Stores, list_at, tier}
@@ -32,11 +48,334 @@ use Rattle.tier_store.specs.Seen.{Seen, AtEach, granularities}
 use Rattle.tier_store.specs.Stored.{HoldsAll}
 use Rattle.tier_store.specs.Change.{IsKnown, Has, IsEither}
 use Rattle.tier_store.proofs.Places.{within_three, granularity_at as granularity_of}
-use Rattle.store_reopen.proofs.OneJournal.{one_list_of_rows}
 use Rattle.store_reopen.specs.Verdict.{AreSaid, IsThere, Listings, HasRow}
 use Rattle.store_reopen.specs.Reopen.{IsReady, IsUnopened, OpensEither, HoldsEither, AllIn, StillHolds, Reopens, stores_of, lists_of, entries_in, SameStores}
-use Rattle.store_reopen.specs.Loading.{Catalogue, Manifest, granularity_at, StillSay, KeepsSaid}
-use Rattle.store_reopen.proofs.Keeping.{is_at, journal_says, no_more}
+use Rattle.gate_journal.specs.Kept as in_journal
+
+-- One journal: what it says goes on through loads and reads, and where it is bad.
+
+pub one_list_of_rows : (image : Files) (a b : List Row) → Says IsCatalogue a catalogue_name image → Says IsCatalogue b catalogue_name image → a ≡ b
+one_list_of_rows image a b one two = one_value IsCatalogue (one_meaning []) catalogue_name image a b one two
+
+-- JOURNALS HAVE NO FILE IN COMMON
+
+pub journals_differ : (store : ℕ) → catalogue_name ≢ manifest_name store
+journals_differ store is = let first : get_or catalogue_name.1 0 0 ≡ get_or (manifest_name store).1 0 0 = ap (λ (n : Name). get_or n.1 0 0) is in absurd (omega (arith, first))
+
+-- ONE CALL AFTER ANOTHER
+
+-- what is kept of a journal stays while calls only read
+pub kept_reads : {A : Type 0} (Means : List (List ℕ) → A → Type 0) (journal : JournalState) (files : Files) (opened : Name → ℕ) (old : Past) (later : Files) (after : Name → ℕ) (new : Past) (value : A) → IsJournalKept Means journal files opened old value → later ≡ files → Passes (λ a b. b ≡ a) old new → after ≡ opened
+    → IsJournalKept Means journal later after new value
+kept_reads {A} Means journal files opened old later after new value kept same passes opened_same =
+    kept_stays Means journal files opened old later after new (λ a b. b ≡ a) passes (λ a c is n own. ap (λ (f : Files). f n) is) (λ n own. ap (λ (f : Files). f n) same)
+    (λ n own. let fewer : after n ≡ opened n = ap (λ (o : Name → ℕ). o n) opened_same in omega (arith, fewer)) value kept
+
+-- the catalogue stays while a manifest is loaded
+pub catalogue_stays : (store : ℕ) (R : Files → Files → Type 0) (journal : JournalState) (files : Files) (opened : Name → ℕ) (old : Past) (later : Files) (after : Name → ℕ) (new : Past) (rows : List Row) → journal.name ≡ catalogue_name → IsJournalKept IsCatalogue journal files opened old rows
+    → ((n : Name) → (IsOwn (manifest_name store) n → ⊥) → later n ≡ files n) → Passes (AtOwn (manifest_name store) R) old new → ((n : Name) → (IsOwn (manifest_name store) n → ⊥) → after n ≡ opened n) → IsJournalKept IsCatalogue journal later after new rows
+catalogue_stays store R journal files opened old later after new rows named kept others passes others_opened =
+    kept_stays IsCatalogue journal files opened old later after new (AtOwn (manifest_name store) R) passes (λ a c step n own. step.elsewhere n (apart n own)) (λ n own. others n (apart n own))
+    (λ n own. let fewer = others_opened n (apart n own) in omega (arith, fewer)) rows kept
+  where
+    apart : (n : Name) → IsOwn journal.name n → IsOwn (manifest_name store) n → ⊥
+    apart n own too = other_journal store n (subst (λ (m : Name). IsOwn m n) named own) too
+
+-- A MANIFEST
+
+-- it says what it said, also where it had no batch and lists nothing still
+pub begins_says : (g : Granularity) (name : Name) (old new : Files) → StaysOrBegins g name old new → StillSays (Folds g) name old new
+begins_says g name old new (inl keeps) = keeps_says (Folds g) name old new keeps
+begins_says g name old new (inr begun) = λ entries. (onward entries, backward entries)
+  where
+    nothing : Says (Folds g) [] name old
+    nothing = record { batches = []; has = begun.0; means = refl }
+
+    onward : (entries : List Entry) → Says (Folds g) entries name old → Says (Folds g) entries name new
+    onward entries says = subst (λ (es : List Entry). Says (Folds g) es name new) (sym (one_listing g g name old entries [] says nothing)) begun.1
+
+    backward : (entries : List Entry) → Says (Folds g) entries name new → Says (Folds g) entries name old
+    backward entries says = subst (λ (es : List Entry). Says (Folds g) es name old) (sym (one_listing g g name new entries [] says begun.1)) nothing
+
+pub says_before : (g h : Granularity) (name : Name) (old new : Files) (entries : List Entry) → StaysOrBegins g name old new → Says (Folds h) entries name new → Says (Folds h) entries name old
+says_before g h name old new entries (inl keeps) says = (keeps_says (Folds h) name old new keeps entries).1 says
+says_before g h name old new entries (inr begun) says =
+    let empty : entries ≡ [] = one_listing h g name new entries [] says begun.1 in
+    record { batches = []; has = begun.0; means = empty }
+
+-- A JOURNAL THAT IS LOADED ONCE MORE
+
+-- what its load keeps
+pub record LoadsAgain (name : Name) (files : Files) (opened : Name → ℕ) (old : Past) (later : Files) (after : Name → ℕ) (new : Past) : Type 0 where
+  pub kept : AtOwn name (KeepsBatches name) files later
+  pub passes : Passes (AtOwn name (KeepsBatches name)) old new
+  pub others : (n : Name) → (IsOwn name n → ⊥) → after n ≡ opened n
+  pub is : NoneOpened name after
+
+pub stays_at : (g : Granularity) (name : Name) (a c : Files) → AtOwn name (KeepsBatches name) a c → AtOwn name (StaysOrBegins g name) a c
+stays_at g name a c step = record { here = inl step.here; elsewhere = step.elsewhere }
+
+-- WHERE A BATCH STANDS
+
+length_gate : (b rest : List ℕ) → length (1 ∷ framed_bytes b ++ rest) ≡ length rest + (length b + 5)
+unfolding framed_bytes
+length_gate b rest = let long : length (to_le_bytes w32 (length b)) ≡ 4 = omega arith in omega (arith, long, length-append (1 ∷ (to_le_bytes w32 (length b) ++ b)) rest, length-append (to_le_bytes w32 (length b)) b)
+
+gates_more_at : (bs : List (List ℕ)) (i : ℕ) (b : List ℕ) → slice_get bs i ≡ Some b → length (open_gates (take (suc i) bs)) ≡ length (open_gates (take i bs)) + (length b + 5)
+gates_more_at [] i b here = absurd (none-some b here)
+gates_more_at (x ∷ bs) zero b here = let is : x ≡ b = same_Some x b here in subst (λ (y : List ℕ). length (open_gates (x ∷ take 0 bs)) ≡ 0 + (length y + 5)) is (length_gate x (open_gates (take 0 bs)))
+gates_more_at (x ∷ bs) (suc i) b here =
+    let more = gates_more_at bs i b here in
+    omega (arith, more, length_gate x (open_gates (take (suc i) bs)), length_gate x (open_gates (take i bs)))
+
+-- the next batch's gate stands behind the batch
+pub gates_more : (bs : List (List ℕ)) (i : ℕ) (b : List ℕ) → slice_get bs i ≡ Some b → length (open_gates (take (i + 1) bs)) ≡ length (open_gates (take i bs)) + (length b + 5)
+gates_more bs i b here = rw add-one (gates_more_at bs i b here)
+
+-- the file of a settled journal's current generation, where its load has kept the batches
+pub settled_file_of : (journal : JournalState) (name : Name) (old new : Files) (opened : Name → ℕ) (past : Past) (bs cs : List (List ℕ)) → journal.name ≡ name → IsSettledWith journal new opened past cs → KeepsBatches name old new
+    → (has : HasBatchesOf name old bs) → journal.current.name ≡ generation_name name has.generation
+settled_file_of journal name old new opened past bs cs named settled keeps has =
+    let at_is : journal.at.name ≡ at_name name = settled.named.at ∙ ap at_name named in
+    let told : HasBatches (new (at_name name)) (generation_batches settled.generation) = subst (λ (n : Name). HasBatches (new n) (generation_batches settled.generation)) at_is (settled_seen journal.at new opened past (generation_batches settled.generation) settled.at) in
+    let same = one_generation_told (new (at_name name)) settled.generation has.generation told (keeps.told has.generation has.told) in
+    settled.named.current ∙ ap (λ (n : Name). generation_name n settled.generation) named ∙ ap (λ (k : ℕ). generation_name name k) same
+
+-- the journal that is loaded once more has the batch, since what has no batch has no bad one
+pub bad_again : (IsBad : List (List ℕ) → ℕ → Type 0) → ((n : ℕ) → IsBad [] n → ⊥) → (name : Name) (old new : Files) (X : Type 0) (bs : List (List ℕ)) (n : ℕ) (file : Name) (at : ℕ) → HasBatchesOf name old bs → IsBad bs n
+    → KeepsBatches name old new ⊎ (HasBatchesOf name old [] × X) → IsGate name new n file at → IsBadFile IsBad name old file at
+bad_again IsBad none name old new X bs n file at has bad (inl keeps) gate =
+    let now = (keeps.batches bs).0 has in
+    let is = gate bs now in
+    let same = one_generation_told (new (at_name name)) now.generation has.generation now.told (keeps.told has.generation has.told) in
+    inr (record { batches = bs; number = n; has = has; bad = bad; current = is.0 ∙ ap (λ (k : ℕ). generation_name name k) same; gate = is.1 })
+bad_again IsBad none name old new X bs n file at has bad (inr empty) gate = absurd (none n (subst (λ (l : List (List ℕ)). IsBad l n) (one_list name old bs [] has empty.0) bad))
+
+-- A JOURNAL'S FILES ARE THE SAME IN TWO IMAGES
+
+bad_here : (name : Name) (old new : Files) (file : Name) (at : ℕ) → ((n : Name) → IsOwn name n → new n ≡ old n) → IsBadOf name old file at → IsBadOf name new file at
+bad_here name old new file at same (inl (is, inl bad)) = inl (is, inl (subst (λ (c : Content). IsBadJournal c at) (sym (same file (inl is))) bad))
+bad_here name old new file at same (inl (is, inr bad)) = inl (
+  is,
+  inr (record {
+    batches = bad.batches;
+    generation = bad.generation;
+    has = subst (λ (c : Content). HasBatches c bad.batches) (sym (same (at_name name) (inl refl))) bad.has;
+    out_of_turn = bad.out_of_turn;
+    is_at = bad.is_at;
+  }),
+)
+bad_here name old new file at same (inr bad) =
+    let here : new file ≡ old file = same file (inr (bad.generation, bad.small, bad.is)) in
+    inr (record {
+      generation = bad.generation;
+      small = bad.small;
+      told = subst (λ (c : Content). HasBatches c (generation_batches bad.generation)) (sym (same (at_name name) (inl refl))) bad.told;
+      is = bad.is;
+      bad = elim bad.bad [
+        | inl broken ↦ inl (subst (λ (c : Content). IsBadJournal c at) (sym here) broken)
+        | inr short ↦ inr (short.0, subst (λ (c : Content). IsShort c) (sym here) short.1, short.2)
+      ];
+    })
+
+pub bad_in : (IsBad : List (List ℕ) → ℕ → Type 0) (name : Name) (old new : Files) (file : Name) (at : ℕ) → ((n : Name) → IsOwn name n → new n ≡ old n) → IsBadFile IsBad name old file at → IsBadFile IsBad name new file at
+bad_in IsBad name old new file at same (inl bad) = inl (bad_here name old new file at same bad)
+bad_in IsBad name old new file at same (inr bad) =
+    let has = says_of name old new bad.batches same bad.has in
+    let told : HasBatches (new (at_name name)) (generation_batches bad.has.generation) = subst (λ (c : Content). HasBatches c (generation_batches bad.has.generation)) (sym (same (at_name name) (inl refl))) bad.has.told in
+    let generation = one_generation_told (new (at_name name)) bad.has.generation has.generation told has.told in
+    inr (record { batches = bad.batches; number = bad.number; has = has; bad = bad.bad; current = bad.current ∙ ap (λ (k : ℕ). generation_name name k) generation; gate = bad.gate })
+
+pub no_bad_rows : (n : ℕ) → catalogue.IsBadBatch [] n → ⊥
+no_bad_rows n bad = let long = ap length bad.split in omega (arith, long, length-append bad.front (bad.batch ∷ bad.rest))
+
+pub no_bad_entries : (n : ℕ) → manifest.IsBadBatch [] n → ⊥
+no_bad_entries n bad = let long = ap length bad.split in omega (arith, long, length-append bad.front (bad.batch ∷ bad.rest))
+
+-- WHERE THERE IS NO FILE
+
+pub no_batch : (name : Name) (files : Files) → ((n : Name) → files n ≡ None) → HasBatchesOf name files []
+no_batch name files none = record {
+  generation = 0;
+  small = omega arith;
+  told = subst (λ (c : Content). HasBatches c (generation_batches 0)) (sym (none (at_name name))) none_told;
+  batches = subst (λ (c : Content). HasBatches c []) (sym (none (generation_name name 0))) refl;
+  there = λ later. absurd (omega (arith, later));
+}
+
+-- What the four journals hold and say goes on through loads and reads.
+
+-- the granularity at a place that has one
+pub is_at : (gs : List Granularity) (i : ℕ) (g : Granularity) → slice_get gs i ≡ Some g → granularity_at gs i ≡ g
+is_at gs i g here = ap (λ (o : Option Granularity). unwrap_or o Hour) here
+
+-- JOURNALS HAVE NO FILE IN COMMON
+
+pub one_store : (s t : ℕ) → manifest_name s ≡ manifest_name t → s ≡ t
+one_store s t is = let digit : 48 + s ≡ 48 + t = ap (λ (n : Name). get_or n.1 8 0) is in omega (arith, digit)
+
+pub journal_cases : (i j : Journal) → (i ≡ j) ⊎ (i ≢ j)
+journal_cases Catalogue Catalogue = inl refl
+journal_cases Catalogue (Manifest t) = inr (λ is. journals_differ (t + 1) (ap name_of is))
+journal_cases (Manifest s) Catalogue = inr (λ is. journals_differ (s + 1) (sym (ap name_of is)))
+journal_cases (Manifest s) (Manifest t) = elim (cases_eq s t) [
+  | inl same ↦ inl (ap (λ (n : ℕ). Manifest n) same)
+  | inr apart ↦ inr (λ is. let same = one_store (s + 1) (t + 1) (ap name_of is) in apart (omega (arith, same)))
+]
+
+pub journals_apart : (i j : Journal) → i ≢ j → (n : Name) → IsOwn (name_of i) n → IsOwn (name_of j) n → ⊥
+journals_apart Catalogue Catalogue apart n own too = apart refl
+journals_apart Catalogue (Manifest t) apart n own too = other_journal (t + 1) n own too
+journals_apart (Manifest s) Catalogue apart n own too = other_journal (s + 1) n too own
+journals_apart (Manifest s) (Manifest t) apart n own too = manifests_differ (s + 1) (t + 1) (λ is. let same : s ≡ t = omega (arith, is) in apart (ap (λ (k : ℕ). Manifest k) same)) n own too
+
+pub of_zero : (j : Journal) → (name_of j).0 ≡ 0
+of_zero Catalogue = refl
+of_zero (Manifest i) = refl
+
+-- a name of another store is no journal's
+pub no_journal : (n : Name) (j : Journal) → n.0 ≢ 0 → IsOwn (name_of j) n → ⊥
+no_journal n j other own = other (own_store (name_of j) n own ∙ of_zero j)
+
+-- ONE CALL AFTER ANOTHER
+
+keeps_none : (name : Name) (a c : Files) → ((n : Name) → IsOwn name n → c n ≡ a n) → KeepsBatches name a c
+keeps_none name a c same = record {
+  batches = λ bs. (says_of name a c bs same, says_of name c a bs (λ n own. sym (same n own)));
+  told = λ g has. subst (λ (f : Content). HasBatches f (generation_batches g)) (sym (same (at_name name) (inl refl))) has;
+}
+
+keeps_then : (name : Name) (a b c : Files) → KeepsBatches name a b → KeepsBatches name b c → KeepsBatches name a c
+keeps_then name a b c one two = record {
+  batches = λ bs. (λ has. (two.batches bs).0 ((one.batches bs).0 has), λ has. (one.batches bs).1 ((two.batches bs).1 has));
+  told = λ g has. two.told g (one.told g has);
+}
+
+begins_then : (g : Granularity) (name : Name) (a b c : Files) → StaysOrBegins g name a b → StaysOrBegins g name b c → StaysOrBegins g name a c
+begins_then g name a b c (inl one) (inl two) = inl (keeps_then name a b c one two)
+begins_then g name a b c (inl one) (inr two) = inr ((one.batches []).1 two.0, two.1)
+begins_then g name a b c (inr one) two = inr (one.0, (begins_says g name b c two []).0 one.1)
+
+-- where its files are as they were
+pub journal_none : (gs : List Granularity) (j : Journal) (a c : Files) → ((n : Name) → IsOwn (name_of j) n → c n ≡ a n) → KeepsJournal gs j a c
+journal_none gs Catalogue a c same = keeps_none catalogue_name a c same
+journal_none gs (Manifest i) a c same = inl (keeps_none (manifest_name (i + 1)) a c same)
+
+pub journal_then : (gs : List Granularity) (j : Journal) (a b c : Files) → KeepsJournal gs j a b → KeepsJournal gs j b c → KeepsJournal gs j a c
+journal_then gs Catalogue a b c one two = keeps_then catalogue_name a b c one two
+journal_then gs (Manifest i) a b c one two = begins_then (granularity_at gs i) (manifest_name (i + 1)) a b c one two
+
+-- it says what it said
+pub journal_says : (gs : List Granularity) (j : Journal) (a c : Files) → KeepsJournal gs j a c → StillSays (Means gs j) (name_of j) a c
+journal_says gs Catalogue a c keeps = keeps_says IsCatalogue catalogue_name a c keeps
+journal_says gs (Manifest i) a c keeps = begins_says (granularity_at gs i) (manifest_name (i + 1)) a c keeps
+
+-- and nothing more, whatever the granularities are
+pub no_more : (gs hs : List Granularity) (j : Journal) (a c : Files) (value : Value j) → KeepsJournal gs j a c → Says (Means hs j) value (name_of j) c → Says (Means hs j) value (name_of j) a
+no_more gs hs Catalogue a c value keeps says = (keeps_says IsCatalogue catalogue_name a c keeps value).1 says
+no_more gs hs (Manifest i) a c value keeps says = says_before (granularity_at gs i) (granularity_at hs i) (manifest_name (i + 1)) a c value keeps says
+
+still_none : (gs : List Granularity) (a : Files) → StillSay gs a a
+still_none gs a = record { journals = λ j. journal_none gs j a a (λ n own. refl); elsewhere = λ n other. refl; others = λ n apart. refl }
+
+still_then : (gs : List Granularity) (a b c : Files) → StillSay gs a b → StillSay gs b c → StillSay gs a c
+still_then gs a b c one two = record {
+  journals = λ j. journal_then gs j a b c (one.journals j) (two.journals j);
+  elsewhere = λ n other. two.elsewhere n other ∙ one.elsewhere n other;
+  others = λ n apart. two.others n apart ∙ one.others n apart;
+}
+
+pub kept_then : (gs : List Granularity) (f₀ : Files) (o₀ : Name → ℕ) (p₀ : Past) (f₁ : Files) (o₁ : Name → ℕ) (p₁ : Past) (f₂ : Files) (o₂ : Name → ℕ) (p₂ : Past) → KeepsSaid gs f₀ o₀ p₀ f₁ o₁ p₁ → KeepsSaid gs f₁ o₁ p₁ f₂ o₂ p₂ → KeepsSaid gs f₀ o₀ p₀ f₂ o₂ p₂
+kept_then gs f₀ o₀ p₀ f₁ o₁ p₁ f₂ o₂ p₂ one two = record {
+  passes = passes_then (StillSay gs) (StillSay gs) p₀ p₁ p₂ one.passes two.passes (λ a b c was before now step. still_then gs a b c before step);
+  now = still_then gs f₀ f₁ f₂ one.now two.now;
+  same_opened = λ n other. two.same_opened n other ∙ one.same_opened n other;
+  none_opened = λ j none. two.none_opened j (one.none_opened j none);
+}
+
+-- calls that only read
+pub kept_reading : (gs : List Granularity) (files later : Files) (opened after : Name → ℕ) (old new : Past) → later ≡ files → Passes (λ a b. b ≡ a) old new → after ≡ opened → KeepsSaid gs files opened old later after new
+kept_reading gs files later opened after old new same passes opened_same = record {
+  passes = passes_weaker (λ a b. b ≡ a) (StillSay gs) old new passes (λ a c was is. subst (StillSay gs a) (sym is) (still_none gs a));
+  now = subst (StillSay gs files) (sym same) (still_none gs files);
+  same_opened = λ n other. ap (λ (o : Name → ℕ). o n) opened_same;
+  none_opened = λ j none. subst (λ (o : Name → ℕ). NoneOpened (name_of j) o) (sym opened_same) none;
+}
+
+-- no call at all
+pub kept_same : (gs : List Granularity) (files : Files) (opened : Name → ℕ) (past : Past) → Passes (λ a b. b ≡ a) past past → KeepsSaid gs files opened past files opened past
+kept_same gs files opened past passes = kept_reading gs files files opened opened past past refl passes refl
+
+-- what is kept of a manifest stays while that of another store is loaded
+pub manifest_stays : (store : ℕ) (R : Files → Files → Type 0) (other : ℕ) (m : ManifestState) (files : Files) (opened : Name → ℕ) (old : Past) (later : Files) (after : Name → ℕ) (new : Past) → m.journal.name ≡ manifest_name other → other ≢ store → IsKept m files opened old
+    → ((n : Name) → (IsOwn (manifest_name store) n → ⊥) → later n ≡ files n) → Passes (AtOwn (manifest_name store) R) old new → ((n : Name) → (IsOwn (manifest_name store) n → ⊥) → after n ≡ opened n) → IsKept m later after new
+manifest_stays store R other m files opened old later after new named distinct kept others passes others_opened =
+    kept_stays (Configured m.granularity) m.journal files opened old later after new (AtOwn (manifest_name store) R) passes (λ a c step n own. step.elsewhere n (apart n own)) (λ n own. others n (apart n own))
+    (λ n own. let fewer = others_opened n (apart n own) in omega (arith, fewer)) m.entries kept
+  where
+    apart : (n : Name) → IsOwn m.journal.name n → IsOwn (manifest_name store) n → ⊥
+    apart n own too = manifests_differ other store distinct n (subst (λ (k : Name). IsOwn k n) named own) too
+
+-- ONE JOURNAL IS LOADED
+
+-- it keeps its batches, and every name that isn't one of its files is as it was
+record LoadsOne (gs : List Granularity) (j : Journal) (files : Files) (opened : Name → ℕ) (old : Past) (later : Files) (after : Name → ℕ) (new : Past) : Type 0 where
+  passes : Passes (AtOwn (name_of j) (KeepsJournal gs j)) old new
+  kept : AtOwn (name_of j) (KeepsJournal gs j) files later
+  others_opened : (n : Name) → (IsOwn (name_of j) n → ⊥) → after n ≡ opened n
+  is : NoneOpened (name_of j) after
+
+kept_load : (gs : List Granularity) (j : Journal) (files later : Files) (opened after : Name → ℕ) (old new : Past) → LoadsOne gs j files opened old later after new → KeepsSaid gs files opened old later after new
+kept_load gs j files later opened after old new load = record {
+  passes = passes_weaker (AtOwn (name_of j) (KeepsJournal gs j)) (StillSay gs) old new load.passes (λ a c left step. still a c step);
+  now = still files later load.kept;
+  same_opened = λ n other. load.others_opened n (no_journal n j other);
+  none_opened = λ i. unopened i (journal_cases i j);
+}
+  where
+    journal : (i : Journal) (a c : Files) → AtOwn (name_of j) (KeepsJournal gs j) a c → (i ≡ j) ⊎ (i ≢ j) → KeepsJournal gs i a c
+    journal i a c step (inl is) = subst (λ (k : Journal). KeepsJournal gs k a c) (sym is) step.here
+    journal i a c step (inr apart) = journal_none gs i a c (λ n own. step.elsewhere n (journals_apart i j apart n own))
+
+    still : (a c : Files) → AtOwn (name_of j) (KeepsJournal gs j) a c → StillSay gs a c
+    still a c step = record {
+      journals = λ i. journal i a c step (journal_cases i j);
+      elsewhere = λ n other. step.elsewhere n (no_journal n j other);
+      others = λ n apart. step.elsewhere n (apart j);
+    }
+
+    unopened : (i : Journal) → (i ≡ j) ⊎ (i ≢ j) → NoneOpened (name_of i) opened → NoneOpened (name_of i) after
+    unopened i (inl is) none = subst (λ (k : Journal). NoneOpened (name_of k) after) (sym is) load.is
+    unopened i (inr apart) none = λ n own. load.others_opened n (journals_apart i j apart n own) ∙ none n own
+
+module _ (gs : List Granularity) (files later : Files) (opened after : Name → ℕ) (old new : Past) where
+  -- the catalogue alone
+  pub kept_rows : Passes (AtOwn catalogue_name (KeepsBatches catalogue_name)) old new → AtOwn catalogue_name (KeepsBatches catalogue_name) files later → ((n : Name) → (IsOwn catalogue_name n → ⊥) → after n ≡ opened n) → NoneOpened catalogue_name after → KeepsSaid gs files opened old later after new
+  kept_rows passes kept others_opened is = kept_load gs Catalogue files later opened after old new (record { passes = passes; kept = kept; others_opened = others_opened; is = is })
+
+  pub rows_again : (name : Name) → name ≡ catalogue_name → LoadsAgain name files opened old later after new → KeepsSaid gs files opened old later after new
+  rows_again name named loads =
+      let at = subst (λ (n : Name). LoadsAgain n files opened old later after new) named loads in kept_rows at.passes at.kept at.others at.is
+
+  -- one manifest alone
+  pub kept_list : (i : ℕ) (g : Granularity) → slice_get gs i ≡ Some g → Passes (AtOwn (manifest_name (i + 1)) (StaysOrBegins g (manifest_name (i + 1)))) old new → AtOwn (manifest_name (i + 1)) (StaysOrBegins g (manifest_name (i + 1))) files later
+      → ((n : Name) → (IsOwn (manifest_name (i + 1)) n → ⊥) → after n ≡ opened n) → NoneOpened (manifest_name (i + 1)) after → KeepsSaid gs files opened old later after new
+  kept_list i g here passes kept others_opened none =
+      let is = sym (is_at gs i g here) in
+      kept_load gs (Manifest i) files later opened after old new (record {
+        passes = subst (λ (h : Granularity). Passes (AtOwn (manifest_name (i + 1)) (StaysOrBegins h (manifest_name (i + 1)))) old new) is passes;
+        kept = subst (λ (h : Granularity). AtOwn (manifest_name (i + 1)) (StaysOrBegins h (manifest_name (i + 1))) files later) is kept;
+        others_opened = others_opened;
+        is = none;
+      })
+
+  pub list_again : (i : ℕ) (g : Granularity) → slice_get gs i ≡ Some g → (name : Name) → name ≡ manifest_name (i + 1) → LoadsAgain name files opened old later after new → KeepsSaid gs files opened old later after new
+  list_again i g here name named loads =
+      let at = subst (λ (n : Name). LoadsAgain n files opened old later after new) named loads in
+      let own : Name = manifest_name (i + 1) in
+      kept_list i g here (passes_weaker (AtOwn own (KeepsBatches own)) (AtOwn own (StaysOrBegins g own)) old new at.passes (λ a c was step. stays_at g own a c step)) (stays_at g own files later at.kept) at.others at.is
+
+-- The stores that are opened have what reads give of the image.
 
 -- no partition's file is a journal
 pub listed_elsewhere : (shelf : Shelf) (e : Entry) → 1 ≤ shelf.0 → (file_of shelf e).0 ≢ 0
@@ -128,7 +467,7 @@ stored_at gs s held i m here ready of valid loaded left =
     record {
       named = loaded.named_manifests i m here;
       sound = ready.sound_lists i m here;
-      kept = subst (λ (es : List Entry). journal.IsKept (Configured m.granularity) m.journal s.files s.opened s.past es) (of.listed i m here) (loaded.kept i m here);
+      kept = subst (λ (es : List Entry). in_journal.IsKept (Configured m.granularity) m.journal s.files s.opened s.past es) (of.listed i m here) (loaded.kept i m here);
       valid = valid;
       safe = record {
         long = all_entries (IsThere i s.files held.rows) (list_at i held) safe.0;
@@ -145,7 +484,7 @@ has_again tells gs s held three ready of filed disk = record {
   disk = λ told.
       let on = disk told in
       record {
-        rows = record { named = on.0.named; sound = ready.sound; kept = subst (λ (r : List Row). journal.IsKept IsCatalogue s.catalogue.journal s.files s.opened s.past r) (sym of.of_rows) on.0.stored };
+        rows = record { named = on.0.named; sound = ready.sound; kept = subst (λ (r : List Row). in_journal.IsKept IsCatalogue s.catalogue.journal s.files s.opened s.past r) (sym of.of_rows) on.0.stored };
         each = λ i m here. stored_at gs s held i m here ready of (known.each i m here).valid on.0 (λ image left. on.1 image left i (within_three s.manifests i m known.three here));
       };
 }

@@ -1,35 +1,221 @@
--- An image has one verdict at most.
-use Rattle.std.proofs.Common.{◌≡◌, ◌⊎◌, inl, inr, ℕ, zero, suc, ◌<◌, ◌≤◌, ◌+◌, List, [], ◌∷◌, ◌++◌, length, map, take, Some, None, true, refl, sym, ◌∙◌, ap, subst, arith}
-use Rattle.std.specs.Prelude.{All, IsTrue, slice_get}
+-- The verdict on an image: the manifests that are loaded, the look at the listed files, and that there is one at most.
+use Rattle.std.proofs.Common.{◌≡◌, inl, inr, ℕ, zero, suc, ◌+◌, ◌<◌, ◌≤◌, List, [], ◌∷◌, ◌++◌, length, Some, refl, sym, ◌∙◌, ap, subst, arith, take, None, ◌⊎◌, ◌≢◌, drop, get_or, Option, map, true}
+use Rattle.std.specs.Prelude.{slice_get, All, Contains, IsTrue}
 use Rattle.std.proofs.lemmas.Bool.{cases_lt}
-use Rattle.std.proofs.lemmas.List.{length-take}
-use Rattle.std.proofs.lemmas.List.Elements.{All-head, All-tail, All-map, All-weaker, All-contains, All-nil}
-use Rattle.std.proofs.lemmas.Option.{slice_get_within, same_Some}
-use Rattle.disk_model.specs.Files.{Name, Content, Files, HasFile}
-use Rattle.gate_journal.specs.Batches.{open_gates}
-use Rattle.gate_journal.specs.Generations.{at_name, generation_name, HasBatchesOf, IsBadOf}
-use Rattle.store_reopen.proofs.OneJournal.{no_batch, one_list_of_rows}
-use Rattle.gate_journal.specs.Kept.{Says}
+use Rattle.disk_model.specs.Files.{Name, Files, HasFile, Content}
 use Rattle.partition_names.specs.declared.granularity.Granularity.{Granularity}
-use Rattle.store_files.specs.Fronts.{Begins}
 use Rattle.store_manifest.specs.declared.entry.Entry.{Entry}
-use Rattle.store_manifest.specs.Batches as manifest
-use Rattle.store_manifest.specs.Manifest.{manifest_name}
+use Rattle.store_manifest.specs.Manifest.{manifest_name, ManifestState}
+use Rattle.pv_catalog.specs.declared.row.Row.{Row}
+use Rattle.store_reopen.specs.Verdict.{AreSaid, IsThere, IsFirstShort, HasStranger, file_short, HasRow, EndsEarly, AreSaidBelow, Listings, IsWhole, Differs, ManifestIsBad, HasShortFile, IsDamaged, catalogue_bad, manifest_bad, stranger as is_stranger}
+use Rattle.durable_write.specs.Held.{file_of, Filed, IsFiled, IsListed, IsIn, entry_of, bytes_of}
+use Rattle.tier_store.specs.Seen.{AtEach}
+use Rattle.tier_store.proofs.Places.{manifest_at, manifest_here, one_manifest, within_three}
+use Rattle.store_reopen.specs.Reopen.{lists_of, stores_of}
+use Rattle.store_reopen.proofs.Having.{listed_at, all_there_in, listed_elsewhere, low_of, said_of, listing, granularity_here, no_batch, one_list_of_rows}
+use Rattle.std.proofs.lemmas.Option.{same_Some, slice_get_within}
+use Rattle.gate_journal.specs.Kept.{Says}
+use Rattle.pv_catalog.specs.Catalogue.{catalogue_name}
+use Rattle.std.proofs.lemmas.List.{take_all, length-take}
+use Rattle.std.proofs.lemmas.List.Elements.{All-more, All-head, All-tail, All-map, All-weaker, All-contains, All-nil}
+use Rattle.store_reopen.specs.declared.error.Refusal.{Refusal}
+use Rattle.store_reopen.specs.declared.error.Refusal.TheVariants.{Disk, Damaged, GranularityDiffers}
+use Rattle.store_reopen.specs.Refusal.{IsTold, IsToldShort}
+use Rattle.std.specs.List.{AllAdjacentBelow}
+use Rattle.gate_journal.specs.Generations.{IsOwn, at_name, generation_name, HasBatchesOf, IsBadOf}
+use Rattle.gate_journal.proofs.Keeping.{says_stays}
+use Rattle.etl_rules.specs.Config.{ConfigState, IsGood}
+use Rattle.partition_names.specs.Granularity.{Holds}
+use Rattle.partition_names.specs.declared.granularity.Granularity.TheVariants.{Hour}
+use Rattle.store_manifest.specs.Batches.{Folds}
+use Rattle.pv_catalog.specs.Rows.{IsCatalogue}
+use Rattle.tier_store.specs.Beginning.{AreNested}
+use Rattle.store_reopen.specs.Loading.{granularity_at}
+use Rattle.gate_journal.specs.Batches.{open_gates}
+use Rattle.store_files.specs.Fronts.{Begins}
 use Rattle.store_manifest.proofs.Committing.{one_listing, same_granularity}
 use Rattle.store_manifest.proofs.Meaning.{one_granularity, folds_good, configured_folds}
-use Rattle.store_manifest.proofs.Meaning as manifest_meaning
-use Rattle.pv_catalog.specs.declared.row.Row.{Row}
-use Rattle.pv_catalog.specs.Catalogue.{catalogue_name}
-use Rattle.pv_catalog.specs.Rows as catalogue
-use Rattle.pv_catalog.proofs.Meaning as catalogue_meaning
-use Rattle.durable_write.specs.Held.{Filed, IsFiled, IsListed, IsIn, entry_of, file_of, bytes_of}
 use Rattle.tier_store.specs.Stores.{Stores, list_at}
 use Rattle.tier_store.specs.Stored.{HoldsAll}
 use Rattle.store_reopen.specs.OneJournal.{IsBadFile, IsBadCatalogue, IsBadManifest}
 use Rattle.gate_journal.proofs.OneReading.{one_list}
 use Rattle.gate_journal.proofs.Telling.{one_generation_told}
-use Rattle.store_reopen.specs.Verdict.{Listings, AreSaidBelow, AreSaid, IsThere, IsFirstShort, IsWhole, Differs, ManifestIsBad, HasStranger, HasShortFile, IsDamaged, catalogue_bad, manifest_bad, stranger, file_short, HasRow, EndsEarly}
-use Rattle.store_reopen.proofs.Having.{said_of, listing, granularity_here}
+use Rattle.store_manifest.specs.Batches as manifest
+use Rattle.store_manifest.proofs.Meaning as manifest_meaning
+use Rattle.pv_catalog.specs.Rows as catalogue
+use Rattle.pv_catalog.proofs.Meaning as catalogue_meaning
+
+-- The look at the listed files.
+
+pub no_some : (o : Option ℕ) → ((x : ℕ) → o ≡ Some x → ⊥) → o ≡ None
+no_some None not = refl
+no_some (Some x) not = absurd (not x refl)
+
+split_at : (xs : List Entry) (n : ℕ) (e : Entry) → n < length xs → e ≡ get_or xs n e → xs ≡ take n xs ++ e ∷ drop (suc n) xs
+split_at [] n e within is = absurd (omega arith)
+split_at (x ∷ xs) zero e within is = ap (λ (y : Entry). y ∷ xs) (sym is)
+split_at (x ∷ xs) (suc n) e within is = ap (λ (l : List Entry). x ∷ l) (split_at xs n e (omega arith) is)
+
+pub there_more : (i : ℕ) (files now : Files) (rows : List Row) (entries : List Entry) (name : Name) (n m : ℕ) (e : Entry) → m ≡ n + 1 → n < length entries → e ≡ get_or entries n e → now ≡ files → All (IsThere i files rows) (take n entries) → name ≡ file_of (i + 1, rows) e
+    → HasFile now name (λ b. e.len ≤ length b) → All (IsThere i files rows) (take m entries)
+there_more i files now rows entries name n m e more within is same there named long =
+    let named_there : IsThere i now rows e = subst (λ (x : Name). HasFile now x (λ b. e.len ≤ length b)) named long in
+    let here : IsThere i files rows (get_or entries n e) = subst (IsThere i files rows) is (subst (λ (f : Files). IsThere i f rows e) same named_there) in
+    subst (λ (k : ℕ). All (IsThere i files rows) (take k entries)) (sym more) (All-more (IsThere i files rows) entries n e within there here)
+
+pub all_there : (i : ℕ) (files : Files) (rows : List Row) (entries : List Entry) (n : ℕ) → n ≡ length entries → All (IsThere i files rows) (take n entries) → All (IsThere i files rows) entries
+all_there i files rows entries n is there = subst (λ (es : List Entry). All (IsThere i files rows) es) (take_all n entries (omega (arith, is))) there
+
+pub first_short : (i : ℕ) (files now : Files) (rows : List Row) (entries : List Entry) (name : Name) (at n : ℕ) (e : Entry) → now ≡ files → n < length entries → e ≡ get_or entries n e
+    → All (IsThere i files rows) (take n entries) → name ≡ file_of (i + 1, rows) e → EndsEarly e.len at (now name) → IsFirstShort i files rows entries name at
+first_short i files now rows entries name at n e here within is there named short = record {
+  before = take n entries;
+  entry = e;
+  behind = drop (suc n) entries;
+  split = split_at entries n e within is;
+  there = there;
+  named = named;
+  short = subst (EndsEarly e.len at) (ap (λ (f : Files). f name) here) short;
+}
+
+-- the same in another image that has the same files of stores
+short_in : (i : ℕ) (files seen : Files) (rows : List Row) (entries : List Entry) (name : Name) (at : ℕ) → ((n : Name) → n.0 ≢ 0 → files n ≡ seen n) → IsFirstShort i files rows entries name at → IsFirstShort i seen rows entries name at
+short_in i files seen rows entries name at same first =
+    let outside : name.0 ≢ 0 = λ zero_store. listed_elsewhere (i + 1, rows) first.entry (omega arith) (sym (ap (λ (m : Name). m.0) first.named) ∙ zero_store) in
+    record {
+      before = first.before;
+      entry = first.entry;
+      behind = first.behind;
+      split = first.split;
+      there = all_there_in i files seen rows first.before same first.there;
+      named = first.named;
+      short = subst (EndsEarly first.entry.len at) (same name outside) first.short;
+    }
+
+-- PLACES
+
+-- the manifest that was taken of a place
+pub here_from : (ms : List ManifestState) (i k : ℕ) (m : ManifestState) → m ≡ get_or ms k m → k ≡ i → i < length ms → slice_get ms i ≡ Some m
+here_from ms i k m is same low = manifest_here ms i m (is ∙ ap (λ (j : ℕ). get_or ms j m) same) low
+
+-- what is true of the lists below a place and of the one there
+pub next_place : (P : ℕ → List Entry → Type 0) (ms : List ManifestState) (p : ℕ) (m : ManifestState) → slice_get ms p ≡ Some m → ((k : ℕ) (n : ManifestState) → k < p → slice_get ms k ≡ Some n → P k n.entries) → P p m.entries → (k : ℕ) (n : ManifestState) → k < p + 1 → slice_get ms k ≡ Some n → P k n.entries
+next_place P ms p m here each own k n low there = elim (cases_lt k p) [
+  | inl below ↦ each k n below there
+  | inr from ↦
+      let same : k ≡ p = omega (arith, low, from) in
+      subst (λ (j : ℕ). P j n.entries) (sym same) (subst (λ (x : ManifestState). P p x.entries) (sym (one_manifest ms p k m n same here there)) own)
+]
+
+-- what is true of the lists below the last place
+pub at_all : (P : ℕ → List Entry → Type 0) (ms : List ManifestState) (p : ℕ) → length ms ≡ 3 → 3 ≤ p → ((k : ℕ) (n : ManifestState) → k < p → slice_get ms k ≡ Some n → P k n.entries) → AtEach ms (λ k n. P k n.entries)
+at_all P ms p three all each k n here = let low = within_three ms k n three here in each k n (omega (arith, low, all)) here
+
+-- what is true of each manifest is true of each list
+at_lists : (P : ℕ → List Entry → Type 0) (ms : List ManifestState) (n i : ℕ) → n ≤ length ms → ((k : ℕ) (m : ManifestState) → k < n → slice_get ms k ≡ Some m → P k m.entries) → i < n → P i (lists_of ms i)
+at_lists P ms n i long each low =
+    let m = manifest_at ms i (omega (arith, long, low)) in
+    subst (P i) (sym (listed_at ms i m.0 m.1)) (each i m.0 low m.1)
+
+-- what is told of the files of the store at a place is told of all
+pub told_short : (gs : List Granularity) (seen files : Files) (rows : List Row) (ms : List ManifestState) (i : ℕ) (m : ManifestState) (e : Refusal) → length gs ≡ 3 → length ms ≡ 3 → AreSaid gs seen rows (lists_of ms) → AtEach ms (λ k n. All (HasRow rows) n.entries) → ((n : Name) → n.0 ≢ 0 → files n ≡ seen n)
+    → i < 3 → slice_get ms i ≡ Some m → ((k : ℕ) (n : ManifestState) → k < i → slice_get ms k ≡ Some n → All (IsThere k files rows) n.entries) → IsToldShort i files rows m.entries e → IsTold gs seen e
+told_short gs seen files rows ms i m (Disk e) three count said of_rows same low here there told = tt
+told_short gs seen files rows ms i m (Damaged name at) three count said of_rows same low here there told = file_short (record {
+  rows = rows;
+  lists = lists_of ms;
+  said = said;
+  of_rows = λ k within. at_lists (λ j es. All (HasRow rows) es) ms (length gs) k (omega (arith, three, count)) (λ j n below is. of_rows j n is) within;
+  place = i;
+  within = omega (arith, three, low);
+  earlier = λ k below. at_lists (λ j es. All (IsThere j seen rows) es) ms i k (omega (arith, count, low)) (λ j n under is. all_there_in j files seen rows n.entries same (there j n under is)) below;
+  first = subst (λ (es : List Entry). IsFirstShort i seen rows es name at) (sym (listed_at ms i m here)) (short_in i files seen rows m.entries name at same told);
+})
+told_short gs seen files rows ms i m (GranularityDiffers kept asked) three count said of_rows same low here there told = absurd told
+
+-- a manifest with an entry of no row
+pub told_stranger : (gs : List Granularity) (seen : Files) (rows : List Row) (ms : List ManifestState) (i : ℕ) (m : ManifestState) (name : Name) → length gs ≡ 3 → length ms ≡ 3 → AreSaid gs seen rows (lists_of ms) → i < 3 → slice_get ms i ≡ Some m
+    → ((k : ℕ) (n : ManifestState) → k < i → slice_get ms k ≡ Some n → All (HasRow rows) n.entries) → (e : Entry) → Contains m.entries e → length rows ≤ e.series → name ≡ manifest_name (i + 1) → HasStranger gs seen name 0
+told_stranger gs seen rows ms i m name three count said low here of_rows e listed of_none named = record {
+  rows = rows;
+  lists = lists_of ms;
+  said = said;
+  place = i;
+  within = omega (arith, three, low);
+  earlier = λ k below. at_lists (λ j es. All (HasRow rows) es) ms i k (omega (arith, count, low)) of_rows below;
+  stranger = e;
+  listed = subst (λ (es : List Entry). Contains es e) (sym (listed_at ms i m here)) listed;
+  of_none = of_none;
+  named = named;
+  from = refl;
+}
+
+-- The manifests that were loaded so far.
+
+-- a manifest of a list with one more at its end
+at_end : (ms : List ManifestState) (m : ManifestState) (i : ℕ) (k : ManifestState) → slice_get (ms ++ m ∷ []) i ≡ Some k → (slice_get ms i ≡ Some k) ⊎ ((i ≡ length ms) × (k ≡ m))
+at_end [] m zero k here = inr (refl, sym (same_Some m k here))
+at_end [] m (suc i) k here = absurd (cc (here))
+at_end (x ∷ xs) m zero k here = inl here
+at_end (x ∷ xs) m (suc i) k here = elim (at_end xs m i k here) [
+  | inl there ↦ inl there
+  | inr last ↦ inr (ap suc last.0, last.1)
+]
+
+-- what is true of no manifests
+pub no_manifest : (P : ℕ → ManifestState → Type 0) (ms : List ManifestState) → ms ≡ [] → AtEach ms P
+no_manifest P [] is i k here = absurd (cc (here))
+no_manifest P (m ∷ ms) is i k here = absurd (let none = ap length is in omega (arith, none))
+
+pub one_more : (P : ℕ → ManifestState → Type 0) (ms made : List ManifestState) (m : ManifestState) (n : ℕ) → made ≡ ms ++ m ∷ [] → length ms ≡ n → AtEach ms P → P n m → AtEach made P
+one_more P ms made m n is count each last i k here = elim (at_end ms m i k (ap (λ (l : List ManifestState). slice_get l i) (sym is) ∙ here)) [
+  | inl there ↦ each i k there
+  | inr both ↦ subst (P i) (sym both.1) (subst (λ (j : ℕ). P j m) (sym (both.0 ∙ count)) last)
+]
+
+-- what is true of the places below one, and of that one, is true of the places below the next
+pub one_further : {P : Type 0} (i n : ℕ) → (i + 1 < n → P) → (i + 1 ≡ n → P) → i + 1 < n + 1 → P
+one_further {P} i n earlier last low = elim (cases_lt (i + 1) n) [
+  | inl before ↦ earlier before
+  | inr behind ↦ last (omega (arith, low, behind))
+]
+
+-- where each granularity of a list holds the one before, the first three do so
+nested_at : (gs : List Granularity) (i : ℕ) (g : Granularity) → AllAdjacentBelow (λ fine coarse. Holds coarse fine) gs (length gs) → slice_get gs (i + 1) ≡ Some g → i < 2 → AreNested i (granularity_at gs 0 ∷ granularity_at gs 1 ∷ granularity_at gs 2 ∷ [])
+nested_at [] i g adjacent here few fine coarse first second = absurd (cc (here))
+nested_at (x ∷ []) i g adjacent here few fine coarse first second = absurd (omega (arith, slice_get_within (x ∷ []) (i + 1) g here))
+nested_at (x ∷ y ∷ rest) zero g adjacent here few fine coarse first second = subst (λ (c : Granularity). Holds c fine) (same_Some y coarse second) (subst (Holds y) (same_Some x fine first) (adjacent 0 Hour (omega arith)))
+nested_at (x ∷ y ∷ []) (suc i) g adjacent here few fine coarse first second = absurd (omega (arith, slice_get_within (x ∷ y ∷ []) (suc i + 1) g here))
+nested_at (x ∷ y ∷ z ∷ rest) (suc zero) g adjacent here few fine coarse first second = subst (λ (c : Granularity). Holds c fine) (same_Some z coarse second) (subst (Holds z) (same_Some y fine first) (adjacent 1 Hour (omega arith)))
+nested_at (x ∷ y ∷ z ∷ rest) (suc (suc i)) g adjacent here few fine coarse first second = absurd (omega (arith, few))
+
+-- the partitions of one of the configured stores lie in those of the next, where that is configured
+pub nested_next : (config : ConfigState) (i place : ℕ) (g : Granularity) → IsGood config → slice_get config.granularity place ≡ Some g → i < 2 → i + 1 ≡ place → AreNested i (stores_of config)
+nested_next config i place g good here few next = nested_at config.granularity i g good.nested (ap (slice_get config.granularity) next ∙ here) few
+
+-- what the manifests at the first places say
+abbrev SaidAt : Files → List ManifestState → Type 0
+SaidAt files ms = AtEach ms (λ i m. Says (Folds m.granularity) m.entries (manifest_name (i + 1)) files)
+
+abbrev OfTheirs : List Granularity → List ManifestState → Type 0
+OfTheirs gs ms = AtEach ms (λ i m. slice_get gs i ≡ Some m.granularity)
+
+said_one : (gs : List Granularity) (files : Files) (ms : List ManifestState) → SaidAt files ms → OfTheirs gs ms → (i : ℕ) (g : Granularity) → i < length ms → slice_get gs i ≡ Some g → Says (Folds g) (lists_of ms i) (manifest_name (i + 1)) files
+said_one gs files ms said own i g low here =
+    let m = manifest_at ms i low in
+    let is : m.0.granularity ≡ g = same_Some m.0.granularity g (sym (own i m.0 m.1) ∙ here) in
+    subst (λ (es : List Entry). Says (Folds g) es (manifest_name (i + 1)) files) (sym (listed_at ms i m.0 m.1)) (subst (λ (h : Granularity). Says (Folds h) m.0.entries (manifest_name (i + 1)) files) is (said i m.0 m.1))
+
+pub said_below : (gs : List Granularity) (files seen : Files) (ms : List ManifestState) (n : ℕ) → length ms ≡ n → n ≤ 3 → SaidAt files ms → OfTheirs gs ms → ((i : ℕ) (n : Name) → i < 3 → IsOwn (manifest_name (i + 1)) n → files n ≡ seen n) → AreSaidBelow n gs seen (lists_of ms)
+said_below gs files seen ms n count few said own same i g low here = says_stays (Folds g) (lists_of ms i) (manifest_name (i + 1)) files seen (λ n mine. sym (same i n (omega (arith, low, few)) mine)) (said_one gs files ms said own i g (omega (arith, low, count)) here)
+
+pub are_said : (gs : List Granularity) (files seen : Files) (rows : List Row) (ms : List ManifestState) → length gs ≡ 3 → length ms ≡ 3 → Says IsCatalogue rows catalogue_name seen → SaidAt files ms → OfTheirs gs ms → ((i : ℕ) (n : Name) → i < 3 → IsOwn (manifest_name (i + 1)) n → files n ≡ seen n) → AreSaid gs seen rows (lists_of ms)
+are_said gs files seen rows ms three count rows_said said own same = record {
+  rows_said = rows_said;
+  lists_said = λ i g here. said_below gs files seen ms 3 count (omega arith) said own same i g (low_of gs i g three here) here;
+}
+
+-- An image has one verdict at most.
 
 -- a manifest that says a granularity is of no other
 said_twice : (g h : Granularity) (bs : List (List ℕ)) (xs ys : List Entry) → manifest.Folds g bs xs → manifest.Configured h bs ys → g ≡ h
@@ -213,44 +399,44 @@ module _ (one_place : (name : Name) (image : Files) (file other : Name) (at to :
   pub whole_undamaged : (gs : List Granularity) (files : Files) (name : Name) (at : ℕ) → IsWhole gs files → IsDamaged gs files name at → ⊥
   whole_undamaged gs files name at whole (catalogue_bad one) = good_catalogue files whole.rows name at whole.said.rows_said one
   whole_undamaged gs files name at whole (manifest_bad one) = said_not_bad gs files name at whole.rows whole.lists whole.said one
-  whole_undamaged gs files name at whole (stranger one) = no_stranger gs files name at whole.rows whole.lists whole.said one (whole.of_rows one.place one.within)
+  whole_undamaged gs files name at whole (is_stranger one) = no_stranger gs files name at whole.rows whole.lists whole.said one (whole.of_rows one.place one.within)
   whole_undamaged gs files name at whole (file_short one) = no_short gs files name at whole.rows whole.lists whole.said one (whole.there one.place one.within)
 
   pub damaged_same : (gs : List Granularity) (files : Files) (name : Name) (at : ℕ) (kept asked : Granularity) → IsDamaged gs files name at → Differs gs files kept asked → ⊥
   damaged_same gs files name at kept asked (catalogue_bad one) other = good_catalogue files other.rows name at other.rows_said one
   damaged_same gs files name at kept asked (manifest_bad one) other = bad_not_other gs files name at kept asked one other
-  damaged_same gs files name at kept asked (stranger one) other = said_not_other gs files kept asked one.rows one.lists one.said other
+  damaged_same gs files name at kept asked (is_stranger one) other = said_not_other gs files kept asked one.rows one.lists one.said other
   damaged_same gs files name at kept asked (file_short one) other = said_not_other gs files kept asked one.rows one.lists one.said other
 
   -- the cases in the order in which they are looked for: of two the earlier rules the later out
   earlier_catalogue : (gs : List Granularity) (files : Files) (a b : Name) (i j : ℕ) → IsBadCatalogue files a i → IsDamaged gs files b j → (a ≡ b) × (i ≡ j)
   earlier_catalogue gs files a b i j one (catalogue_bad two) = one_place_bad catalogue.IsBadBatch catalogue_meaning.one_bad catalogue_name files a b i j one two
   earlier_catalogue gs files a b i j one (manifest_bad two) = absurd (good_catalogue files two.rows a i two.rows_said one)
-  earlier_catalogue gs files a b i j one (stranger two) = absurd (good_catalogue files two.rows a i two.said.rows_said one)
+  earlier_catalogue gs files a b i j one (is_stranger two) = absurd (good_catalogue files two.rows a i two.said.rows_said one)
   earlier_catalogue gs files a b i j one (file_short two) = absurd (good_catalogue files two.rows a i two.said.rows_said one)
 
   earlier_manifest : (gs : List Granularity) (files : Files) (a b : Name) (i j : ℕ) → ManifestIsBad gs files a i → IsDamaged gs files b j → (a ≡ b) × (i ≡ j)
   earlier_manifest gs files a b i j one (catalogue_bad two) = absurd (good_catalogue files one.rows b j one.rows_said two)
   earlier_manifest gs files a b i j one (manifest_bad two) = one_manifest_bad gs files a b i j one two
-  earlier_manifest gs files a b i j one (stranger two) = absurd (said_not_bad gs files a i two.rows two.lists two.said one)
+  earlier_manifest gs files a b i j one (is_stranger two) = absurd (said_not_bad gs files a i two.rows two.lists two.said one)
   earlier_manifest gs files a b i j one (file_short two) = absurd (said_not_bad gs files a i two.rows two.lists two.said one)
 
   earlier_stranger : (gs : List Granularity) (files : Files) (a b : Name) (i j : ℕ) → HasStranger gs files a i → IsDamaged gs files b j → (a ≡ b) × (i ≡ j)
   earlier_stranger gs files a b i j one (catalogue_bad two) = absurd (good_catalogue files one.rows b j one.said.rows_said two)
   earlier_stranger gs files a b i j one (manifest_bad two) = absurd (said_not_bad gs files b j one.rows one.lists one.said two)
-  earlier_stranger gs files a b i j one (stranger two) = one_stranger gs files a b i j one two
+  earlier_stranger gs files a b i j one (is_stranger two) = one_stranger gs files a b i j one two
   earlier_stranger gs files a b i j one (file_short two) = absurd (no_stranger gs files a i two.rows two.lists two.said one (two.of_rows one.place one.within))
 
   last_file : (gs : List Granularity) (files : Files) (a b : Name) (i j : ℕ) → HasShortFile gs files a i → IsDamaged gs files b j → (a ≡ b) × (i ≡ j)
   last_file gs files a b i j one (catalogue_bad two) = absurd (good_catalogue files one.rows b j one.said.rows_said two)
   last_file gs files a b i j one (manifest_bad two) = absurd (said_not_bad gs files b j one.rows one.lists one.said two)
-  last_file gs files a b i j one (stranger two) = absurd (no_stranger gs files b j one.rows one.lists one.said two (one.of_rows two.place two.within))
+  last_file gs files a b i j one (is_stranger two) = absurd (no_stranger gs files b j one.rows one.lists one.said two (one.of_rows two.place two.within))
   last_file gs files a b i j one (file_short two) = one_short gs files a b i j one two
 
   pub one_damage : (gs : List Granularity) (files : Files) (a b : Name) (i j : ℕ) → IsDamaged gs files a i → IsDamaged gs files b j → (a ≡ b) × (i ≡ j)
   one_damage gs files a b i j (catalogue_bad one) two = earlier_catalogue gs files a b i j one two
   one_damage gs files a b i j (manifest_bad one) two = earlier_manifest gs files a b i j one two
-  one_damage gs files a b i j (stranger one) two = earlier_stranger gs files a b i j one two
+  one_damage gs files a b i j (is_stranger one) two = earlier_stranger gs files a b i j one two
   one_damage gs files a b i j (file_short one) two = last_file gs files a b i j one two
 
 -- WHAT STANDS IS WHOLE

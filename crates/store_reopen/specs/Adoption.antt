@@ -2,6 +2,7 @@
 use Rattle.std.specs.Prelude.{◌≡◌, ◌≢◌, ◌⊎◌, ◌≤◌, ◌<◌, ◌+◌, ◌*◌, ◌-◌, ◌/◌, ◌%◌, ◌^◌, ℕ, suc, Bool, true, false, List, [], ◌∷◌, ◌++◌}
 use Rattle.std.specs.Prelude.{All, Contains, Option, None, Some, filter, length, map, min, nat_lt, Result, Ok, Err, slice_get, take}
 use Rattle.std.specs.List.{AllZip, flat_map, sum_by}
+use Rattle.gate_journal.specs.Batches.{greatest_batch}
 use Rattle.disk_model.specs.Files.{Name, Files, Lists as HasNames}
 use Rattle.disk_model.specs.Past.{Past, Passes}
 use Rattle.disk_model.specs.declared.disk.Disk.{Ghosts}
@@ -88,7 +89,7 @@ headers_len (h ∷ hs) = 8 + length h.0 + length h.1 + headers_len hs
 
 -- the entry of the row that the variable gets behind these isn't too long for the catalogue
 abbrev pub IsShort : List Row → Candidate → Type 0
-IsShort rows c = length (entry (Added (members_of (registered rows c.name (about_of c))))) ≤ 1_073_741_824
+IsShort rows c = length (entry (Added (members_of (registered rows c.name (about_of c))))) ≤ greatest_batch
 
 abbrev pub IsFree : List Row → Candidate → Type 0
 IsFree rows c = (e : RegisterErr) → Refuses rows c.name e → ⊥

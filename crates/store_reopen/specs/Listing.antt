@@ -75,9 +75,13 @@ abbrev pub AllHaveParts : List Granularity → List (List Taken) → Type 0
 AllHaveParts gs turns = AtEachTurn (λ turn taken. (g : Granularity) → slice_get gs (place_of turn) ≡ Some g
     → All (λ (x : Taken). IsPart g x.candidate.part) taken) turns
 
+-- as many files as an archive that is adopted may have
+abbrev pub most_files : ℕ
+most_files = 18_600_000
+
 -- each takes no more than fit into one batch of a journal
 abbrev pub AreFew : List (List Taken) → Type 0
-AreFew turns = AtEachTurn (λ turn taken. length taken ≤ 18_600_000) turns
+AreFew turns = AtEachTurn (λ turn taken. length taken ≤ most_files) turns
 
 abbrev pub AllUnopened : (Name → ℕ) → List (List Taken) → Type 0
 AllUnopened opened turns = AtEachTurn (λ turn taken. AreUnopened opened taken) turns

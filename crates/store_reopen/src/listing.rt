@@ -13,7 +13,7 @@ ghost use Rattle.tier_store.specs.Seen.{granularities};
 ghost use Rattle.tier_store.specs.Stores.{Stores};
 ghost use Rattle.store_reopen.specs.Adoption.{TakesTurns, entry_as};
 ghost use Rattle.store_reopen.specs.Listing.{AllHaveParts, AllMayList, AllUnopened, AreFew, AreTurns, AreUnopened};
-ghost use Rattle.store_reopen.specs.Listing.{ListsTaken, MayList, turns_of};
+ghost use Rattle.store_reopen.specs.Listing.{ListsTaken, MayList, most_files, turns_of};
 ghost use Rattle.store_reopen.specs.Reopen.{ChangesJournals, IsReady, SameStores, loaded};
 ghost use Rattle.store_reopen.specs.Runs.{Goes, Stops};
 ghost use Rattle.store_reopen.specs.declared.finding.Taken.{Taken as TakenValue};
@@ -103,7 +103,7 @@ pub(crate) fn list_taken<D: Disk>(
     requires may { IsTrue D.tells → (m : ManifestState) → slice_get manifests.old.items place ≡ Some m
         → All (MayList m.granularity (D.files disk.old) catalogue.now.rows series place) taken.now }
     requires unopened { IsTrue D.tells → AreUnopened (D.opened disk.old) taken.now }
-    requires few { IsTrue D.tells → length taken.now ≤ 18_600_000 }
+    requires few { IsTrue D.tells → length taken.now ≤ most_files }
     ensures lists { IsTrue D.tells → OnOk result (ListsTaken D.Disk true catalogue.now place series taken.now
         manifests.old.items disk.old manifests.new.items disk.new) }
     ensures stops { IsTrue D.tells → OnErr result (ListsTaken D.Disk false catalogue.now place series taken.now
@@ -125,9 +125,9 @@ pub(crate) fn list_taken<D: Disk>(
 // As many of these files as one batch may list: all, where the disk tells its files. One that doesn't may
 // name a file more than once.
 fn batch_of(taken: &[Taken]) -> &[Taken]
-    ensures few { length result.now ≤ 18_600_000 }
+    ensures few { length result.now ≤ most_files }
     ensures front { (n : ℕ) × (result.now ≡ take n taken.now) }
-    ensures all { length taken.now ≤ 18_600_000 → result.now ≡ taken.now }
+    ensures all { length taken.now ≤ most_files → result.now ≡ taken.now }
 {
     &taken[..taken.len().min(MOST_FILES)]
 }

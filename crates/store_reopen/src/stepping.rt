@@ -17,6 +17,7 @@ ghost use Rattle.store_manifest.specs.Manifest.{ManifestState};
 ghost use Rattle.tier_store.specs.Change.{CanList, Changes, Has, registering};
 ghost use Rattle.tier_store.specs.Moving.{publishing};
 ghost use Rattle.tier_store.specs.Stores.{Stores, list_at};
+ghost use Rattle.store_reopen.specs.Listing.{most_files};
 ghost use Rattle.store_reopen.specs.Reopen.{ChangesJournals, IsReady, loaded};
 ghost use Rattle.store_reopen.specs.Verdict.{HasRow};
 
@@ -65,7 +66,7 @@ pub(crate) fn add_files<D: Disk>(
     changes: &[Change],
 ) -> Result<(), DiskErr>
     requires within { place < length manifests.old.items }
-    requires few { length changes.now ≤ 18_600_000 }
+    requires few { length changes.now ≤ most_files }
     requires sound { (m : ManifestState) → slice_get manifests.old.items place ≡ Some m → m.journal.sound ≡ true }
     requires follow { (m : ManifestState) → slice_get manifests.old.items place ≡ Some m
         → AllCanFollow m.granularity m.entries changes.now }

@@ -29,9 +29,7 @@ use Rattle.store_reports.specs.declared.summary.StatusErr.{StatusErr}
 use Rattle.store_reports.specs.declared.summary.StatusErr.TheVariants.{SinkFault, DiskFault, OutOfMemory}
 use Rattle.store_reports.specs.Keeping.{KeepsStores}
 use Rattle.store_reports.specs.Status.{AreLines, EndsAs, Gathers, IsLine, Lines, Reports, RowLines, Writes, end_of_status, files_of, held_line, lines_from, row_line, status_of_put, status_text}
-use Rattle.store_reports.proofs.Keeping.{keeps_as}
-use Rattle.store_reports.proofs.Listing.{own_number}
-use Rattle.store_reports.proofs.Sending.{front_then, sends_still}
+use Rattle.store_reports.proofs.Telling.{keeps_as, own_number, front_then, sends_still}
 
 -- LINE BY LINE
 

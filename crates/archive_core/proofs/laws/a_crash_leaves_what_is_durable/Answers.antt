@@ -1,4 +1,4 @@
-use Rattle.archive_core.proofs.Crashes.{crash_leaves}
+use Rattle.archive_core.proofs.Acting.{crash_leaves}
 use Rattle.archive_core.proofs.laws.a_crash_leaves_what_is_durable.Goals as goal
 
 pub returns : goal.returns

@@ -1,5 +1,5 @@
 use Rattle.tier_store.specs.Seen.{seen_on}
-use Rattle.archive_core.proofs.FlushOver.{goes_on_in_limbo}
+use Rattle.archive_core.proofs.Flushed.{goes_on_in_limbo}
 use Rattle.archive_core.proofs.laws.a_flush_goes_on_in_limbo.Goals as goal
 
 pub returns : goal.returns

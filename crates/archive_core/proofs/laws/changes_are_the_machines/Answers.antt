@@ -1,4 +1,4 @@
-use Rattle.archive_core.proofs.Making.{register_holds, switch_holds, rename_holds, flush_holds}
+use Rattle.archive_core.proofs.Windows.{register_holds, switch_holds, rename_holds, flush_holds}
 use Rattle.archive_core.proofs.laws.changes_are_the_machines.Goals as goal
 
 pub returns-clause-register : goal.returns-clause-register

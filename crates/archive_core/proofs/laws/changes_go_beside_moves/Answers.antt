@@ -1,4 +1,4 @@
-use Rattle.archive_core.proofs.Beside.{register_beside, switch_beside, rename_beside, flush_goes}
+use Rattle.archive_core.proofs.Flushed.{register_beside, switch_beside, rename_beside, flush_goes}
 use Rattle.archive_core.proofs.laws.changes_go_beside_moves.Goals as goal
 
 pub returns-clause-register : goal.returns-clause-register

@@ -1,4 +1,4 @@
-use Rattle.archive_core.proofs.MoveChanges.{publish_holds, retire_holds}
+use Rattle.archive_core.proofs.MoveChoice.{publish_holds, retire_holds}
 use Rattle.archive_core.proofs.laws.moves_change_the_machine.Goals as goal
 
 pub returns-clause-publish : goal.returns-clause-publish

@@ -1,5 +1,5 @@
 use Rattle.archive_core.specs.Parts.{parts}
-use Rattle.archive_core.proofs.RunOfActs.{room_runs_on}
+use Rattle.archive_core.proofs.Acting.{room_runs_on}
 use Rattle.archive_core.proofs.laws.turns_lose_no_more.Goals as goal
 
 pub returns : goal.returns

@@ -1,7 +1,7 @@
 use Rattle.std.proofs.Common.{ℕ, ◌-◌, length, min, sym, ◌∙◌, ap, arith}
 use Rattle.std.specs.Option.{option_copied}
 use Rattle.std.proofs.lemmas.Option.{slice_get_within}
-use Rattle.archive_core.proofs.ListEnds.{last_end}
+use Rattle.archive_core.proofs.MoveChoice.{last_end}
 use Rattle.archive_core.proofs.opening.end_of.Goals as goal
 
 pub returns-in-Some : goal.returns-in-Some

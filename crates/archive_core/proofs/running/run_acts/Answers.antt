@@ -7,7 +7,7 @@ use Rattle.act_model.specs.Step.{MayAsk}
 use Rattle.act_model.specs.declared.acts.Act.{Act}
 use Rattle.archive_core.specs.Parts.{parts}
 use Rattle.archive_core.specs.Running.{MakesAll}
-use Rattle.archive_core.proofs.RunOfActs.{all_at, makes_more, makes_none}
+use Rattle.archive_core.proofs.Acting.{all_at, makes_more, makes_none}
 use Rattle.archive_core.proofs.running.run_acts.Goals as goal
 
 pub acts-init : goal.acts-init

@@ -1,6 +1,6 @@
 use Rattle.std.proofs.Common.{◌∙◌}
 use Rattle.pv_catalog.specs.declared.row.Row.{Row}
-use Rattle.archive_core.proofs.Fronts.{map_part}
+use Rattle.archive_core.proofs.Lists.{map_part}
 use Rattle.archive_core.proofs.telling.names_of.Goals as goal
 
 pub returns : goal.returns

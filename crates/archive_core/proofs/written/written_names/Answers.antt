@@ -3,8 +3,7 @@ use Rattle.std.specs.List.{flat_map}
 use Rattle.std.proofs.lemmas.List.{take_all}
 use Rattle.moves.specs.Table.{inner}
 use Rattle.archive_core.specs.Written.{names_of_slot}
-use Rattle.archive_core.proofs.Lists.{read_at}
-use Rattle.archive_core.proofs.WrittenNames.{are_written}
+use Rattle.archive_core.proofs.Lists.{read_at, are_written}
 use Rattle.archive_core.proofs.written.written_names.Goals as goal
 
 pub add_names-requires : goal.add_names-requires

@@ -5,13 +5,9 @@ use Rattle.store_manifest.specs.Entries.{AllCanFollow}
 use Rattle.store_manifest.specs.Batches.{batch_of}
 use Rattle.durable_write.specs.Flush.{with_files}
 use Rattle.durable_write.specs.Held.{Shelf, listing_of}
-use Rattle.durable_write.proofs.Ahead.{leads_behind, leaves_copied, still_copied}
-use Rattle.durable_write.proofs.KeptBytes.{leaves_none, leaves_on}
-use Rattle.durable_write.proofs.Stays.{behind_none}
-use Rattle.durable_write.proofs.Ending.{all_follow}
-use Rattle.durable_write.proofs.Whole.{sets_long, still_held, leaves_committed}
-use Rattle.durable_write.proofs.OneCommit.{then_either, beside_none, beside_files, beside_commit}
-use Rattle.durable_write.proofs.Revival.{ahead_committed, ahead_long, can_relist_over, leaves_ahead}
+use Rattle.durable_write.proofs.Written.{leads_behind, leaves_copied, still_copied, ahead_committed, ahead_long, can_relist_over, leaves_ahead}
+use Rattle.durable_write.proofs.Staying.{leaves_none, leaves_on, behind_none, sets_long, still_held, leaves_committed}
+use Rattle.durable_write.proofs.Commits.{all_follow, then_either, beside_none, beside_files, beside_commit}
 use Rattle.durable_write.proofs.flushing.flush_pieces.Goals as goal
 
 pub write_all-requires-clause-can : goal.write_all-requires-clause-can

@@ -1,7 +1,5 @@
 use Rattle.std.proofs.Common.{ℕ, ◌*◌, ◌<◌, ◌≤◌, sym, subst}
-use Rattle.durable_write.proofs.Begins.{adds_late}
-use Rattle.durable_write.proofs.PlannedSample.{extended_draft, extended_adds, listed_draft, listed_adds, begun_draft, begun_adds}
-use Rattle.durable_write.proofs.Years.{in_calendar}
+use Rattle.durable_write.proofs.Planning.{adds_late, extended_draft, extended_adds, listed_draft, listed_adds, begun_draft, begun_adds, in_calendar}
 use Rattle.durable_write.proofs.plan.add_sample.Goals as goal
 
 pub returns-in-Late-clause-added : goal.returns-in-Late-clause-added

@@ -5,7 +5,7 @@ use Rattle.line_escape.specs.Escaping.{escaped}
 use Rattle.pb_messages.specs.InfoSpelling.{info_text}
 use Rattle.store_manifest.specs.declared.entry.Entry.{Entry}
 use Rattle.durable_write.specs.Flush.{header_of}
-use Rattle.durable_write.proofs.Headers.{fits_in_memory}
+use Rattle.durable_write.proofs.Batches.{fits_in_memory}
 use Rattle.durable_write.proofs.plan.begin.Goals as goal
 
 pub returns : goal.returns

@@ -1,5 +1,5 @@
 use Rattle.std.proofs.Common.{arith}
-use Rattle.durable_write.proofs.Lasts.{last_set}
+use Rattle.durable_write.proofs.Places.{last_set}
 use Rattle.durable_write.proofs.plan.extend_last.Goals as goal
 
 pub returns : goal.returns

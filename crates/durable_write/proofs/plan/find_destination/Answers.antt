@@ -2,7 +2,7 @@ use Rattle.std.proofs.Common.{◌≡◌, Option, subst}
 use Rattle.std.specs.Prelude.{IfSome}
 use Rattle.partition_names.specs.Part.{IsPart}
 use Rattle.store_manifest.specs.declared.entry.Entry.{Entry}
-use Rattle.durable_write.proofs.SampleDestination.{goes_by_last, goes_by_listed}
+use Rattle.durable_write.proofs.Planning.{goes_by_last, goes_by_listed}
 use Rattle.durable_write.proofs.plan.find_destination.Goals as goal
 
 pub returns-in-Some : goal.returns-in-Some

@@ -9,8 +9,7 @@ use Rattle.partition_names.specs.Part.{IsPart}
 use Rattle.durable_write.specs.declared.piece.Piece.{Piece}
 use Rattle.durable_write.specs.Flush.{IsOfRow}
 use Rattle.durable_write.specs.Plan.{Plans}
-use Rattle.durable_write.proofs.Counting.{counted_next, counted_within}
-use Rattle.durable_write.proofs.Batches.{plans_none, plans_next, plans_kept, flushes, each_seen, rows_follow}
+use Rattle.durable_write.proofs.Batches.{counted_next, counted_within, plans_none, plans_next, plans_kept, flushes, each_seen, rows_follow}
 use Rattle.durable_write.proofs.plan.plan_flush.Goals as goal
 
 pub loop-part-init : goal.loop-part-init

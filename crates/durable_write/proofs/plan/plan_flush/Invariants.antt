@@ -4,7 +4,7 @@ use Rattle.partition_names.specs.Part.{IsPart}
 use Rattle.durable_write.specs.declared.piece.Piece.{Piece}
 use Rattle.std.specs.List.{sum_by}
 use Rattle.durable_write.specs.Plan.{Plans}
-use Rattle.durable_write.proofs.Counting.{samples_in}
+use Rattle.durable_write.proofs.Batches.{samples_in}
 use Rattle.durable_write.proofs.plan.plan_flush.Given as goal
 
 abbrev pub invariant-loop-part : goal.invariant-loop-part

@@ -3,8 +3,8 @@ use Rattle.std.proofs.lemmas.Result.{err_from_is_err_and}
 use Rattle.disk_model.specs.declared.disk.DiskErr.{DiskErr}
 use Rattle.disk_model.specs.declared.disk.DiskErr.TheVariants.{Fault, Memory}
 use Rattle.disk_model.proofs.Passing.{passes_weaker}
-use Rattle.durable_write.proofs.Whole.{err_cases}
-use Rattle.durable_write.proofs.OneCommit.{relists, relist_moment, relist_made, relist_unmade, relist_doubted, made_further, unsure_further}
+use Rattle.durable_write.proofs.Staying.{err_cases}
+use Rattle.durable_write.proofs.Commits.{relists, relist_moment, relist_made, relist_unmade, relist_doubted, made_further, unsure_further}
 use Rattle.durable_write.proofs.relisting.relist.Goals as goal
 
 pub returns-in_err-commit-clause-no_more : goal.returns-in_err-commit-clause-no_more

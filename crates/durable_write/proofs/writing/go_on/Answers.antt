@@ -5,7 +5,7 @@ use Rattle.disk_model.specs.Files.{Name, At, Torn}
 use Rattle.disk_model.specs.Past.{Past, Passes}
 use Rattle.store_files.specs.Fronts.{Keeps}
 use Rattle.store_files.proofs.Stays.{as_keeps, torn_keeps, keeps_more}
-use Rattle.durable_write.proofs.Appending.{appended, cut_kept, kept_on, written_keeps}
+use Rattle.durable_write.proofs.Staying.{appended, cut_kept, kept_on, written_keeps}
 use Rattle.durable_write.proofs.writing.go_on.Goals as goal
 
 -- a cut, and then a write behind it

@@ -4,8 +4,8 @@ use Rattle.durable_write.specs.Held.{Shelf}
 use Rattle.durable_write.specs.Flush.{with_files}
 use Rattle.durable_write.specs.Stored.{AreLong, AreSafe}
 use Rattle.durable_write.specs.Writing.{Behind}
-use Rattle.durable_write.proofs.Stays.{behind_same, still_safe, safe_both}
-use Rattle.durable_write.proofs.WrittenPiece.{synced_safe}
+use Rattle.durable_write.proofs.Staying.{behind_same, still_safe, safe_both}
+use Rattle.durable_write.proofs.Written.{synced_safe}
 use Rattle.durable_write.proofs.writing.write_all.Goals as goal
 
 pub returns-in_err-sync_files-clause-any_moment : goal.returns-in_err-sync_files-clause-any_moment

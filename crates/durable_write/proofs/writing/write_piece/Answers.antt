@@ -1,7 +1,7 @@
 use Rattle.std.proofs.Common.{◌≡◌, ◌≤◌, ◌++◌, ℕ, List, length, take, Option, None, Some, sym, ◌∙◌, ap, subst, arith}
 use Rattle.disk_model.specs.Files.{Name, HasFile}
 use Rattle.durable_write.specs.Held.{file_of, shelf_of}
-use Rattle.durable_write.proofs.WrittenPiece.{can_go_on, piece_name, made_written, grown_written, still_long}
+use Rattle.durable_write.proofs.Written.{can_go_on, piece_name, made_written, grown_written, still_long}
 use Rattle.durable_write.proofs.writing.write_piece.Goals as goal
 
 pub go_on-requires : goal.go_on-requires

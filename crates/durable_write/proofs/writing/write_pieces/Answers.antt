@@ -5,9 +5,8 @@ use Rattle.durable_write.specs.declared.piece.Piece.{Piece}
 use Rattle.durable_write.specs.Held.{Filed, file_of, shelf_of}
 use Rattle.durable_write.specs.Flush.{Grows}
 use Rattle.durable_write.specs.Writing.{IsWritten}
-use Rattle.durable_write.proofs.Names.{outside}
-use Rattle.durable_write.proofs.Stays.{still_safe}
-use Rattle.durable_write.proofs.WrittenPiece.{piece_name, nth_grows, all_listed, more_behind, reads_behind, more_written}
+use Rattle.durable_write.proofs.Staying.{outside, still_safe}
+use Rattle.durable_write.proofs.Written.{piece_name, nth_grows, all_listed, more_behind, reads_behind, more_written}
 use Rattle.durable_write.proofs.writing.write_pieces.Goals as goal
 
 pub write_piece-requires-clause-row : goal.write_piece-requires-clause-row

@@ -2,7 +2,7 @@ use Rattle.std.proofs.Common.{◌<◌, List, length, take, Some, sym, ap, subst,
 use Rattle.pb_messages.specs.declared.info.PayloadInfo.{PayloadInfo}
 use Rattle.pb_lines.specs.Header.{IsHeaderLine}
 use Rattle.pb_lines.proofs.Unique.{one_header, header_or_fault}
-use Rattle.etl_mover.proofs.Parts.{header_ends}
+use Rattle.etl_mover.proofs.Taking.{header_ends}
 use Rattle.etl_mover.proofs.copying.header_of.Goals as goal
 
 pub returns-in-Ok-clause-header : goal.returns-in-Ok-clause-header

@@ -7,7 +7,7 @@ use Rattle.arch_time.specs.YearTime.{IsSampleYear}
 use Rattle.pb_messages.specs.declared.info.PayloadInfo.{PayloadInfo}
 use Rattle.store_manifest.specs.declared.entry.Entry.{Entry}
 use Rattle.etl_mover.specs.Lines.{TakesLines}
-use Rattle.etl_mover.proofs.Parts.{keeps_part, lines_long}
+use Rattle.etl_mover.proofs.Taking.{keeps_part, lines_long}
 use Rattle.etl_mover.proofs.copying.take_part.Goals as goal
 
 cut_long : (lines cut : List ℕ) (n : ℕ) → cut ≡ take n lines → n ≤ length lines → length cut ≡ n

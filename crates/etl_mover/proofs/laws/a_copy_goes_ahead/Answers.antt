@@ -1,6 +1,6 @@
 use Rattle.std.proofs.Common.{sym}
-use Rattle.etl_mover.proofs.AheadFile.{still_ahead, still_holds, copied_more}
-use Rattle.etl_mover.proofs.Onward.{ahead_on, leaves_here, still_lists, writes_here}
+use Rattle.etl_mover.proofs.Written.{still_ahead, still_holds, copied_more}
+use Rattle.etl_mover.proofs.Steps.{ahead_on, leaves_here, still_lists, writes_here}
 use Rattle.etl_mover.proofs.laws.a_copy_goes_ahead.Goals as goal
 
 pub returns-clause-stays : goal.returns-clause-stays

@@ -1,4 +1,4 @@
-use Rattle.etl_mover.proofs.Onward.{begins_ahead, targets}
+use Rattle.etl_mover.proofs.Steps.{begins_ahead, targets}
 use Rattle.etl_mover.proofs.laws.a_move_finds_its_files.Goals as goal
 
 pub returns-clause-begun : goal.returns-clause-begun

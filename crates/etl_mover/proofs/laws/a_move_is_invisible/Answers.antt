@@ -1,4 +1,4 @@
-use Rattle.etl_mover.proofs.SampleLaws.{published_from_short, published_from_medium, all_published, retired_from_short, retired_from_medium}
+use Rattle.etl_mover.proofs.Beginning.{published_from_short, published_from_medium, all_published, retired_from_short, retired_from_medium}
 use Rattle.etl_mover.proofs.laws.a_move_is_invisible.Goals as goal
 
 pub returns : goal.returns

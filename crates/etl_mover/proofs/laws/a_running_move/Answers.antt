@@ -1,4 +1,4 @@
-use Rattle.etl_mover.proofs.SampleLaws.{copies_on, rest_is_remaining, flushed_beside, still_rises}
+use Rattle.etl_mover.proofs.Beginning.{copies_on, rest_is_remaining, flushed_beside, still_rises}
 use Rattle.etl_mover.proofs.laws.a_running_move.Goals as goal
 
 pub returns : goal.returns

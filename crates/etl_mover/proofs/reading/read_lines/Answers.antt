@@ -1,7 +1,7 @@
 use Rattle.std.proofs.Common.{◌≡◌, ◌⊎◌, inl, inr, ◌<◌, ℕ, List, length, take, drop, get_or, Some, sym, ◌∙◌, ap, subst, arith}
 use Rattle.line_escape.specs.Unescaping.{HasNoNewline}
 use Rattle.disk_model.specs.Files.{Files}
-use Rattle.etl_mover.proofs.Chunks.{is_chunk}
+use Rattle.etl_mover.proofs.Taking.{is_chunk}
 use Rattle.etl_mover.proofs.reading.read_lines.Goals as goal
 use Rattle.etl_mover.proofs.reading.read_lines.Goals.{then-end-len-via-then-end-len, then-end-len-via-else-end-len+then-want-rest}
 

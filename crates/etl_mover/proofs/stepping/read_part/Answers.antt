@@ -1,6 +1,6 @@
 use Rattle.std.proofs.Common.{drop, ◌-◌, ◌∙◌, ap, take}
 use Rattle.disk_model.specs.Files.{Files}
-use Rattle.etl_mover.proofs.Loading.{chunk_takes}
+use Rattle.etl_mover.proofs.Taking.{chunk_takes}
 use Rattle.etl_mover.proofs.stepping.read_part.Goals as goal
 
 pub returns-clause-takes : goal.returns-clause-takes

@@ -1,5 +1,5 @@
 use Rattle.std.proofs.Common.{sym, subst}
-use Rattle.tier_store.proofs.Sparing.{seen_new}
+use Rattle.tier_store.proofs.Retirements.{seen_new}
 use Rattle.store_reopen.specs.Adoption.{Adopts}
 use Rattle.store_reopen.specs.Reopen.{stores_of}
 use Rattle.store_reopen.specs.Strays.{IsGone, adoption_name}

@@ -1,12 +1,9 @@
 use Rattle.std.proofs.Common.{true, refl}
 use Rattle.store_reopen.specs.Reopen.{stores_of}
-use Rattle.store_reopen.proofs.AdoptedDisk.{adopts_from, done_adopts, left_adopts, load_site, none_opened, only_opens}
-use Rattle.store_reopen.proofs.FewFiles.{settings_coarse}
-use Rattle.store_reopen.proofs.Going.{removes_none}
+use Rattle.store_reopen.proofs.AdoptedDisk.{adopts_from, done_adopts, left_adopts, load_site, none_opened, only_opens, found_loaded}
+use Rattle.store_reopen.proofs.Counts.{settings_coarse}
+use Rattle.store_reopen.proofs.Marking.{removes_none, loads_marked, site_loaded}
 use Rattle.store_reopen.proofs.Having.{reopened}
-use Rattle.store_reopen.proofs.Marked.{loads_marked}
-use Rattle.store_reopen.proofs.Site.{site_loaded}
-use Rattle.store_reopen.proofs.StillFound.{found_loaded}
 use Rattle.store_reopen.proofs.Swept.{load_has, load_stands, load_whole}
 use Rattle.store_reopen.proofs.adopting.adopt_files.Goals as goal
 

@@ -17,14 +17,10 @@ use Rattle.store_reopen.specs.Steps.{MakesSteps, Step, made_by}
 use Rattle.store_reopen.specs.Turns.{AreNumbers, TakesOf, all_taken}
 use Rattle.store_reopen.specs.declared.finding.Taken.{Taken}
 use Rattle.store_reopen.specs.declared.finding.Unlisted.{Unlisted}
-use Rattle.store_reopen.proofs.Adding.{journals_same, spares_read, spares_then}
-use Rattle.store_reopen.proofs.FewFiles.{turns_few}
-use Rattle.store_reopen.proofs.Following.{all_of, all_unopened, followed, gets, left_between, left_lists, left_rows, none_later, rows_had}
-use Rattle.store_reopen.proofs.Counts.{counted}
+use Rattle.store_reopen.proofs.Swept.{journals_same, spares_read, spares_then}
+use Rattle.store_reopen.proofs.Counts.{turns_few, counted, turns_are, turns_have_parts, turns_may, turns_unopened, may_later}
+use Rattle.store_reopen.proofs.Stages.{all_of, all_unopened, followed, gets, left_between, left_lists, left_rows, none_later, rows_had, steps_read}
 use Rattle.store_reopen.proofs.Having.{count_of}
-use Rattle.store_reopen.proofs.Stages.{steps_read}
-use Rattle.store_reopen.proofs.TurnsKnown.{turns_are, turns_have_parts, turns_may, turns_unopened}
-use Rattle.store_reopen.proofs.TurnsTaken.{may_later}
 use Rattle.store_reopen.proofs.adopting.adopt_found.Goals as goal
 
 -- the disk was read alone

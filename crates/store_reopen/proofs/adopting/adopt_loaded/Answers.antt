@@ -1,10 +1,8 @@
 use Rattle.std.proofs.Common.{inl, inr, true, false, ◌∙◌}
 use Rattle.std.proofs.lemmas.Result.{err_from_is_err_and}
-use Rattle.store_reopen.proofs.Adding.{journals_site, marks_same, marks_site, site_then}
-use Rattle.store_reopen.proofs.Following.{follows_before, follows_behind, follows_stopped, none_later}
-use Rattle.store_reopen.proofs.Marked.{marked_begun, marked_end, marked_made}
-use Rattle.store_reopen.proofs.Marking.{has_marked, marks_then}
-use Rattle.store_reopen.proofs.Stages.{steps_marked}
+use Rattle.store_reopen.proofs.Swept.{journals_site, marks_same, marks_site, site_then}
+use Rattle.store_reopen.proofs.Stages.{follows_before, follows_behind, follows_stopped, none_later, steps_marked}
+use Rattle.store_reopen.proofs.Marking.{marked_begun, marked_end, marked_made, has_marked, marks_then}
 use Rattle.store_reopen.proofs.adopting.adopt_loaded.Goals as goal
 
 pub adopt_found-requires-clause-has : goal.adopt_found-requires-clause-has

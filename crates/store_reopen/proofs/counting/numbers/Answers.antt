@@ -6,7 +6,7 @@ use Rattle.store_reopen.specs.Listing.{turns_of}
 use Rattle.store_reopen.specs.Turns.{Adds, all_taken}
 use Rattle.store_reopen.specs.declared.adopted.Adopted.{Adopted}
 use Rattle.store_reopen.specs.declared.finding.Taken.{Taken}
-use Rattle.store_reopen.proofs.Turns.{adds_then, taken_more}
+use Rattle.store_reopen.proofs.Stages.{adds_then, taken_more}
 use Rattle.store_reopen.proofs.counting.numbers.Goals as goal
 
 pub loop-taken-preserved : goal.loop-taken-preserved

@@ -1,7 +1,7 @@
 use Rattle.std.proofs.Common.{arith}
 use Rattle.std.specs.Prelude.{All}
 use Rattle.store_reopen.specs.Verdict.{stranger, HasRow}
-use Rattle.store_reopen.proofs.Looking.{here_from, next_place, at_all, told_stranger}
+use Rattle.store_reopen.proofs.Verdicts.{here_from, next_place, at_all, told_stranger}
 use Rattle.store_reopen.proofs.files.check_rows.Goals as goal
 
 pub loop-place-preserved : goal.loop-place-preserved

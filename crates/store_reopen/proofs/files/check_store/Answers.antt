@@ -6,7 +6,7 @@ use Rattle.std.proofs.lemmas.List.{length_push}
 use Rattle.disk_model.proofs.Passing.{passes_then}
 use Rattle.store_manifest.specs.declared.entry.Entry.{Entry}
 use Rattle.store_reopen.specs.Verdict.{EndsEarly}
-use Rattle.store_reopen.proofs.Looking.{all_there, first_short, there_more, no_some}
+use Rattle.store_reopen.proofs.Verdicts.{all_there, first_short, there_more, no_some}
 use Rattle.store_reopen.proofs.files.check_store.Goals as goal
 
 -- the iterator gives the entries

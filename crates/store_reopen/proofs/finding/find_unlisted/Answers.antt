@@ -5,7 +5,7 @@ use Rattle.disk_model.specs.Files.{Files}
 use Rattle.store_reopen.specs.Adoption.{AreUnlisted}
 use Rattle.store_reopen.specs.Finding.{IsOfPlace}
 use Rattle.store_reopen.specs.declared.finding.Unlisted.{Unlisted}
-use Rattle.store_reopen.proofs.Unlisted.{all_unlisted}
+use Rattle.store_reopen.proofs.TakenFiles.{all_unlisted}
 use Rattle.store_reopen.proofs.finding.find_unlisted.Goals as goal
 
 joined : (v w x y a b c : List Unlisted) → v ≡ [] → w ≡ v ++ a → x ≡ w ++ b → y ≡ x ++ c → y ≡ a ++ b ++ c

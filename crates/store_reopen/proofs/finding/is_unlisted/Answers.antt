@@ -4,7 +4,7 @@ use Rattle.disk_model.specs.Files.{Name}
 use Rattle.partition_names.specs.declared.granularity.Granularity.{Granularity}
 use Rattle.partition_names.specs.declared.part.Part.{Part}
 use Rattle.store_reopen.specs.Strays.{IsFileOf, IsStrayOf}
-use Rattle.store_reopen.proofs.Paths.{unlisted_other, unlisted_own, unlisted_stray}
+use Rattle.store_reopen.proofs.AdoptedDisk.{unlisted_other, unlisted_own, unlisted_stray}
 use Rattle.store_reopen.proofs.finding.is_unlisted.Goals as goal
 
 pub returns-in-None : goal.returns-in-None

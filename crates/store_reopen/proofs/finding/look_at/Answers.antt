@@ -9,8 +9,8 @@ use Rattle.durable_write.specs.Held.{Listing}
 use Rattle.store_reopen.specs.Adoption.{IsFoundAs, IsUnlisted}
 use Rattle.store_reopen.specs.Finding.{IsOfPlace}
 use Rattle.store_reopen.specs.declared.finding.Unlisted.{Unlisted}
-use Rattle.store_reopen.proofs.StraysGone.{at_store, is_none}
-use Rattle.store_reopen.proofs.Unlisted.{FoundSo, found_all, found_as, found_listed, found_more, of_place}
+use Rattle.store_reopen.proofs.Marking.{at_store, is_none}
+use Rattle.store_reopen.proofs.TakenFiles.{FoundSo, found_all, found_as, found_listed, found_more, of_place}
 use Rattle.store_reopen.proofs.finding.look_at.Goals as goal
 
 pub loop-file-preserved-then-not-branch : goal.loop-file-preserved-then-not-branch

@@ -4,7 +4,7 @@ use Rattle.disk_model.specs.Files.{Name}
 use Rattle.found_files.specs.Reading.{IsOnlyRead}
 use Rattle.store_manifest.specs.Manifest.{ManifestState}
 use Rattle.store_reopen.specs.Finding.{IsOfPlace}
-use Rattle.store_reopen.proofs.Unlisted.{FoundSo}
+use Rattle.store_reopen.proofs.TakenFiles.{FoundSo}
 use Rattle.store_reopen.proofs.finding.look_at.Given as goal
 
 abbrev pub invariant-loop-file : goal.invariant-loop-file

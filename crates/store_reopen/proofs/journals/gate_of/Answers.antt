@@ -1,6 +1,6 @@
 use Rattle.std.proofs.Common.{ℕ, List, length, take, ◌∙◌, ap, Err}
 use Rattle.gate_journal.specs.Batches.{open_gates}
-use Rattle.store_reopen.proofs.OneJournal.{settled_file_of}
+use Rattle.store_reopen.proofs.Having.{settled_file_of}
 use Rattle.gate_journal.proofs.OneReading.{one_list}
 use Rattle.store_reopen.proofs.journals.gate_of.Goals as goal
 

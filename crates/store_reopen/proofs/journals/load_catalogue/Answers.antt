@@ -5,8 +5,7 @@ use Rattle.pv_catalog.specs.Catalogue.{catalogue_name}
 use Rattle.pv_catalog.specs.Rows.{IsBadBatch}
 use Rattle.store_reopen.specs.OneJournal.{NoneOpened, IsGate}
 use Rattle.store_reopen.specs.Verdict.{catalogue_bad}
-use Rattle.store_reopen.proofs.Keeping.{kept_rows, kept_then, rows_again}
-use Rattle.store_reopen.proofs.OneJournal.{bad_again, no_bad_rows}
+use Rattle.store_reopen.proofs.Having.{kept_rows, kept_then, rows_again, bad_again, no_bad_rows}
 use Rattle.store_reopen.proofs.journals.load_catalogue.Goals as goal
 
 pub returns-in-Ok-clause-keeps : goal.returns-in-Ok-clause-keeps

@@ -6,12 +6,10 @@ use Rattle.store_manifest.specs.Batches.{Configured, IsBadBatch}
 use Rattle.store_manifest.specs.Entries.{AreEntries}
 use Rattle.store_manifest.specs.Manifest.{StaysOrBegins, Lists, manifest_name}
 use Rattle.store_reopen.specs.OneJournal.{NoneOpened, IsGate}
-use Rattle.store_reopen.proofs.OneJournal.{catalogue_stays, bad_again, bad_in, no_bad_entries}
+use Rattle.store_reopen.proofs.Having.{catalogue_stays, bad_again, bad_in, no_bad_entries, here_at, kept_list, kept_then, list_again, manifest_stays}
 use Rattle.store_reopen.specs.Reopen.{stores_of}
 use Rattle.store_reopen.specs.Verdict.{manifest_bad}
-use Rattle.store_reopen.proofs.Having.{here_at}
-use Rattle.store_reopen.proofs.Keeping.{kept_list, kept_then, list_again, manifest_stays}
-use Rattle.store_reopen.proofs.Manifests.{nested_next}
+use Rattle.store_reopen.proofs.Verdicts.{nested_next}
 use Rattle.store_reopen.proofs.journals.load_manifest.Goals as goal
 
 pub returns-in-Ok-clause-keeps : goal.returns-in-Ok-clause-keeps

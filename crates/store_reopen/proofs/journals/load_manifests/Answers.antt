@@ -8,11 +8,11 @@ use Rattle.gate_journal.proofs.Keeping.{says_stays}
 use Rattle.store_manifest.specs.Batches.{Folds}
 use Rattle.store_manifest.specs.Entries.{AreEntries}
 use Rattle.store_manifest.specs.Manifest.{IsKept, manifest_name}
-use Rattle.durable_write.proofs.Three.{manifests_differ}
+use Rattle.durable_write.proofs.Staying.{manifests_differ}
 use Rattle.store_reopen.specs.Loading.{Manifest}
 use Rattle.store_reopen.specs.Reopen.{stores_of, lists_of}
-use Rattle.store_reopen.proofs.Keeping.{kept_then, kept_same}
-use Rattle.store_reopen.proofs.Manifests.{no_manifest, one_more, one_further, said_below}
+use Rattle.store_reopen.proofs.Having.{kept_then, kept_same}
+use Rattle.store_reopen.proofs.Verdicts.{no_manifest, one_more, one_further, said_below}
 use Rattle.store_reopen.proofs.journals.load_manifests.Goals as goal
 
 pub loop-place-init : goal.loop-place-init

@@ -1,5 +1,5 @@
 use Rattle.std.proofs.Common.{arith}
-use Rattle.store_reopen.proofs.OneJournal.{gates_more}
+use Rattle.store_reopen.proofs.Having.{gates_more}
 use Rattle.store_reopen.proofs.journals.place_of.Goals as goal
 
 pub loop-i-preserved : goal.loop-i-preserved

@@ -1,5 +1,5 @@
 use Rattle.tier_store.specs.Seen.{seen}
-use Rattle.store_reopen.proofs.HandedBack.{has_opens, doubt_opens, open_unopened}
+use Rattle.store_reopen.proofs.Swept.{has_opens, doubt_opens, open_unopened}
 use Rattle.store_reopen.proofs.laws.three_stores_may_be_opened_again.Goals as goal
 
 pub returns-clause-settled : goal.returns-clause-settled

@@ -3,9 +3,9 @@ use Rattle.std.proofs.lemmas.Result.{err_from_is_err_and}
 use Rattle.tier_store.proofs.Places.{granularity_at, manifest_at}
 use Rattle.store_reopen.specs.Adoption.{place_of, row_of}
 use Rattle.store_reopen.specs.declared.finding.Taken.{Taken}
-use Rattle.store_reopen.proofs.Adding.{journals_same, spares_none, spares_then}
+use Rattle.store_reopen.proofs.Swept.{journals_same, spares_none, spares_then}
 use Rattle.store_reopen.proofs.Having.{count_of}
-use Rattle.store_reopen.proofs.TurnsTaken.{may_later, still_at, turn_here, turns_begin, turns_end, turns_on, turns_stop, unopened_later}
+use Rattle.store_reopen.proofs.Counts.{may_later, still_at, turn_here, turns_begin, turns_end, turns_on, turns_stop, unopened_later}
 use Rattle.store_reopen.proofs.listing.list_all.Goals as goal
 
 pub loop-turn-init : goal.loop-turn-init

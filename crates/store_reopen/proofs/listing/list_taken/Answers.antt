@@ -12,7 +12,7 @@ use Rattle.tier_store.proofs.Places.{manifest_at}
 use Rattle.store_reopen.specs.Adoption.{entry_as}
 use Rattle.store_reopen.specs.Listing.{AreUnopened, entries_as}
 use Rattle.store_reopen.specs.declared.finding.Taken.{Taken}
-use Rattle.store_reopen.proofs.Adding.{spares_read, spares_then}
+use Rattle.store_reopen.proofs.Swept.{spares_read, spares_then}
 use Rattle.store_reopen.proofs.Having.{count_of}
 use Rattle.store_reopen.proofs.Marking.{has_marked, marks_read}
 use Rattle.store_reopen.proofs.Stages.{steps_read}

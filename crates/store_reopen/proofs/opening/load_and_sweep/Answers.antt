@@ -4,7 +4,7 @@ use Rattle.store_manifest.specs.Manifest.{ManifestState}
 use Rattle.store_reopen.specs.Reopen.{stores_of}
 use Rattle.store_reopen.specs.Strays.{AreGone, IsStrayBelow, Removes, adoption_name}
 use Rattle.store_reopen.proofs.Having.{count_of, reopened}
-use Rattle.store_reopen.proofs.Site.{site_loaded, site_swept, site_then}
+use Rattle.store_reopen.proofs.Marking.{site_loaded, site_swept, site_then}
 use Rattle.store_reopen.proofs.Swept.{is_finished, load_has, load_stands, load_sweeps, load_swept, load_whole, no_file, sweeps_none, sweeps_or_none}
 use Rattle.store_reopen.proofs.opening.load_and_sweep.Goals as goal
 

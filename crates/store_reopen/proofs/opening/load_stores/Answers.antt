@@ -7,14 +7,12 @@ use Rattle.store_manifest.specs.Batches.{Configured}
 use Rattle.store_manifest.specs.Manifest.{ManifestState}
 use Rattle.pv_catalog.specs.declared.row.Row.{Row}
 use Rattle.pv_catalog.specs.Rows.{IsCatalogue}
-use Rattle.durable_write.proofs.Ending.{other_journal}
-use Rattle.store_reopen.proofs.OneJournal.{kept_reads}
+use Rattle.durable_write.proofs.Commits.{other_journal}
+use Rattle.store_reopen.proofs.Having.{kept_reads, all_there_in, same_granularities, kept_then, kept_reading}
 use Rattle.store_reopen.specs.Loading.{Manifest}
 use Rattle.store_reopen.specs.Reopen.{stores_of, lists_of}
 use Rattle.store_reopen.specs.Verdict.{AreSaid, IsThere, HasRow}
-use Rattle.store_reopen.proofs.Having.{all_there_in, same_granularities}
-use Rattle.store_reopen.proofs.Keeping.{kept_then, kept_reading}
-use Rattle.store_reopen.proofs.Manifests.{are_said}
+use Rattle.store_reopen.proofs.Verdicts.{are_said}
 use Rattle.store_reopen.proofs.opening.load_stores.Goals as goal
 
 -- the same of the rows and the manifests that a call is passed

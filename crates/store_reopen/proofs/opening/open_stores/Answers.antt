@@ -6,7 +6,7 @@ use Rattle.store_reopen.specs.Refusal.{IsTold}
 use Rattle.store_reopen.specs.Reopen.{HasLoaded, IsSwept, lists_of, stores_of}
 use Rattle.store_reopen.specs.Strays.{adoption_name}
 use Rattle.store_reopen.specs.Verdict.{AreSaid, IsWhole}
-use Rattle.store_reopen.proofs.Site.{site_read, site_then}
+use Rattle.store_reopen.proofs.Marking.{site_read, site_then}
 use Rattle.store_reopen.proofs.Swept.{loaded_behind, read_reopens, sweeps_behind, sweeps_none}
 use Rattle.store_reopen.proofs.opening.open_stores.Goals as goal
 

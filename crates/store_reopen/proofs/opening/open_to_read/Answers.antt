@@ -3,13 +3,13 @@ use Rattle.disk_model.specs.Files.{Name}
 use Rattle.tier_store.specs.Stores.{Stores}
 use Rattle.tier_store.specs.Seen.{seen_on}
 use Rattle.tier_store.specs.Change.{Has}
-use Rattle.tier_store.proofs.Sparing.{seen_new}
+use Rattle.tier_store.proofs.Retirements.{seen_new}
 use Rattle.store_reopen.specs.Reopen.{LeavesSite, Reopens, stores_of}
 use Rattle.store_reopen.specs.Verdict.{IsDamaged}
 use Rattle.store_reopen.specs.declared.error.ReopenErr.{ReopenErr}
 use Rattle.store_reopen.specs.declared.error.ReopenErr.TheVariants.{Damaged}
 use Rattle.store_reopen.proofs.Having.{has_some, has_read, reads_one, loaded_again, reopened, count_of}
-use Rattle.store_reopen.proofs.Site.{site_loaded}
+use Rattle.store_reopen.proofs.Marking.{site_loaded}
 use Rattle.store_reopen.proofs.Swept.{all_whole}
 use Rattle.store_reopen.proofs.opening.open_to_read.Goals as goal
 

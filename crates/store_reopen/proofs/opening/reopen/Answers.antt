@@ -6,7 +6,7 @@ use Rattle.store_manifest.specs.Manifest.{ManifestState}
 use Rattle.durable_write.specs.Held.{file_of}
 use Rattle.tier_store.specs.Stores.{Stores}
 use Rattle.tier_store.specs.Change.{Has}
-use Rattle.tier_store.proofs.Sparing.{seen_new}
+use Rattle.tier_store.proofs.Retirements.{seen_new}
 use Rattle.store_reopen.specs.Reopen.{IsSwept, LeavesSite, Sweeps, stores_of}
 use Rattle.store_reopen.specs.Strays.{IsFileOf}
 use Rattle.store_reopen.proofs.Having.{count_of}

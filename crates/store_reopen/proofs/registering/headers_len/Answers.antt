@@ -1,5 +1,5 @@
 use Rattle.std.proofs.Common.{◌≡◌, List, ℕ, length, ap, arith}
-use Rattle.store_reopen.proofs.Rows.{headers_all, headers_more}
+use Rattle.store_reopen.proofs.TakenFiles.{headers_all, headers_more}
 use Rattle.store_reopen.proofs.registering.headers_len.Goals as goal
 
 pub loop-header-preserved : goal.loop-header-preserved

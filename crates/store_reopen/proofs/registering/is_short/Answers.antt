@@ -1,6 +1,6 @@
 use Rattle.std.proofs.Common.{◌≡◌, List, ℕ, length, ap, arith}
 use Rattle.store_reopen.specs.Adoption.{headers_len}
-use Rattle.store_reopen.proofs.Rows.{leb_is, short_by}
+use Rattle.store_reopen.proofs.TakenFiles.{leb_is, short_by}
 use Rattle.store_reopen.proofs.registering.is_short.Goals as goal
 
 pub returns-clause-short : goal.returns-clause-short

@@ -2,7 +2,7 @@ use Rattle.std.proofs.Common.{◌≡◌, ◌∷◌, ◌++◌, [], ℕ, List, Boo
 use Rattle.std.specs.Prelude.{Contains}
 use Rattle.std.proofs.lemmas.Bool.{false≢true}
 use Rattle.store_reopen.specs.Adoption.{GetRows, kept, refused, stopped, too_long}
-use Rattle.store_reopen.proofs.Rows.{among, free_by, goes_first, goes_none, on_err, refused_by, stops_first, stops_none}
+use Rattle.store_reopen.proofs.TakenFiles.{among, free_by, goes_first, goes_none, on_err, refused_by, stops_first, stops_none}
 use Rattle.store_reopen.proofs.registering.register.Goals as goal
 
 pub returns-then-is_some-clause-goes : goal.returns-then-is_some-clause-goes

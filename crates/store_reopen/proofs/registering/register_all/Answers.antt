@@ -4,9 +4,9 @@ use Rattle.store_reopen.specs.Adoption.{GetRows, done, other}
 use Rattle.store_reopen.specs.Runs.{Rule}
 use Rattle.store_reopen.specs.Steps.{Step}
 use Rattle.store_reopen.specs.declared.finding.Unlisted.{Unlisted}
-use Rattle.store_reopen.proofs.Adding.{spares_none, spares_then}
-use Rattle.store_reopen.proofs.Rows.{goes_none, on_err}
-use Rattle.store_reopen.proofs.Runs.{goes_by, goes_has, goes_stops, goes_then, next_item, none_of}
+use Rattle.store_reopen.proofs.Swept.{spares_none, spares_then}
+use Rattle.store_reopen.proofs.TakenFiles.{goes_none, on_err}
+use Rattle.store_reopen.proofs.Stages.{goes_by, goes_has, goes_stops, goes_then, next_item, none_of}
 use Rattle.store_reopen.proofs.registering.register_all.Goals as goal
 
 pub loop-file-init : goal.loop-file-init

@@ -3,7 +3,7 @@ use Rattle.pb_messages.specs.declared.about.About.{About}
 use Rattle.store_reopen.specs.Adoption.{about_of}
 use Rattle.store_reopen.specs.Reopen.{loaded}
 use Rattle.store_reopen.specs.Steps.{MakesSteps, NewRow}
-use Rattle.store_reopen.proofs.Rows.{never_refused, on_err, row_cut, row_made, row_spared}
+use Rattle.store_reopen.proofs.TakenFiles.{never_refused, on_err, row_cut, row_made, row_spared}
 use Rattle.store_reopen.proofs.registering.register_first.Goals as goal
 
 pub returns-in_err-about-clause-stops : goal.returns-in_err-about-clause-stops

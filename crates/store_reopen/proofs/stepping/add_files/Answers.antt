@@ -11,10 +11,10 @@ use Rattle.tier_store.specs.Change.{CanList, Has}
 use Rattle.tier_store.specs.Moving.{publishing}
 use Rattle.tier_store.specs.Stores.{Stores, list_at, tier}
 use Rattle.tier_store.proofs.Places.{manifest_here, holding}
-use Rattle.tier_store.proofs.RelistCall.{can_relist, beside_all, call_done, call_cut}
+use Rattle.tier_store.proofs.OnePlace.{can_relist, beside_all, call_done, call_cut}
 use Rattle.store_reopen.specs.Loading.{Manifest}
 use Rattle.store_reopen.specs.Reopen.{loaded}
-use Rattle.store_reopen.proofs.Adding.{files_ready, own_spares}
+use Rattle.store_reopen.proofs.Swept.{files_ready, own_spares}
 use Rattle.store_reopen.proofs.stepping.add_files.Goals as goal
 
 pub relist-requires-clause-sound : goal.relist-requires-clause-sound

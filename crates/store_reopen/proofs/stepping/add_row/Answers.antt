@@ -5,7 +5,7 @@ use Rattle.pv_catalog.specs.Rows.{IsCatalogue}
 use Rattle.pv_catalog.specs.declared.row.Row.{Row}
 use Rattle.tier_store.proofs.RowCalls.{register_changes}
 use Rattle.store_reopen.specs.Loading.{Catalogue}
-use Rattle.store_reopen.proofs.Adding.{own_spares, registered_ready}
+use Rattle.store_reopen.proofs.Swept.{own_spares, registered_ready}
 use Rattle.store_reopen.proofs.stepping.add_row.Goals as goal
 
 pub returns-clause-changes : goal.returns-clause-changes

@@ -3,7 +3,7 @@ use Rattle.store_manifest.specs.Entries.{is_listed}
 use Rattle.store_manifest.specs.Listing.{OfSeries}
 use Rattle.store_manifest.specs.declared.entry.Entry.{Entry}
 use Rattle.tier_store.proofs.Removals.{of_series}
-use Rattle.store_reopen.proofs.Paths.{of_series_alone}
+use Rattle.store_reopen.proofs.AdoptedDisk.{of_series_alone}
 use Rattle.store_reopen.proofs.strays.is_listed.Goals as goal
 
 pub returns : goal.returns

@@ -4,7 +4,7 @@ use Rattle.disk_model.specs.Files.{Name}
 use Rattle.partition_names.specs.declared.granularity.Granularity.{Granularity}
 use Rattle.partition_names.specs.declared.part.Part.{Part}
 use Rattle.store_reopen.specs.Strays.{IsFileOf}
-use Rattle.store_reopen.proofs.Paths.{no_stray, unlisted_stray}
+use Rattle.store_reopen.proofs.AdoptedDisk.{no_stray, unlisted_stray}
 use Rattle.store_reopen.proofs.strays.is_stray.Goals as goal
 
 pub returns-in-None : goal.returns-in-None

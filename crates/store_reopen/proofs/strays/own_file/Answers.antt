@@ -6,7 +6,7 @@ use Rattle.partition_names.specs.Path.{path_of}
 use Rattle.pv_name.specs.Key.{key_of}
 use Rattle.pv_catalog.specs.declared.row.Row.{Row}
 use Rattle.found_files.proofs.Paths.{key_at}
-use Rattle.store_reopen.proofs.Paths.{row_here, row_there}
+use Rattle.store_reopen.proofs.AdoptedDisk.{row_here, row_there}
 use Rattle.store_reopen.proofs.strays.own_file.Goals as goal
 
 pub returns-then-branch-clause-only : goal.returns-then-branch-clause-only

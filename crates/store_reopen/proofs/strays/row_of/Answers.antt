@@ -1,6 +1,6 @@
 use Rattle.std.proofs.Common.{inl, inr, Some, ap, subst}
 use Rattle.pv_catalog.specs.Catalogue.{Refuses}
-use Rattle.store_reopen.proofs.Paths.{none_taken, taken_is, taken_low}
+use Rattle.store_reopen.proofs.AdoptedDisk.{none_taken, taken_is, taken_low}
 use Rattle.store_reopen.proofs.strays.row_of.Goals as goal
 
 pub returns-in-Some-NameTaken-clause-within : goal.returns-in-Some-NameTaken-clause-within

@@ -2,7 +2,7 @@ use Rattle.std.proofs.Common.{ℕ, List, sym, subst}
 use Rattle.pv_name.specs.Name.{IsRefusal}
 use Rattle.pv_name.specs.Key.{key_of}
 use Rattle.pv_catalog.specs.Rows.{HasKey}
-use Rattle.store_reopen.proofs.Paths.{has_key, no_key}
+use Rattle.store_reopen.proofs.AdoptedDisk.{has_key, no_key}
 use Rattle.store_reopen.proofs.strays.row_of_key.Goals as goal
 
 pub returns-in-Ok-clause-only : goal.returns-in-Ok-clause-only

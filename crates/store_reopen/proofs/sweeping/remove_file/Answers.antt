@@ -1,7 +1,7 @@
 use Rattle.std.proofs.Common.{◌≡◌, sym, ◌∙◌, ap}
 use Rattle.disk_model.specs.Files.{Files}
-use Rattle.tier_store.proofs.Staying.{size_there}
-use Rattle.store_reopen.proofs.Going.{removes_one, removes_read, removes_then}
+use Rattle.tier_store.proofs.Removals.{size_there}
+use Rattle.store_reopen.proofs.Marking.{removes_one, removes_read, removes_then}
 use Rattle.store_reopen.proofs.sweeping.remove_file.Goals as goal
 
 pub remove-requires : goal.remove-requires

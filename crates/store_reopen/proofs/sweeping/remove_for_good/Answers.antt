@@ -4,7 +4,7 @@ use Rattle.disk_model.specs.Files.{Content, Files}
 use Rattle.disk_model.specs.Past.{Only}
 use Rattle.disk_model.specs.declared.disk.DiskErr.{DiskErr}
 use Rattle.store_reopen.specs.Strays.{IsGone}
-use Rattle.store_reopen.proofs.Going.{removes_read, removes_then}
+use Rattle.store_reopen.proofs.Marking.{removes_read, removes_then}
 use Rattle.store_reopen.proofs.sweeping.remove_for_good.Goals as goal
 
 pub returns-clause-removes : goal.returns-clause-removes

@@ -3,8 +3,7 @@ use Rattle.std.specs.Prelude.{All}
 use Rattle.std.proofs.lemmas.List.{take_all}
 use Rattle.disk_model.specs.Files.{Name}
 use Rattle.store_reopen.specs.Strays.{IsGoneIf, IsStrayOf}
-use Rattle.store_reopen.proofs.Going.{removes_by, removes_then}
-use Rattle.store_reopen.proofs.StraysGone.{at_store, is_none, not_one, one_more}
+use Rattle.store_reopen.proofs.Marking.{removes_by, removes_then, at_store, is_none, not_one, one_more}
 use Rattle.store_reopen.proofs.sweeping.remove_strays.Goals as goal
 
 pub loop-name-preserved-then-not-stray : goal.loop-name-preserved-then-not-stray

@@ -1,4 +1,4 @@
-use Rattle.store_reopen.proofs.Going.{removes_none}
+use Rattle.store_reopen.proofs.Marking.{removes_none}
 use Rattle.store_reopen.proofs.sweeping.sweep_finished.Goals as goal
 
 pub returns-then-unfinished-clause-removes : goal.returns-then-unfinished-clause-removes

@@ -3,8 +3,7 @@ use Rattle.std.specs.Prelude.{All, OnOk, Result}
 use Rattle.disk_model.specs.Files.{Name, Lists}
 use Rattle.disk_model.specs.declared.disk.DiskErr.{DiskErr}
 use Rattle.store_reopen.specs.Strays.{AreGone, IsGoneIf, IsStrayOf}
-use Rattle.store_reopen.proofs.Going.{removes_read, removes_then}
-use Rattle.store_reopen.proofs.StraysGone.{in_store, store_gone}
+use Rattle.store_reopen.proofs.Marking.{removes_read, removes_then, in_store, store_gone}
 use Rattle.store_reopen.proofs.sweeping.sweep_store.Goals as goal
 
 pub returns-clause-removes : goal.returns-clause-removes

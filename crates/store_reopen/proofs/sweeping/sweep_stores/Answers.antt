@@ -2,9 +2,8 @@ use Rattle.std.proofs.Common.{◌≡◌, ◌<◌, ◌+◌, Some, arith}
 use Rattle.std.specs.Prelude.{slice_get}
 use Rattle.store_manifest.specs.Manifest.{ManifestState}
 use Rattle.store_reopen.specs.Strays.{IsStrayBelow, IsStrayOf}
-use Rattle.store_reopen.proofs.Going.{removes_by, removes_then}
-use Rattle.store_reopen.proofs.Looking.{here_from}
-use Rattle.store_reopen.proofs.StraysGone.{below_all, lower, of_place, stores_gone}
+use Rattle.store_reopen.proofs.Marking.{removes_by, removes_then, below_all, lower, of_place, stores_gone}
+use Rattle.store_reopen.proofs.Verdicts.{here_from}
 use Rattle.store_reopen.proofs.sweeping.sweep_stores.Goals as goal
 
 pub returns-in_err-sweep_store-clause-removes : goal.returns-in_err-sweep_store-clause-removes

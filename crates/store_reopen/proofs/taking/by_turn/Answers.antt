@@ -5,7 +5,7 @@ use Rattle.std.proofs.lemmas.Iterator.Adapters.{YieldsList-from_vec}
 use Rattle.pv_catalog.specs.declared.row.Row.{Row}
 use Rattle.store_reopen.specs.Finding.{IsOfPlace}
 use Rattle.store_reopen.specs.declared.finding.Unlisted.{Unlisted}
-use Rattle.store_reopen.proofs.Turns.{SoFar, so_all, so_more, so_none, turn_old}
+use Rattle.store_reopen.proofs.Stages.{SoFar, so_all, so_more, so_none, turn_old}
 use Rattle.store_reopen.proofs.taking.by_turn.Goals as goal
 
 pub loop-one-init : goal.loop-one-init

@@ -1,7 +1,7 @@
 use Rattle.std.proofs.Common.{◌≡◌, ◌≤◌, ◌*◌, length}
 use Rattle.store_reopen.specs.Listing.{AtEachTurn, turns_of}
 use Rattle.store_reopen.specs.Turns.{all_taken}
-use Rattle.store_reopen.proofs.Turns.{SoFar}
+use Rattle.store_reopen.proofs.Stages.{SoFar}
 use Rattle.store_reopen.proofs.taking.by_turn.Given as goal
 
 abbrev pub invariant-loop-one : goal.invariant-loop-one

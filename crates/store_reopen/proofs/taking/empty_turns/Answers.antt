@@ -1,4 +1,4 @@
-use Rattle.store_reopen.proofs.Turns.{all_empty, none_taken}
+use Rattle.store_reopen.proofs.Stages.{all_empty, none_taken}
 use Rattle.store_reopen.proofs.taking.empty_turns.Goals as goal
 
 pub returns-clause-empty : goal.returns-clause-empty

@@ -4,7 +4,7 @@ use Rattle.std.proofs.lemmas.Bool.{cases_lt, false≢true}
 use Rattle.std.proofs.lemmas.Option.{same_Some, slice_get_read}
 use Rattle.store_manifest.specs.Manifest.{ManifestState}
 use Rattle.store_manifest.specs.declared.entry.Entry.{Entry}
-use Rattle.store_reopen.proofs.Turns.{in_none, is_none, none_in}
+use Rattle.store_reopen.proofs.Stages.{in_none, is_none, none_in}
 use Rattle.store_reopen.proofs.taking.list_none.Goals as goal
 
 at_place : (at place : ℕ) → at < place + 1 → at ≤ place

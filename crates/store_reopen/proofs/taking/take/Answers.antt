@@ -5,7 +5,7 @@ use Rattle.found_files.specs.declared.finding.Candidate.{Candidate}
 use Rattle.store_reopen.specs.Listing.{turns_of}
 use Rattle.store_reopen.specs.Turns.{IsOfTurn}
 use Rattle.store_reopen.specs.declared.finding.Taken.{Taken}
-use Rattle.store_reopen.proofs.Turns.{one_taken, turn_read, turn_set}
+use Rattle.store_reopen.proofs.Stages.{one_taken, turn_read, turn_set}
 use Rattle.store_reopen.proofs.taking.take.Goals as goal
 
 pub returns-in_default-turn_of-clause-takes : goal.returns-in_default-turn_of-clause-takes

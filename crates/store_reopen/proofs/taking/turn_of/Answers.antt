@@ -8,7 +8,7 @@ use Rattle.pv_catalog.specs.Rows.{HasName}
 use Rattle.store_manifest.specs.Manifest.{ManifestState}
 use Rattle.store_reopen.specs.Adoption.{IsSingle, row_of}
 use Rattle.store_reopen.specs.Turns.{IsOfTurn, ListNone}
-use Rattle.store_reopen.proofs.Turns.{same_turn, turn_place, turn_row}
+use Rattle.store_reopen.proofs.Stages.{same_turn, turn_place, turn_row}
 use Rattle.store_reopen.proofs.taking.turn_of.Goals as goal
 
 has_name : (ms : List ManifestState) (rows : List Row) (turn place : ℕ) (c : Candidate) (bytes : List ℕ) → bytes ≡ c.name → IsOfTurn ms rows turn place c → HasName rows (row_of turn) bytes

@@ -2,8 +2,7 @@ use Rattle.std.proofs.Common.{subst}
 use Rattle.std.specs.Prelude.{OnOk}
 use Rattle.disk_model.specs.Files.{Name}
 use Rattle.disk_model.specs.Past.{Only}
-use Rattle.store_reopen.proofs.Marked.{begins_read, begins_then}
-use Rattle.store_reopen.proofs.Marking.{for_good, marks_read, marks_then}
+use Rattle.store_reopen.proofs.Marking.{begins_read, begins_then, for_good, marks_read, marks_then}
 use Rattle.store_reopen.proofs.unfinished.begin_adoption.Goals as goal
 
 pub returns-clause-there : goal.returns-clause-there

@@ -3,8 +3,7 @@ use Rattle.std.specs.Prelude.{IsSome, OnErr, OnOk}
 use Rattle.disk_model.specs.Files.{At, Becomes, Files, KeptOr, Name}
 use Rattle.disk_model.specs.Past.{Passes}
 use Rattle.store_reopen.specs.Strays.{adoption_name}
-use Rattle.store_reopen.proofs.Marked.{begins_made, begins_read, begins_then}
-use Rattle.store_reopen.proofs.Marking.{made_there, marks_made, marks_read, marks_then, some_of}
+use Rattle.store_reopen.proofs.Marking.{begins_made, begins_read, begins_then, made_there, marks_made, marks_read, marks_then, some_of}
 use Rattle.gate_journal.proofs.Begin.{no_file}
 use Rattle.store_reopen.proofs.unfinished.make_file.Goals as goal
 

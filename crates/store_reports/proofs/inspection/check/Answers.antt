@@ -1,7 +1,6 @@
 use Rattle.std.proofs.Common.{refl}
 use Rattle.store_reports.specs.Listing.{files_listed}
-use Rattle.store_reports.proofs.Leaving.{leaves_ended}
-use Rattle.store_reports.proofs.Telling.{all_stand, told_none}
+use Rattle.store_reports.proofs.Telling.{leaves_ended, all_stand, told_none}
 use Rattle.store_reports.proofs.inspection.check.Goals as goal
 
 pub returns-clause-checks : goal.returns-clause-checks

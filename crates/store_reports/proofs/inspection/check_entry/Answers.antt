@@ -3,10 +3,9 @@ use Rattle.std.proofs.lemmas.Result.{err_from_is_err_and}
 use Rattle.pins.specs.declared.choosing.Listed.{Listed}
 use Rattle.pv_catalog.specs.Catalogue.{CatalogueState}
 use Rattle.pv_catalog.specs.declared.row.Row.{Row}
-use Rattle.tier_store.proofs.There.{row_listed}
+use Rattle.tier_store.proofs.Places.{row_listed}
 use Rattle.store_reports.specs.Check.{Inspected}
-use Rattle.store_reports.proofs.Leaving.{leaves_ended, leaves_put, leaves_written, unwritten}
-use Rattle.store_reports.proofs.Telling.{found_before, told_err, told_more, untold}
+use Rattle.store_reports.proofs.Telling.{leaves_ended, leaves_put, leaves_written, unwritten, found_before, told_err, told_more, untold}
 use Rattle.store_reports.proofs.inspection.check_entry.Goals as goal
 
 pub tell-requires : goal.tell-requires

@@ -10,10 +10,7 @@ use Rattle.store_manifest.specs.declared.entry.Entry.{Entry}
 use Rattle.tier_store.specs.Pinning.{entries_of}
 use Rattle.store_reports.specs.Check.{InspectsSome}
 use Rattle.store_reports.specs.Telling.{AreTold, Remains}
-use Rattle.store_reports.proofs.Leaving.{leaves_none, leaves_then, shows_still}
-use Rattle.store_reports.proofs.Listing.{listed_at, listed_length, manifest_there, own_there}
-use Rattle.store_reports.proofs.Rowwise.{own, own_listed}
-use Rattle.store_reports.proofs.Telling.{one_taken, rest_taken, some_longer}
+use Rattle.store_reports.proofs.Telling.{leaves_none, leaves_then, shows_still, listed_at, listed_length, manifest_there, own_there, own, own_listed, one_taken, rest_taken, some_longer}
 use Rattle.store_reports.proofs.inspection.check_row.Goals as goal
 
 -- what is listed of the row, as it is seen at first and in the loop, and the entry at a place of it

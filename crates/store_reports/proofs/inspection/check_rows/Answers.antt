@@ -9,9 +9,7 @@ use Rattle.tier_store.specs.Seen.{seen}
 use Rattle.store_reports.specs.Check.{InspectsSome}
 use Rattle.store_reports.specs.Listing.{entries_at}
 use Rattle.store_reports.specs.Telling.{AreTold, Remains}
-use Rattle.store_reports.proofs.Leaving.{leaves_none, leaves_then, shows_still}
-use Rattle.store_reports.proofs.Rowwise.{ordered, rows_all, rows_more, rows_none, rows_rest, till, mine}
-use Rattle.store_reports.proofs.Telling.{some_longer}
+use Rattle.store_reports.proofs.Telling.{leaves_none, leaves_then, shows_still, ordered, rows_all, rows_more, rows_none, rows_rest, till, mine, some_longer}
 use Rattle.store_reports.proofs.inspection.check_rows.Goals as goal
 
 pub loop-row-init : goal.loop-row-init

@@ -6,7 +6,7 @@ use Rattle.pv_catalog.specs.declared.row.Row.{Row}
 use Rattle.tier_store.specs.Seen.{seen}
 use Rattle.store_reports.specs.Listing.{entries_at}
 use Rattle.store_reports.specs.Telling.{AreTold, Leaves, Shows}
-use Rattle.store_reports.proofs.Rowwise.{below}
+use Rattle.store_reports.proofs.Telling.{below}
 use Rattle.store_reports.proofs.inspection.check_rows.Given as goal
 
 abbrev pub invariant-loop-row : goal.invariant-loop-row

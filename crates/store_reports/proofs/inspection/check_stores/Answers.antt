@@ -4,8 +4,7 @@ use Rattle.store_manifest.specs.Manifest.{ManifestState}
 use Rattle.store_reports.specs.Check.{InspectsSome}
 use Rattle.store_reports.specs.Listing.{files_at}
 use Rattle.store_reports.specs.Telling.{AreTold, Remains, Tells}
-use Rattle.store_reports.proofs.Leaving.{leaves_then, shows_still}
-use Rattle.store_reports.proofs.Telling.{some_longer}
+use Rattle.store_reports.proofs.Telling.{leaves_then, shows_still, some_longer}
 use Rattle.store_reports.proofs.inspection.check_stores.Goals as goal
 
 pub check_rows-requires-2-clause-has : goal.check_rows-requires-2-clause-has

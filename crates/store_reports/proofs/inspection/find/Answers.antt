@@ -2,8 +2,7 @@ use Rattle.std.proofs.Common.{length, refl, ap, arith}
 use Rattle.std.proofs.lemmas.List.{length-take-le}
 use Rattle.std.proofs.lemmas.Result.{err_from_is_err_and}
 use Rattle.store_reports.specs.declared.report.Finding.TheVariants as found
-use Rattle.store_reports.proofs.Leaving.{counted_first, leaves_opened, leaves_unopened}
-use Rattle.store_reports.proofs.Telling.{front_found}
+use Rattle.store_reports.proofs.Telling.{counted_first, leaves_opened, leaves_unopened, front_found}
 use Rattle.store_reports.proofs.inspection.find.Goals as goal
 
 pub check_file-requires : goal.check_file-requires

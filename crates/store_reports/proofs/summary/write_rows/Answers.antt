@@ -5,7 +5,7 @@ use Rattle.edge_io.specs.Sent.{Sends}
 use Rattle.edge_io.proofs.Sending.{sends_none, sends_then}
 use Rattle.tier_store.specs.Seen.{seen}
 use Rattle.store_reports.specs.Status.{IsLine, RowLines, end_of_status, status_of_put}
-use Rattle.store_reports.proofs.Keeping.{keeps_as, keeps_none, keeps_then}
+use Rattle.store_reports.proofs.Telling.{keeps_as, keeps_none, keeps_then}
 use Rattle.store_reports.proofs.Summing.{line_before, line_err, lines_stopped, no_lines, one_more, put_quiet}
 use Rattle.store_reports.proofs.summary.write_rows.Goals as goal
 

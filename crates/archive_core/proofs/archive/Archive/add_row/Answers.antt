@@ -10,7 +10,7 @@ use Rattle.tier_store.specs.Change.{Changes, registering}
 use Rattle.tier_store.specs.Frame.{Frame}
 use Rattle.tier_store.specs.Pinned.{beside}
 use Rattle.tier_store.specs.Seen.{seen}
-use Rattle.tier_store.proofs.LeavingFronts.{nothing_fronts}
+use Rattle.tier_store.proofs.Frames.{nothing_fronts}
 use Rattle.act_model.specs.Machine.{AddsRow}
 use Rattle.archive_core.specs.Acting.{Changed}
 use Rattle.archive_core.specs.Ends.{ChangesTo}
@@ -19,10 +19,9 @@ use Rattle.archive_core.specs.Memory.{fresh_memory}
 use Rattle.archive_core.specs.Parts.{Parts, parts}
 use Rattle.archive_core.specs.declared.memory.Doubt.TheVariants as kind
 use Rattle.archive_core.specs.declared.memory.RowMemory.{RowMemory}
-use Rattle.archive_core.proofs.After.{with_same, frame_with}
-use Rattle.archive_core.proofs.Changing.{call_done, call_failed, call_spent, call_tidy, called, not_called}
+use Rattle.archive_core.proofs.Settled.{with_same, frame_with, rests_has}
+use Rattle.archive_core.proofs.Acting.{call_done, call_failed, call_spent, call_tidy, called, not_called}
 use Rattle.archive_core.proofs.Registered.{makes_row, more_kept, row_number, row_unclear, row_unrefused, rows_cut_short}
-use Rattle.archive_core.proofs.Settled.{rests_has}
 use Rattle.archive_core.proofs.archive.Archive.add_row.Goals.{After-register}
 use Rattle.archive_core.proofs.archive.Archive.add_row.Goals as goal
 

@@ -10,7 +10,7 @@ use Rattle.archive_core.specs.Parts.{parts}
 use Rattle.archive_core.specs.Stands.{Rests}
 use Rattle.archive_core.proofs.MoveTable.{all_there, begun_there, none_there, slots_stand}
 use Rattle.archive_core.proofs.Settled.{rests_has}
-use Rattle.archive_core.proofs.Strays.{tidy_begun, tidy_none}
+use Rattle.archive_core.proofs.Batches.{tidy_begun, tidy_none}
 use Rattle.archive_core.proofs.archive.Archive.begin_chosen.Goals.{In_ok-begun}
 use Rattle.archive_core.proofs.archive.Archive.begin_chosen.Goals as goal
 

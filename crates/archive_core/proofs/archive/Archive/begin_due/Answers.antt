@@ -10,10 +10,10 @@ use Rattle.act_model.specs.Step.{store_of}
 use Rattle.act_model.specs.declared.acts.Act.TheVariants.{MoveBegin}
 use Rattle.archive_core.specs.Parts.{parts}
 use Rattle.archive_core.proofs.Acting.{IsAct, acted, asked_then, cut}
-use Rattle.archive_core.proofs.Asking.{failed_told}
+use Rattle.archive_core.proofs.Registered.{failed_told}
 use Rattle.archive_core.proofs.MoveTable.{begins_goes, begins_tell, begun_ends}
-use Rattle.archive_core.proofs.ReadingAlone.{reads_none, reads_settling, reads_then}
-use Rattle.archive_core.proofs.Strays.{ok_tidy}
+use Rattle.archive_core.proofs.Opened.{reads_none, reads_settling, reads_then}
+use Rattle.archive_core.proofs.Batches.{ok_tidy}
 use Rattle.archive_core.proofs.archive.Archive.begin_due.Goals as goal
 
 -- the act of the machine

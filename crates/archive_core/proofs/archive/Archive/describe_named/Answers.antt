@@ -16,15 +16,13 @@ use Rattle.act_model.specs.declared.acts.Act.TheVariants.{Details}
 use Rattle.act_model.specs.declared.acts.Answer.TheVariants.{NoSuchVariable}
 use Rattle.archive_core.specs.Ends.{AskEnds}
 use Rattle.archive_core.specs.Leaving.{files_of}
-use Rattle.archive_core.proofs.After.{with_same, frame_with}
-use Rattle.archive_core.proofs.DetailsAct.{describes_act, details_end}
-use Rattle.archive_core.proofs.ReadingAlone.{reads_beside, reads_none, reads_settling, reads_then}
+use Rattle.archive_core.proofs.Settled.{with_same, frame_with, rests_has}
+use Rattle.archive_core.proofs.Opened.{describes_act, details_end, reads_beside, reads_none, reads_settling, reads_then}
 use Rattle.archive_core.specs.Parts.{Parts, parts}
 use Rattle.archive_core.specs.Switching.{IsFound}
 use Rattle.archive_core.proofs.Acting.{acted, asked_then, cut, refused_first, refused_then, spent_then}
-use Rattle.archive_core.proofs.Asking.{failed_told, known, unknown}
-use Rattle.archive_core.proofs.Settled.{rests_has}
-use Rattle.archive_core.proofs.Strays.{tidy_reads}
+use Rattle.archive_core.proofs.Registered.{failed_told, known, unknown}
+use Rattle.archive_core.proofs.Batches.{tidy_reads}
 use Rattle.archive_core.proofs.archive.Archive.describe_named.Goals.{After-find, After-find-2}
 use Rattle.archive_core.proofs.archive.Archive.describe_named.Goals as goal
 

@@ -3,7 +3,7 @@ use Rattle.act_model.specs.declared.acts.Act.TheVariants.{DoorDone}
 use Rattle.act_model.specs.declared.acts.Answer.TheVariants.{DoorsLeft}
 use Rattle.archive_core.specs.Parts.{parts}
 use Rattle.archive_core.proofs.Acting.{acted_alone}
-use Rattle.archive_core.proofs.ReadingAlone.{reads_none}
+use Rattle.archive_core.proofs.Opened.{reads_none}
 use Rattle.archive_core.proofs.Standing.{doors_stand}
 use Rattle.archive_core.proofs.archive.Archive.door_done.Goals as goal
 

@@ -3,7 +3,7 @@ use Rattle.act_model.specs.declared.acts.Act.TheVariants.{Doors}
 use Rattle.act_model.specs.declared.acts.Answer.TheVariants.{DoorsLeft}
 use Rattle.archive_core.specs.Parts.{parts}
 use Rattle.archive_core.proofs.Acting.{acted_alone}
-use Rattle.archive_core.proofs.ReadingAlone.{reads_none}
+use Rattle.archive_core.proofs.Opened.{reads_none}
 use Rattle.archive_core.proofs.archive.Archive.doors.Goals as goal
 
 pub returns : goal.returns

@@ -11,7 +11,7 @@ use Rattle.tier_store.specs.Pinned.{beside}
 use Rattle.tier_store.specs.Revival.{AreWhole}
 use Rattle.tier_store.specs.Seen.{seen}
 use Rattle.tier_store.specs.Stores.{Stores}
-use Rattle.tier_store.proofs.LeavingFronts.{nothing_fronts}
+use Rattle.tier_store.proofs.Frames.{nothing_fronts}
 use Rattle.act_model.specs.Machine.{Machine, Appends}
 use Rattle.archive_core.specs.Acting.{Changed}
 use Rattle.archive_core.specs.Ends.{ChangesTo}
@@ -21,10 +21,9 @@ use Rattle.archive_core.specs.Memory.{row_ends}
 use Rattle.archive_core.specs.Parts.{Parts, parts}
 use Rattle.archive_core.specs.Stands.{Rests}
 use Rattle.archive_core.specs.declared.memory.Doubt.TheVariants as kind
-use Rattle.archive_core.proofs.After.{with_same, frame_with}
-use Rattle.archive_core.proofs.Changing.{Called, call_done, call_failed, call_spent, call_tidy, not_called}
+use Rattle.archive_core.proofs.Settled.{with_same, frame_with, rests_has}
+use Rattle.archive_core.proofs.Acting.{Called, call_done, call_failed, call_spent, call_tidy, not_called}
 use Rattle.archive_core.proofs.Flushed.{can, first_low, flush_as, flush_call, flush_called, flush_counts, flush_unclear, makes_flush}
-use Rattle.archive_core.proofs.Settled.{rests_has}
 use Rattle.archive_core.proofs.archive.Archive.flush_settled.Goals.{After-flush_lent-flushed}
 use Rattle.archive_core.proofs.archive.Archive.flush_settled.Goals as goal
 

@@ -1,5 +1,5 @@
 use Rattle.std.proofs.Common.{◌∙◌}
-use Rattle.tier_store.proofs.CopyPass.{at_left, at_none}
+use Rattle.tier_store.proofs.CopyParts.{at_left, at_none}
 use Rattle.archive_core.specs.Parts.{parts}
 use Rattle.archive_core.proofs.CopyTaken.{copying_there}
 use Rattle.archive_core.proofs.Publishing.{copied_there}

@@ -4,7 +4,7 @@ use Rattle.act_model.specs.declared.acts.Act.TheVariants.{Names}
 use Rattle.act_model.specs.declared.acts.Answer.TheVariants.{Memory}
 use Rattle.archive_core.specs.Parts.{parts}
 use Rattle.archive_core.proofs.Acting.{acted_alone}
-use Rattle.archive_core.proofs.ReadingAlone.{reads_none}
+use Rattle.archive_core.proofs.Opened.{reads_none}
 use Rattle.archive_core.proofs.KeptRows.{names_step}
 use Rattle.archive_core.proofs.archive.Archive.names.Goals as goal
 

@@ -7,9 +7,9 @@ use Rattle.act_model.specs.declared.acts.Act.TheVariants.{Offer}
 use Rattle.archive_core.specs.Memory.{AreRowsOf}
 use Rattle.archive_core.specs.Parts.{parts}
 use Rattle.archive_core.proofs.Acting.{acted_alone, answered_as}
-use Rattle.archive_core.proofs.ReadingAlone.{reads_none}
+use Rattle.archive_core.proofs.Opened.{reads_none}
 use Rattle.archive_core.proofs.KeptRows.{find_is, memory_there}
-use Rattle.archive_core.proofs.Offering.{offer_unknown}
+use Rattle.archive_core.proofs.Standing.{offer_unknown}
 use Rattle.archive_core.proofs.archive.Archive.offer.Goals as goal
 
 pub offer_to-requires-clause-there : goal.offer_to-requires-clause-there

@@ -3,18 +3,16 @@ use Rattle.tier_store.specs.Moving.{KeepsBeside}
 use Rattle.tier_store.specs.Pinned.{beside}
 use Rattle.tier_store.specs.Seen.{seen}
 use Rattle.tier_store.specs.declared.limbo.Retired.{Retired}
-use Rattle.tier_store.proofs.Acting.{reads_settle}
+use Rattle.tier_store.proofs.OnePlace.{reads_settle}
 use Rattle.act_model.specs.Step.{refuse_by, change_by}
 use Rattle.act_model.specs.declared.acts.Act.TheVariants.{OpenPiece}
 use Rattle.archive_core.specs.Leaving.{ReadsAlone}
 use Rattle.archive_core.specs.Parts.{parts}
 use Rattle.archive_core.proofs.Acting.{crash_settling}
-use Rattle.archive_core.proofs.After.{KeepsLimbo}
-use Rattle.archive_core.proofs.Opens.{open_ends}
-use Rattle.archive_core.proofs.PinAct.{opens_file}
-use Rattle.archive_core.proofs.ReadingAlone.{reads_beside}
-use Rattle.archive_core.proofs.Settled.{begun}
-use Rattle.archive_core.proofs.Strays.{tidy_reads}
+use Rattle.archive_core.proofs.Settled.{KeepsLimbo, begun}
+use Rattle.archive_core.proofs.Opens.{open_ends, opens_file}
+use Rattle.archive_core.proofs.Opened.{reads_beside}
+use Rattle.archive_core.proofs.Batches.{tidy_reads}
 use Rattle.archive_core.proofs.archive.Archive.open_piece.Goals.{After-open_piece}
 use Rattle.archive_core.proofs.archive.Archive.open_piece.Goals as goal
 

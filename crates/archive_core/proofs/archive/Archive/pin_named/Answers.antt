@@ -16,15 +16,15 @@ use Rattle.act_model.specs.Reply.{reply_of}
 use Rattle.act_model.specs.declared.acts.Act.TheVariants.{Pin}
 use Rattle.act_model.specs.declared.acts.Answer.TheVariants.{NoSuchVariable}
 use Rattle.archive_core.specs.Leaving.{files_of}
-use Rattle.archive_core.proofs.PinAct.{pin_ends, pins_act, pins_failed, pins_files, pins_then}
-use Rattle.archive_core.proofs.ReadingAlone.{reads_none, reads_settling, reads_then}
+use Rattle.archive_core.proofs.Opens.{pin_ends, pins_act, pins_failed, pins_files, pins_then}
+use Rattle.archive_core.proofs.Opened.{reads_none, reads_settling, reads_then}
 use Rattle.archive_core.specs.Acting.{Acted}
 use Rattle.archive_core.specs.Parts.{parts}
 use Rattle.archive_core.specs.Switching.{IsFound}
 use Rattle.archive_core.proofs.Acting.{acted, asked_then, cut, refused_first, refused_then, spent_then}
-use Rattle.archive_core.proofs.Asking.{failed_told, known, unknown}
+use Rattle.archive_core.proofs.Registered.{failed_told, known, unknown}
 use Rattle.archive_core.proofs.Settled.{rests_has}
-use Rattle.archive_core.proofs.Strays.{tidy_reads}
+use Rattle.archive_core.proofs.Batches.{tidy_reads}
 use Rattle.archive_core.proofs.archive.Archive.pin_named.Goals.{After-find, After-find-2}
 use Rattle.archive_core.proofs.archive.Archive.pin_named.Goals as goal
 

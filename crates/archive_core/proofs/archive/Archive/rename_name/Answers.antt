@@ -14,7 +14,7 @@ use Rattle.archive_core.specs.Stands.{Stands}
 use Rattle.archive_core.specs.declared.renaming.Unnamed.{Unnamed}
 use Rattle.archive_core.specs.declared.renaming.Unnamed.TheVariants.{Disk}
 use Rattle.archive_core.proofs.Acting.{cut, done_then, failed_then, refused_first, refused_then}
-use Rattle.archive_core.proofs.Renamed.{RenameEnds, can_as, refused_later, refused_now, rename_change, renamed_so, renames_act, told_in}
+use Rattle.archive_core.proofs.Registered.{RenameEnds, can_as, refused_later, refused_now, rename_change, renamed_so, renames_act, told_in}
 use Rattle.archive_core.proofs.Switched.{found_row}
 use Rattle.archive_core.proofs.archive.Archive.rename_name.Goals.{After-settle, After-rename_row}
 use Rattle.archive_core.proofs.archive.Archive.rename_name.Goals as goal

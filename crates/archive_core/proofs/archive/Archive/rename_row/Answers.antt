@@ -12,7 +12,7 @@ use Rattle.tier_store.specs.Change.{Changes, renaming}
 use Rattle.tier_store.specs.Frame.{Frame}
 use Rattle.tier_store.specs.Pinned.{beside}
 use Rattle.tier_store.specs.Seen.{seen}
-use Rattle.tier_store.proofs.LeavingFronts.{nothing_fronts}
+use Rattle.tier_store.proofs.Frames.{nothing_fronts}
 use Rattle.act_model.specs.Machine.{Renames}
 use Rattle.archive_core.specs.Acting.{Changed}
 use Rattle.archive_core.specs.Ends.{ChangesTo}
@@ -21,12 +21,10 @@ use Rattle.archive_core.specs.Memory.{cleared, renamed_memory}
 use Rattle.archive_core.specs.Parts.{Parts, parts}
 use Rattle.archive_core.specs.declared.memory.Doubt.TheVariants as kind
 use Rattle.archive_core.specs.declared.memory.RowMemory.{RowMemory}
-use Rattle.archive_core.proofs.After.{with_same, frame_with}
-use Rattle.archive_core.proofs.Changing.{call_done, call_failed, call_spent, call_tidy, called, not_called}
+use Rattle.archive_core.proofs.Settled.{with_same, frame_with, rests_has}
+use Rattle.archive_core.proofs.Acting.{call_done, call_failed, call_spent, call_tidy, called, not_called}
 use Rattle.archive_core.proofs.Lists.{read_at, read_in}
-use Rattle.archive_core.proofs.Registered.{rows_cut_short}
-use Rattle.archive_core.proofs.Renamed.{can_kept, can_low, makes_rename, old_kept, rename_clears, rename_number, rename_unrefused}
-use Rattle.archive_core.proofs.Settled.{rests_has}
+use Rattle.archive_core.proofs.Registered.{rows_cut_short, can_kept, can_low, makes_rename, old_kept, rename_clears, rename_number, rename_unrefused}
 use Rattle.archive_core.proofs.archive.Archive.rename_row.Goals.{After-rename}
 use Rattle.archive_core.proofs.archive.Archive.rename_row.Goals as goal
 

@@ -16,8 +16,7 @@ use Rattle.archive_core.specs.Parts.{Parts, parts}
 use Rattle.archive_core.specs.Stands.{Stands, Rests}
 use Rattle.archive_core.specs.declared.memory.Doubt.{Doubt}
 use Rattle.archive_core.specs.declared.memory.RowMemory.{RowMemory}
-use Rattle.archive_core.proofs.After.{with_same, frame_with}
-use Rattle.archive_core.proofs.Settled.{begun, settled_parts, settled_ends, still_doubted}
+use Rattle.archive_core.proofs.Settled.{with_same, frame_with, begun, settled_parts, settled_ends, still_doubted}
 use Rattle.archive_core.proofs.archive.Archive.settle.Goals.{After-review}
 use Rattle.archive_core.proofs.archive.Archive.settle.Goals as goal
 

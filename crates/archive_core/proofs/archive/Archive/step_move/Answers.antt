@@ -6,7 +6,7 @@ use Rattle.tier_store.specs.Opening.{answer_of}
 use Rattle.act_model.specs.Reply.{reply_of}
 use Rattle.archive_core.specs.Parts.{parts}
 use Rattle.archive_core.specs.Stepping.{TakesMove}
-use Rattle.archive_core.proofs.MoveStepping.{cut_by_fault, cut_by_memory, gone_then, moves_on, not_running}
+use Rattle.archive_core.proofs.Publishing.{cut_by_fault, cut_by_memory, gone_then, moves_on, not_running}
 use Rattle.archive_core.proofs.archive.Archive.step_move.Goals.{In-Some}
 use Rattle.archive_core.proofs.archive.Archive.step_move.Goals as goal
 

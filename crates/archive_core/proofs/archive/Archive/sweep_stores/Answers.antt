@@ -16,7 +16,7 @@ use Rattle.archive_core.specs.Sweeping.{sweep_reply}
 use Rattle.archive_core.specs.Written.{AreWritten}
 use Rattle.archive_core.proofs.Acting.{cut, spent_then}
 use Rattle.archive_core.proofs.Settled.{rests_has}
-use Rattle.archive_core.proofs.Strays.{swept_by}
+use Rattle.archive_core.proofs.Batches.{swept_by}
 use Rattle.archive_core.proofs.SweepAct.{sweep_acts, sweeps_act, swept_so}
 use Rattle.archive_core.proofs.archive.Archive.sweep_stores.Goals as goal
 

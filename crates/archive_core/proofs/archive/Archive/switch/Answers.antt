@@ -19,11 +19,10 @@ use Rattle.archive_core.specs.Parts.{Parts, parts}
 use Rattle.archive_core.specs.Switching.{switching, to_of}
 use Rattle.archive_core.specs.declared.memory.Doubt.TheVariants as kind
 use Rattle.archive_core.specs.declared.memory.RowMemory.{RowMemory}
-use Rattle.archive_core.proofs.After.{with_same, frame_with}
-use Rattle.archive_core.proofs.Changing.{call_done, call_failed, call_spent, call_tidy, called}
+use Rattle.archive_core.proofs.Settled.{with_same, frame_with, rests_has}
+use Rattle.archive_core.proofs.Acting.{call_done, call_failed, call_spent, call_tidy, called}
 use Rattle.archive_core.proofs.KeptRows.{memory_there}
 use Rattle.archive_core.proofs.Lists.{read_at}
-use Rattle.archive_core.proofs.Settled.{rests_has}
 use Rattle.archive_core.proofs.Switched.{makes_switch, switch_clears, switch_unrefused}
 use Rattle.archive_core.proofs.archive.Archive.switch.Goals.{After-switch_in}
 use Rattle.archive_core.proofs.archive.Archive.switch.Goals as goal

@@ -6,10 +6,10 @@ use Rattle.pv_catalog.specs.Catalogue.{CatalogueState}
 use Rattle.act_model.specs.declared.acts.Act.TheVariants.{Tick}
 use Rattle.archive_core.specs.Parts.{parts}
 use Rattle.archive_core.proofs.Acting.{acted_alone, answered_as}
-use Rattle.archive_core.proofs.ReadingAlone.{reads_none}
+use Rattle.archive_core.proofs.Opened.{reads_none}
 use Rattle.archive_core.proofs.KeptRows.{no_row, memory_there, row_with}
 use Rattle.archive_core.proofs.Lists.{read_at}
-use Rattle.archive_core.proofs.Offering.{tick_no_row, tick_by, held_time}
+use Rattle.archive_core.proofs.Standing.{tick_no_row, tick_by, held_time}
 use Rattle.archive_core.proofs.archive.Archive.tick.Goals as goal
 
 pub returns-in_default-clause-acted : goal.returns-in_default-clause-acted

@@ -7,8 +7,8 @@ use Rattle.archive_core.specs.Leaving.{files_of}
 use Rattle.archive_core.specs.Parts.{parts}
 use Rattle.archive_core.specs.Stands.{Stands}
 use Rattle.archive_core.proofs.Acting.{acted_alone}
-use Rattle.archive_core.proofs.ReadingAlone.{reads_none}
-use Rattle.archive_core.proofs.PinActs.{unpin_ends}
+use Rattle.archive_core.proofs.Opened.{reads_none}
+use Rattle.archive_core.proofs.Opens.{unpin_ends}
 use Rattle.archive_core.proofs.archive.Archive.unpin.Goals as goal
 
 pub returns-clause-acted : goal.returns-clause-acted

@@ -6,7 +6,7 @@ use Rattle.moves.specs.Table.{at}
 use Rattle.moves.specs.declared.table.Running.{Running}
 use Rattle.archive_core.specs.Parts.{parts}
 use Rattle.archive_core.specs.Written.{IsListable}
-use Rattle.archive_core.proofs.SweptMoves.{listable}
+use Rattle.archive_core.proofs.MoveTable.{listable}
 use Rattle.archive_core.proofs.archive.Archive.written_names.Goals as goal
 
 pub written_names-requires : goal.written_names-requires

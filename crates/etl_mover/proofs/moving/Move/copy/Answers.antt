@@ -3,8 +3,7 @@ use Rattle.std.specs.Prelude.{IfSome}
 use Rattle.store_manifest.specs.declared.entry.Entry.{Entry}
 use Rattle.std.specs.Option.{option_copied}
 use Rattle.etl_mover.specs.Step.{CanRevive, CanCopy, IsPlacedOrNot}
-use Rattle.etl_mover.proofs.StepEnds.{advances_none, all_copied, no_part}
-use Rattle.etl_mover.proofs.StepWrites.{reads_none}
+use Rattle.etl_mover.proofs.Steps.{advances_none, all_copied, no_part, reads_none}
 use Rattle.etl_mover.proofs.moving.Move.copy.Goals as goal
 
 pub copy_next-requires-clause-next : goal.copy_next-requires-clause-next

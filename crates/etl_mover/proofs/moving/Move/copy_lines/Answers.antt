@@ -5,7 +5,7 @@ use Rattle.etl_mover.specs.Copying.{SetsLast}
 use Rattle.etl_mover.specs.Move.{MoveState}
 use Rattle.etl_mover.specs.Step.{IsLongUnopened, source_file, target_file}
 use Rattle.etl_mover.specs.Writing.{LeavesFile, WritesFile}
-use Rattle.etl_mover.proofs.StepWrites.{reads_none, reads_leave, reads_then_leave, reads_room, has_copied, copied_none}
+use Rattle.etl_mover.proofs.Steps.{reads_none, reads_leave, reads_then_leave, reads_room, has_copied, copied_none}
 use Rattle.etl_mover.proofs.moving.Move.copy_lines.Goals as goal
 
 pub read_part-requires-clause-there : goal.read_part-requires-clause-there

@@ -5,9 +5,7 @@ use Rattle.etl_mover.specs.declared.copying.Start.{Start}
 use Rattle.etl_mover.specs.Move.{MoveState, IsMove}
 use Rattle.etl_mover.specs.Step.{Advances, CopiesPart, source_file, target_file}
 use Rattle.etl_mover.specs.Writing.{LeavesFile}
-use Rattle.etl_mover.proofs.Advancing.{finish_keeps}
-use Rattle.etl_mover.proofs.StepEnds.{advances_covered, by_one, ends_covered, still_running}
-use Rattle.etl_mover.proofs.StepWrites.{reads_none, reads_leave}
+use Rattle.etl_mover.proofs.Steps.{finish_keeps, advances_covered, by_one, ends_covered, still_running, reads_none, reads_leave}
 use Rattle.etl_mover.proofs.moving.Move.copy_next.Goals as goal
 
 pub copy_part-requires-clause-there : goal.copy_part-requires-clause-there

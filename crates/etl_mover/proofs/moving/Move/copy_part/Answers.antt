@@ -1,7 +1,7 @@
 use Rattle.std.proofs.Common.{sym, subst, arith}
 use Rattle.etl_mover.specs.Move.{MoveState}
 use Rattle.etl_mover.specs.Step.{Advances, CopiesPart}
-use Rattle.etl_mover.proofs.StepEnds.{advances_more, advances_whole, ends_more, ends_whole, not_all, still_next}
+use Rattle.etl_mover.proofs.Steps.{advances_more, advances_whole, ends_more, ends_whole, not_all, still_next}
 use Rattle.etl_mover.proofs.moving.Move.copy_part.Goals as goal
 
 pub returns-in_err-copied-clause-leaves : goal.returns-in_err-copied-clause-leaves

@@ -1,7 +1,7 @@
 use Rattle.std.proofs.Common.{◌≡◌, List, length, slice_get, ◌-◌, sym, ◌∙◌, ap}
 use Rattle.store_manifest.specs.declared.entry.Entry.{Entry}
 use Rattle.etl_mover.specs.Move.{MoveState}
-use Rattle.etl_mover.proofs.Parts.{last_is}
+use Rattle.etl_mover.proofs.Taking.{last_is}
 use Rattle.etl_mover.proofs.moving.Move.last.Goals as goal
 
 pub returns-in-Some : goal.returns-in-Some

@@ -2,7 +2,7 @@ use Rattle.std.proofs.Common.{sym, ◌∙◌, subst, arith}
 use Rattle.partition_names.specs.Part.{IsPart}
 use Rattle.partition_names.proofs.PartLemmas.{within}
 use Rattle.etl_mover.specs.Move.{MoveState}
-use Rattle.etl_mover.proofs.Advancing.{goes_nowhere, part_is}
+use Rattle.etl_mover.proofs.Steps.{goes_nowhere, part_is}
 use Rattle.etl_mover.proofs.moving.Move.next_start.Goals as goal
 
 pub unreachable-requires : goal.unreachable-requires

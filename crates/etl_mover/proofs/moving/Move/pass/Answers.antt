@@ -1,6 +1,6 @@
 use Rattle.std.proofs.Common.{sym, ◌∙◌, subst}
 use Rattle.etl_mover.specs.Move.{IsMove}
-use Rattle.etl_mover.proofs.Advancing.{finish_keeps}
+use Rattle.etl_mover.proofs.Steps.{finish_keeps}
 use Rattle.etl_mover.proofs.moving.Move.pass.Goals as goal
 
 pub returns-in-Some-clause-running : goal.returns-in-Some-clause-running

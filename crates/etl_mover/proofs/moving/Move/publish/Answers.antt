@@ -15,8 +15,8 @@ use Rattle.durable_write.specs.Ahead.{CanRelist}
 use Rattle.durable_write.specs.Three.{Anything}
 use Rattle.etl_mover.specs.Move.{set_entry}
 use Rattle.etl_mover.specs.Lists.{Relists, Knows, published}
-use Rattle.etl_mover.proofs.Listing.{may_publish, sets_follow, nothing_listed, failed_listing, failed_knows}
-use Rattle.etl_mover.proofs.Advancing.{pending_few}
+use Rattle.etl_mover.proofs.Written.{may_publish, sets_follow, nothing_listed, failed_listing, failed_knows}
+use Rattle.etl_mover.proofs.Steps.{pending_few}
 use Rattle.etl_mover.proofs.moving.Move.publish.Goals as goal
 
 pub relist-requires-clause-follow : goal.relist-requires-clause-follow

@@ -1,0 +1,313 @@
+-- A commit that lists other files: how it ends, and a retirement, which drops parts.
+use Rattle.std.proofs.Common.{◌≡◌, ℕ, List, map, refl, sym, ◌∙◌, arith, true, false, inl, inr, ◌≤◌, [], ◌∷◌, ◌++◌, Bool, ap, subst, ◌≢◌, get_or, cond, suc}
+use Rattle.disk_model.specs.Files.{Name, Files}
+use Rattle.disk_model.specs.Past.{Past, Passes}
+use Rattle.gate_journal.specs.Journal.{JournalState}
+use Rattle.store_manifest.specs.declared.entry.Entry.{Entry}
+use Rattle.store_manifest.specs.Entries.{all_changed, place, comes_before, put, AllCanFollow, changed, Place, without}
+use Rattle.durable_write.specs.Held.{Held, entry_of, Shelf, Filed, filed_at, AreIn, shelf_of}
+use Rattle.std.specs.Prelude.{All, filter, IsTrue}
+use Rattle.std.proofs.lemmas.List.{map-append}
+use Rattle.disk_model.proofs.Passing.{passes_then, passes_none, passes_weaker}
+use Rattle.gate_journal.specs.Generations.{IsOwn, AtOwn}
+use Rattle.partition_names.specs.declared.granularity.Granularity.{Granularity}
+use Rattle.store_manifest.specs.Batches.{Configured, Folds}
+use Rattle.store_manifest.specs.Manifest.{manifest_name, ManifestState, IsKept as IsManifestKept, IsUnsure as IsManifestUnsure}
+use Rattle.durable_write.specs.Stored.{HoldsEither, IsStored, IsInDoubt, AreHeld, AreSafe, CatalogueStored}
+use Rattle.durable_write.proofs.Staying.{stored_left, not_in, catalogue_stays, own_stay, own_long, safe_stays}
+use Rattle.store_manifest.specs.declared.entry.Change.{Change}
+use Rattle.durable_write.specs.Ahead.{CanRelist, HasCopied, drop_of, without_all}
+use Rattle.std.specs.List.{AllZip}
+use Rattle.std.proofs.lemmas.List.Elements.{All-head, All-tail, All-append, All-filter, filter_passes}
+use Rattle.gate_journal.specs.Kept.{Says, SaysEither, IsKept, IsUnsure}
+use Rattle.gate_journal.proofs.FileNames.{own_apart}
+use Rattle.gate_journal.proofs.Keeping.{says_stays, kept_unopened, unsure_unopened}
+use Rattle.partition_names.specs.Part.{IsPart}
+use Rattle.durable_write.specs.declared.piece.Piece.{Piece}
+use Rattle.pv_catalog.specs.Rows.{IsCatalogue}
+use Rattle.pv_catalog.specs.Catalogue.{catalogue_name}
+use Rattle.durable_write.specs.Flush.{Grows, put_all, PlacesRise}
+use Rattle.durable_write.specs.Writing.{set_of, Behind, IsStoredAs, IsDoubtedAs}
+use Rattle.std.proofs.lemmas.Bool.{cases_lt}
+use Rattle.durable_write.specs.Three.{Anything, Beside}
+use Rattle.gate_journal.specs.Kept as journal
+use Rattle.std.proofs.lemmas.Bool.Decides.{nat_tests}
+use Rattle.durable_write.proofs.Places.{rise_filter}
+
+-- The commit that ends a flush.
+
+-- WHAT THE CHANGES LIST
+
+pub filter-map : (test : Entry → Bool) (xs : List Filed) → filter test (map entry_of xs) ≡ map entry_of (filter (λ f. test (entry_of f)) xs)
+filter-map test [] = refl
+filter-map test (x ∷ xs) = go (filter-map test xs) (test (entry_of x))
+  where
+    go : filter test (map entry_of xs) ≡ map entry_of (filter (λ f. test (entry_of f)) xs) → (b : Bool) → cond b (entry_of x ∷ filter test (map entry_of xs)) (filter test (map entry_of xs)) ≡ map entry_of (cond b (x ∷ filter (λ f. test (entry_of f)) xs) (filter (λ f. test (entry_of f)) xs))
+    go more true = ap (λ (l : List Entry). entry_of x ∷ l) more
+    go more false = more
+
+pub map-put : (x : Filed) (xs : List Filed) → map entry_of (put filed_at x xs) ≡ put place (entry_of x) (map entry_of xs)
+map-put x xs =
+    map-append entry_of (filter (λ y. comes_before (filed_at y) (filed_at x)) xs) (x ∷ filter (λ y. comes_before (filed_at x) (filed_at y)) xs)
+    ∙ ap (λ (l : List Entry). l ++ (entry_of x ∷ map entry_of (filter (λ y. comes_before (filed_at x) (filed_at y)) xs))) (sym (filter-map (λ e. comes_before (place e) (filed_at x)) xs))
+    ∙ ap (λ (l : List Entry). filter (λ e. comes_before (place e) (filed_at x)) (map entry_of xs) ++ (entry_of x ∷ l)) (sym (filter-map (λ e. comes_before (filed_at x) (place e)) xs))
+
+-- the entries of all files, with those of the pieces set
+pub entries_are : (g : Granularity) (held : Held) (ps : List Piece) (fs files : List Filed) → AllZip (Grows g held) ps fs → all_changed (map entry_of files) (map set_of ps) ≡ map entry_of (put_all files fs)
+entries_are g held [] [] files each = refl
+entries_are g held [] (f ∷ fs) files each = absurd each
+entries_are g held (p ∷ ps) [] files each = absurd each
+entries_are g held (p ∷ ps) (f ∷ fs) files each =
+    let first : put place p.entry (map entry_of files) ≡ map entry_of (put filed_at f files) = ap (λ (e : Entry). put place e (map entry_of files)) each.0.entry ∙ sym (map-put f files) in
+    ap (λ (es : List Entry). all_changed es (map set_of ps)) first ∙ entries_are g held ps fs (put filed_at f files) each.1
+
+-- and they may be set
+pub all_follow : (g : Granularity) (ps : List Piece) (entries : List Entry) → All (λ (p : Piece). IsPart g p.entry.part) ps → AllCanFollow g entries (map set_of ps)
+all_follow g [] entries parts = tt
+all_follow g (p ∷ ps) entries parts =
+    (All-head (λ (q : Piece). IsPart g q.entry.part) p ps parts, all_follow g ps (changed entries (set_of p)) (All-tail (λ (q : Piece). IsPart g q.entry.part) p ps parts))
+
+-- WHAT THE COMMIT LEAVES
+
+-- a commit of the manifest that is to list other files of the same rows, all of them safe
+pub record Lists (g : Granularity) (catalogue manifest : JournalState) (files later : Files) (opened after : Name → ℕ) (old new : Past) (held next : Held) : Type 0 where
+  pub stored : IsStored g catalogue manifest files opened old held
+  pub same_shelf : shelf_of next ≡ shelf_of held
+  pub same_stands : next.stands ≡ held.stands
+  pub valid : AreHeld g next
+  pub safe : AreSafe next files opened old
+  pub passes : Passes (AtOwn (manifest_name held.store) (SaysEither (Folds g) (map entry_of held.files) (map entry_of next.files) (manifest_name held.store))) old new
+  pub elsewhere : (n : Name) → (IsOwn (manifest_name held.store) n → ⊥) → later n ≡ files n
+  pub fewer : (n : Name) → after n ≤ opened n
+
+abbrev Step : Granularity → Held → Held → Files → Files → Type 0
+Step g held next = AtOwn (manifest_name held.store) (SaysEither (Folds g) (map entry_of held.files) (map entry_of next.files) (manifest_name held.store))
+
+-- the catalogue and a manifest have no file in common
+pub other_journal : (store : ℕ) (n : Name) → IsOwn catalogue_name n → IsOwn (manifest_name store) n → ⊥
+other_journal store n own too =
+    own_apart catalogue_name (manifest_name store) n (inr (0, omega arith, omega arith, λ is. let first : get_or catalogue_name.1 0 0 ≡ get_or (manifest_name store).1 0 0 = is in absurd (omega (arith, first)))) own too
+
+-- a journal named so is in no store
+pub journal_out : (store : ℕ) (name : Name) → 1 ≤ store → name.0 ≡ 0 → name.0 ≢ store
+journal_out store name numbered zero_store = not_in store name name numbered refl zero_store
+
+in_elsewhere : (g : Granularity) (held next kept : Held) (b c : Files) → 1 ≤ kept.store → Step g held next b c → AreIn kept b → AreIn kept c
+in_elsewhere g held next kept b c numbered step =
+    own_stay kept (manifest_name held.store) (SaysEither (Folds g) (map entry_of held.files) (map entry_of next.files) (manifest_name held.store)) b c (journal_out kept.store (manifest_name held.store) numbered refl) step
+
+-- within the commit and behind it
+pub lists_either : (g : Granularity) (catalogue manifest : JournalState) (files later : Files) (opened after : Name → ℕ) (first old new : Past) (held next : Held) → Lists g catalogue manifest files later opened after old new held next
+    → Passes (HoldsEither g held next) first old → Passes (HoldsEither g held next) first new
+lists_either g catalogue manifest files later opened after first old new held next commit before = passes_then (HoldsEither g held next) (Step g held next) first old new before commit.passes (λ a b c was one now two.
+    let holds = stored_left g catalogue manifest files opened old held commit.stored b now in
+    let rows : Says IsCatalogue held.rows catalogue_name c = says_stays IsCatalogue held.rows catalogue_name b c (λ n own. two.elsewhere n (other_journal held.store n own)) holds.rows in
+    elim two.here [
+      | inl lists ↦ inl (record {
+        rows = rows;
+        lists = lists;
+        filed = holds.filed;
+        files = in_elsewhere g held next held b c commit.stored.tier.valid.filed.numbered two holds.files;
+      })
+      | inr lists ↦ inr (record {
+        rows = subst (λ (s : Shelf). Says IsCatalogue s.1 catalogue_name c) (sym commit.same_shelf) rows;
+        lists = subst (λ (s : Shelf). Says (Folds g) (map entry_of next.files) (manifest_name s.0) c) (sym commit.same_shelf) lists;
+        filed = commit.valid.filed;
+        files = in_elsewhere g held next next b c commit.valid.filed.numbered two (commit.safe.left b now);
+      })
+    ])
+
+still_there : (g : Granularity) (held next kept : Held) (numbered : 1 ≤ kept.store) (files later : Files) (opened after : Name → ℕ) (old new : Past) → Passes (Step g held next) old new → ((n : Name) → (IsOwn (manifest_name held.store) n → ⊥) → later n ≡ files n) → ((n : Name) → after n ≤ opened n)
+    → AreSafe kept files opened old → AreSafe kept later after new
+still_there g held next kept numbered files later opened after old new passes elsewhere fewer safe =
+    safe_stays kept (Step g held next) files later opened after old new safe passes (λ a c step. in_elsewhere g held next kept a c numbered step) (own_long kept (manifest_name held.store) files later (journal_out kept.store (manifest_name held.store) numbered refl) elsewhere safe.long) fewer
+
+catalogue_still : (g : Granularity) (catalogue manifest : JournalState) (files later : Files) (opened after : Name → ℕ) (old new : Past) (held next : Held) → Lists g catalogue manifest files later opened after old new held next → CatalogueStored catalogue later after new held.rows
+catalogue_still g catalogue manifest files later opened after old new held next commit =
+    let other = λ (n : Name) (own : IsOwn catalogue.name n). other_journal held.store n (subst (λ (m : Name). IsOwn m n) commit.stored.rows.named own) in
+    catalogue_stays (Step g held next) catalogue files later opened after old new commit.passes (record { step = λ a c step n own. step.elsewhere n (other n own); same = λ n own. commit.elsewhere n (other n own); fewer = λ n own. commit.fewer n }) held.rows
+    commit.stored.rows
+
+pub lists_stored : (g : Granularity) (catalogue manifest listing : JournalState) (files later : Files) (opened after : Name → ℕ) (old new : Past) (held next : Held) → Lists g catalogue manifest files later opened after old new held next
+    → listing.name ≡ manifest_name held.store → listing.sound ≡ true → IsKept (Configured g) listing later after new (map entry_of next.files) → IsStored g catalogue listing later after new next
+lists_stored g catalogue manifest listing files later opened after old new held next commit is sound kept = record {
+  rows = subst (λ (s : Shelf). CatalogueStored catalogue later after new s.1) (sym commit.same_shelf) (catalogue_still g catalogue manifest files later opened after old new held next commit);
+  tier = record { named = is ∙ ap (λ (s : Shelf). manifest_name s.0) (sym commit.same_shelf); sound = sound; kept = kept; valid = commit.valid; safe = still_there g held next next commit.valid.filed.numbered files later opened after old new commit.passes commit.elsewhere commit.fewer commit.safe };
+}
+
+-- nothing was listed, and the manifest lists what it listed
+pub lists_unmade : (g : Granularity) (catalogue manifest listing : JournalState) (files later : Files) (opened after : Name → ℕ) (old new : Past) (held next : Held) → Lists g catalogue manifest files later opened after old new held next
+    → listing.name ≡ manifest_name held.store → listing.sound ≡ true → IsKept (Configured g) listing later after new (map entry_of held.files) → IsStored g catalogue listing later after new held
+lists_unmade g catalogue manifest listing files later opened after old new held next commit is sound kept = record {
+  rows = catalogue_still g catalogue manifest files later opened after old new held next commit;
+  tier = record {
+    named = is;
+    sound = sound;
+    kept = kept;
+    valid = commit.stored.tier.valid;
+    safe = still_there g held next held commit.stored.tier.valid.filed.numbered files later opened after old new commit.passes commit.elsewhere commit.fewer commit.stored.tier.safe;
+  };
+}
+
+pub lists_in_doubt : (g : Granularity) (catalogue manifest listing : JournalState) (files later : Files) (opened after : Name → ℕ) (old new : Past) (held next : Held) → Lists g catalogue manifest files later opened after old new held next
+    → listing.name ≡ manifest_name held.store → listing.sound ≡ false → IsUnsure (Configured g) listing later after new (map entry_of held.files) (map entry_of next.files) → IsInDoubt g catalogue listing later after new held next
+lists_in_doubt g catalogue manifest listing files later opened after old new held next commit is unsound unsure = record {
+  doubt = inr (record {
+    rows = catalogue_still g catalogue manifest files later opened after old new held next commit;
+    tier = record {
+      named = is;
+      unsound = unsound;
+      unsure = unsure;
+      valid = commit.stored.tier.valid;
+      valid_after = commit.valid;
+      safe = still_there g held next held commit.stored.tier.valid.filed.numbered files later opened after old new commit.passes commit.elsewhere commit.fewer commit.stored.tier.safe;
+      safe_after = still_there g held next next commit.valid.filed.numbered files later opened after old new commit.passes commit.elsewhere commit.fewer commit.safe;
+    };
+    same = commit.same_shelf;
+  });
+  stand = commit.same_stands;
+}
+
+-- One commit that lists other files.
+
+pub relists : (catalogue : JournalState) (m : ManifestState) (rows : Shelf) (files later : Files) (opened after : Name → ℕ) (old new : Past) (held next : Held) (changes : List Change) → CanRelist catalogue m rows files opened old held next changes
+    → Passes (AtOwn m.journal.name (journal.SaysEither (Folds m.granularity) m.entries (all_changed m.entries changes) m.journal.name)) old new → ((n : Name) → (IsOwn m.journal.name n → ⊥) → later n ≡ files n) → ((n : Name) → after n ≤ opened n) → Lists m.granularity catalogue m.journal files later opened after old new held next
+relists catalogue m rows files later opened after old new held next changes can passes others fewer = record {
+  stored = can.stored.stored;
+  same_shelf = can.same_shelf;
+  same_stands = can.same_stands;
+  valid = can.valid;
+  safe = can.safe;
+  passes =
+      let named = subst (λ (n : Name). Passes (AtOwn n (journal.SaysEither (Folds m.granularity) m.entries (all_changed m.entries changes) n)) old new) can.stored.stored.tier.named passes in
+      let both = subst (λ (es : List Entry). Passes (AtOwn (manifest_name held.store) (journal.SaysEither (Folds m.granularity) m.entries es (manifest_name held.store))) old new) can.lists named in
+      subst (λ (es : List Entry). Passes (AtOwn (manifest_name held.store) (journal.SaysEither (Folds m.granularity) es (map entry_of next.files) (manifest_name held.store))) old new) can.stored.entries both;
+  elsewhere = λ n other. others n (λ own. other (subst (λ (m : Name). IsOwn m n) can.stored.stored.tier.named own));
+  fewer = fewer;
+}
+
+pub relist_moment : (catalogue : JournalState) (m : ManifestState) (rows : Shelf) (files later : Files) (opened after : Name → ℕ) (old new : Past) (held next : Held) (changes : List Change) → CanRelist catalogue m rows files opened old held next changes
+    → Lists m.granularity catalogue m.journal files later opened after old new held next → Passes (HoldsEither m.granularity held next) old new
+relist_moment catalogue m rows files later opened after old new held next changes can commit =
+    lists_either m.granularity catalogue m.journal files later opened after old old new held next commit (passes_none (HoldsEither m.granularity held next) old (λ a left. inl (stored_left m.granularity catalogue m.journal files opened old held can.stored.stored a left)))
+
+pub relist_made : (catalogue : JournalState) (m made : ManifestState) (rows : Shelf) (files later : Files) (opened after : Name → ℕ) (old new : Past) (held next : Held) (changes : List Change) → CanRelist catalogue m rows files opened old held next changes
+    → Lists m.granularity catalogue m.journal files later opened after old new held next → made.granularity ≡ m.granularity → made.journal.name ≡ m.journal.name → made.journal.sound ≡ true → made.entries ≡ all_changed m.entries changes → IsManifestKept made later after new → IsStoredAs catalogue made rows later after new next
+relist_made catalogue m made rows files later opened after old new held next changes can commit same_g name sound entries kept =
+    let now : made.entries ≡ map entry_of next.files = entries ∙ can.lists in
+    let k = subst (λ (g : Granularity). journal.IsKept (Configured g) made.journal later after new made.entries) same_g kept in
+    let stored = lists_stored m.granularity catalogue m.journal made.journal files later opened after old new held next commit (name ∙ can.stored.stored.tier.named) sound (subst (journal.IsKept (Configured m.granularity) made.journal later after new) now k) in
+    record { stored = subst (λ (g : Granularity). IsStored g catalogue made.journal later after new next) (sym same_g) stored; of_rows = can.same_shelf ∙ can.stored.of_rows; entries = now }
+
+-- the commit took no effect
+pub relist_unmade : (catalogue : JournalState) (m made : ManifestState) (rows : Shelf) (files later : Files) (opened after : Name → ℕ) (old new : Past) (held next : Held) (changes : List Change) → CanRelist catalogue m rows files opened old held next changes
+    → Lists m.granularity catalogue m.journal files later opened after old new held next → made.granularity ≡ m.granularity → made.journal.name ≡ m.journal.name → made.journal.sound ≡ true → made.entries ≡ m.entries → IsManifestKept made later after new → IsStoredAs catalogue made rows later after new held
+relist_unmade catalogue m made rows files later opened after old new held next changes can commit same_g name sound entries kept =
+    let now : made.entries ≡ map entry_of held.files = entries ∙ can.stored.entries in
+    let k = subst (λ (g : Granularity). journal.IsKept (Configured g) made.journal later after new made.entries) same_g kept in
+    let stored = lists_unmade m.granularity catalogue m.journal made.journal files later opened after old new held next commit (name ∙ can.stored.stored.tier.named) sound (subst (journal.IsKept (Configured m.granularity) made.journal later after new) now k) in
+    record { stored = subst (λ (g : Granularity). IsStored g catalogue made.journal later after new held) (sym same_g) stored; of_rows = can.stored.of_rows; entries = now }
+
+pub relist_doubted : (catalogue : JournalState) (m made : ManifestState) (rows : Shelf) (files later : Files) (opened after : Name → ℕ) (old new : Past) (held next : Held) (changes : List Change) → CanRelist catalogue m rows files opened old held next changes
+    → Lists m.granularity catalogue m.journal files later opened after old new held next → made.granularity ≡ m.granularity → made.journal.name ≡ m.journal.name → made.journal.sound ≡ false → (made.entries ≡ m.entries) × (made.next ≡ all_changed m.entries changes) → IsManifestUnsure made later after new
+    → IsDoubtedAs catalogue made rows later after new held next
+relist_doubted catalogue m made rows files later opened after old new held next changes can commit same_g name unsound entries unsure =
+    let now : made.entries ≡ map entry_of held.files = entries.0 ∙ can.stored.entries in
+    let then : made.next ≡ map entry_of next.files = entries.1 ∙ can.lists in
+    let a = subst (λ (g : Granularity). journal.IsUnsure (Configured g) made.journal later after new made.entries made.next) same_g unsure in
+    let b = subst (λ (es : List Entry). journal.IsUnsure (Configured m.granularity) made.journal later after new es made.next) now a in
+    let c = subst (λ (es : List Entry). journal.IsUnsure (Configured m.granularity) made.journal later after new (map entry_of held.files) es) then b in
+    let doubt = lists_in_doubt m.granularity catalogue m.journal made.journal files later opened after old new held next commit (name ∙ can.stored.stored.tier.named) unsound c in
+    record {
+      in_doubt = subst (λ (g : Granularity). IsInDoubt g catalogue made.journal later after new held next) (sym same_g) doubt;
+      of_rows = (can.stored.of_rows, can.same_shelf ∙ can.stored.of_rows);
+      entries = (now, then);
+    }
+
+-- no name is opened further: no reader of the journal's files was opened, and none is
+pub none_further : (name : Name) (opened after : Name → ℕ) → ((n : Name) → (IsOwn name n → ⊥) → after n ≡ opened n) → ((n : Name) → IsOwn name n → after n ≡ 0) → (n : Name) → after n ≤ opened n
+none_further name opened after others own n = elim (cases_lt (opened n) (after n)) [
+  | inl more ↦
+      let not_own : IsOwn name n → ⊥ = λ is. let none = own n is in omega (arith, none, more) in
+      let same = others n not_own in absurd (omega (arith, same, more))
+  | inr le ↦ le
+]
+
+-- whatever a commit of the manifest answers
+pub made_further : (made : ManifestState) (name : Name) (files : Files) (opened after : Name → ℕ) (past : Past) → made.journal.name ≡ name → ((n : Name) → (IsOwn name n → ⊥) → after n ≡ opened n) → IsManifestKept made files after past → (n : Name) → after n ≤ opened n
+made_further made name files opened after past is others kept =
+    none_further name opened after others (λ n own. kept_unopened (Configured made.granularity) made.journal files after past made.entries kept n (subst (λ (m : Name). IsOwn m n) (sym is) own))
+
+pub unsure_further : (made : ManifestState) (name : Name) (files : Files) (opened after : Name → ℕ) (past : Past) → made.journal.name ≡ name → ((n : Name) → (IsOwn name n → ⊥) → after n ≡ opened n) → IsManifestUnsure made files after past → (n : Name) → after n ≤ opened n
+unsure_further made name files opened after past is others unsure =
+    none_further name opened after others (λ n own. unsure_unopened (Configured made.granularity) made.journal files after past made.entries made.next unsure n (subst (λ (m : Name). IsOwn m n) (sym is) own))
+
+-- THE FLUSH
+
+pub then_either : (g : Granularity) (one other : Held) (old mid new : Past) → Passes (HoldsEither g one other) old mid → Passes (HoldsEither g one other) mid new → Passes (HoldsEither g one other) old new
+then_either g one other old mid new first second = passes_then (HoldsEither g one other) (HoldsEither g one other) old mid new first second (λ a b c was step left now. now)
+
+-- WHAT STANDS BESIDE IT
+
+pub beside_none : (store : ℕ) (name : Name) (past : Past) → Passes (Beside store name) past past
+beside_none store name past = passes_none (Beside store name) past (λ a was n other apart. refl)
+
+-- the files of one store are written
+pub beside_files : (store : ℕ) (name : Name) (held : Held) (old new : Past) → held.store ≡ store → Passes (Behind held) old new → Passes (Beside store name) old new
+beside_files store name held old new is passes = passes_weaker (Behind held) (Beside store name) old new passes (λ a c was step n other apart. step.elsewhere n (λ same. other (same ∙ is)))
+
+-- and then its manifest is
+pub beside_commit : (store : ℕ) (name : Name) (old mid new : Past) → Passes (Beside store name) old mid → Passes (AtOwn name Anything) mid new → Passes (Beside store name) old new
+beside_commit store name old mid new first second = passes_then (Beside store name) (AtOwn name Anything) old mid new first second (λ a b c was one now two n other apart. two.elsewhere n apart ∙ one n other apart)
+
+-- A retirement: the parts are dropped, and the rest is as safe as it was.
+
+map-without : (p : Place) (xs : List Filed) → map entry_of (without filed_at p xs) ≡ without place p (map entry_of xs)
+map-without p xs =
+    map-append entry_of (filter (λ y. comes_before (filed_at y) p) xs) (filter (λ y. comes_before p (filed_at y)) xs)
+    ∙ ap (λ (l : List Entry). l ++ map entry_of (filter (λ y. comes_before p (filed_at y)) xs)) (sym (filter-map (λ e. comes_before (place e) p) xs))
+    ∙ ap (λ (l : List Entry). filter (λ e. comes_before (place e) p) (map entry_of xs) ++ l) (sym (filter-map (λ e. comes_before p (place e)) xs))
+
+-- the entries of all files, with the parts dropped
+pub entries_without : (parts files : List Filed) → all_changed (map entry_of files) (map drop_of parts) ≡ map entry_of (without_all files parts)
+entries_without [] files = refl
+entries_without (f ∷ fs) files = ap (λ (es : List Entry). all_changed es (map drop_of fs)) (sym (map-without (filed_at f) files)) ∙ entries_without fs (without filed_at (filed_at f) files)
+
+pub all_without_all : (P : Filed → Type 0) (files parts : List Filed) → All P files → All P (without_all files parts)
+all_without_all P files [] all = all
+all_without_all P files (f ∷ fs) all = all_without_all P (without filed_at (filed_at f) files) fs
+    (All-append P (filter (λ y. comes_before (filed_at y) (filed_at f)) files) (filter (λ y. comes_before (filed_at f) (filed_at y)) files)
+    (All-filter (λ y. comes_before (filed_at y) (filed_at f)) P files all) (All-filter (λ y. comes_before (filed_at f) (filed_at y)) P files all))
+
+rise_both : (fs gs : List Filed) → PlacesRise fs → PlacesRise gs → All (λ (f : Filed). All (λ (h : Filed). IsTrue (comes_before (filed_at f) (filed_at h))) gs) fs → PlacesRise (fs ++ gs)
+rise_both [] gs front back before = back
+rise_both (f ∷ fs) gs front back before = (
+  All-append (λ (h : Filed). IsTrue (comes_before (filed_at f) (filed_at h))) fs gs front.0 (before 0 f (omega arith)),
+  rise_both fs gs front.1 back (λ k d lt. before (suc k) d (omega (arith, lt))),
+)
+
+rise_without : (p : Place) (xs : List Filed) → PlacesRise xs → PlacesRise (without filed_at p xs)
+rise_without p xs rise =
+    let front : Filed → Bool = λ y. comes_before (filed_at y) p in
+    let back : Filed → Bool = λ y. comes_before p (filed_at y) in
+    rise_both (filter front xs) (filter back xs) (rise_filter front xs rise) (rise_filter back xs rise)
+    (λ k d lt j e low.
+    let a = filter_passes front xs k d lt in
+    let b = filter_passes back xs j e low in
+    grind (arith, nat_tests, a, b))
+
+pub rise_without_all : (files parts : List Filed) → PlacesRise files → PlacesRise (without_all files parts)
+rise_without_all files [] rise = rise
+rise_without_all files (f ∷ fs) rise = rise_without_all (without filed_at (filed_at f) files) fs (rise_without (filed_at f) files rise)
+
+-- and what a move has copied may be listed
+pub can_publish : (catalogue : JournalState) (m : ManifestState) (rows : Shelf) (files : Files) (opened : Name → ℕ) (past : Past) (held ahead : Held) (changes : List Change) → HasCopied catalogue m rows files opened past held ahead → all_changed m.entries changes ≡ map entry_of ahead.files
+    → CanRelist catalogue m rows files opened past held ahead changes
+can_publish catalogue m rows files opened past held ahead changes has lists = record {
+  stored = has.stored;
+  same_shelf = has.leads.same_shelf;
+  same_stands = has.leads.same_stands;
+  valid = has.safe.valid;
+  safe = has.safe.safe;
+  lists = lists;
+}
