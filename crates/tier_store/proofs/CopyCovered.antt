@@ -12,7 +12,7 @@ use Rattle.series_model.specs.declared.sample.Sample.{Sample}
 use Rattle.series_model.proofs.RisingLists.{since-append}
 use Rattle.store_manifest.specs.declared.entry.Entry.{Entry}
 use Rattle.durable_write.specs.Held.{Filed, IsFiled, samples_of, entry_of}
-use Rattle.durable_write.proofs.Steps.{of_files as of_parts}
+use Rattle.durable_write.proofs.Planning.{of_files as of_parts}
 use Rattle.tier_store.specs.Stores.{Stores, list_at, tier}
 use Rattle.tier_store.specs.Copying.{CopiesBeside, CopiesFurther, PassesParts, left_of, HasLater, IsNextPart, samples_ahead, HasCopiedAll, IsAllLater, PassesRest, with_heads, CopiesNext, IsLeft, MovesOn, SaysCopied, SaysPart}
 use Rattle.tier_store.specs.Pinned.{SeenAll}
@@ -28,19 +28,18 @@ use Rattle.store_manifest.specs.Manifest.{ManifestState}
 use Rattle.durable_write.specs.Flush.{PlacesRise, put_all}
 use Rattle.durable_write.specs.Stored.{AreHeld}
 use Rattle.durable_write.specs.Plan.{of_row}
-use Rattle.durable_write.proofs.Three.{same_cases}
+use Rattle.durable_write.proofs.Staying.{same_cases}
 use Rattle.tier_store.specs.Change.{Has}
 use Rattle.tier_store.specs.Copied.{end_after}
 use Rattle.tier_store.specs.Limbo.{LimboStands}
 use Rattle.tier_store.specs.Revival.{AreWhole}
-use Rattle.tier_store.proofs.CopyFiles.{IsOfRowIn, first_files, later_all, later_left, rise_rest, rise_row, since_earlier, splits_here, weaker}
-use Rattle.tier_store.proofs.CopyTurn.{B, Turn, turn}
+use Rattle.tier_store.proofs.CopyLeft.{IsOfRowIn, first_files, later_all, later_left, rise_rest, rise_row, since_earlier, splits_here, weaker}
+use Rattle.tier_store.proofs.CopySteps.{B, Turn, turn, moves_none}
 use Rattle.tier_store.proofs.CopyParts.{enough, entry_here, filed_here, further, in_list, next_file, next_found, next_part, q_filed, q_series, runs_by, some_at, source}
-use Rattle.tier_store.proofs.Dropped.{from_filter}
+use Rattle.tier_store.proofs.Showing.{from_filter}
 use Rattle.tier_store.specs.Finding.{BeginsAt}
-use Rattle.durable_write.proofs.Ending.{filter-map}
+use Rattle.durable_write.proofs.Commits.{filter-map}
 use Rattle.tier_store.specs.declared.copying.CopyEnd.{CopyEnd}
-use Rattle.tier_store.proofs.CopySteps.{moves_none}
 use Rattle.tier_store.specs.declared.copying.CopyEnd.TheVariants as ends
 
 -- GOING BACK

@@ -9,14 +9,15 @@ use Rattle.disk_model.specs.Past.{Past, MayLeave}
 use Rattle.etl_mover.specs.Copying.{anew, behind, last_of, starts, SetsLast}
 use Rattle.etl_mover.specs.Move.{MoveState, FewPending, IsMove}
 use Rattle.etl_mover.specs.Step.{Advances, CanCopy, CanRevive, CopiesPart, GoesTo, IsPlacedOrNot, source_file, target_file}
-use Rattle.etl_mover.proofs.Advancing.{advances_keep, IsOfPart}
+use Rattle.etl_mover.proofs.Steps.{advances_keep, IsOfPart, targets, last_of-push}
 use Rattle.partition_names.specs.declared.granularity.Granularity.{Granularity}
 use Rattle.partition_names.specs.declared.part.Part.{Part}
 use Rattle.partition_names.specs.Part.{HoldsMoment, IsPart}
 use Rattle.store_manifest.specs.declared.entry.Entry.{Entry}
 use Rattle.tier_store.specs.Reviving.{GoesBehind, IsRevived, pending_with, reviving, IsNotRevived}
 use Rattle.tier_store.specs.declared.limbo.Retired.{Retired}
-use Rattle.tier_store.proofs.CopyWrites.{listed_here, of_part, Stays, Wrote, all_said, damaged_said, goes_whole, keeps_whole, kept_still, leaves_others, more_said, on_store, shown_still, stays, wrote_it}
+use Rattle.tier_store.proofs.CopyWrites.{listed_here, of_part, Stays, Wrote, goes_whole, keeps_whole, kept_still, leaves_others, on_store, shown_still, stays}
+use Rattle.tier_store.proofs.CopySays.{all_said, damaged_said, more_said, wrote_it}
 use Rattle.tier_store.proofs.CopyFiles.{Start, after_split}
 use Rattle.disk_model.specs.declared.disk.DiskErr.{DiskErr}
 use Rattle.disk_model.specs.declared.disk.DiskErr.TheVariants.{Fault, Memory}
@@ -29,7 +30,7 @@ use Rattle.store_manifest.specs.Manifest.{ManifestState}
 use Rattle.durable_write.specs.Ends.{Done, IsFailed, end_of_disk}
 use Rattle.durable_write.specs.Held.{Filed, IsListed, file_of, filed_at}
 use Rattle.durable_write.specs.Stored.{KeysDiffer}
-use Rattle.durable_write.proofs.Names.{same_place}
+use Rattle.durable_write.proofs.Staying.{same_place}
 use Rattle.tier_store.specs.Stores.{Stores, tier}
 use Rattle.tier_store.specs.Seen.{seen_on}
 use Rattle.tier_store.specs.Change.{Has}
@@ -40,15 +41,14 @@ use Rattle.tier_store.specs.Pinned.{SeenAll, beside, KeepsShown}
 use Rattle.tier_store.specs.declared.copying.CopyEnd.{CopyEnd}
 use Rattle.tier_store.proofs.CopyParts.{next_part, runs_by, q_head, source_there}
 use Rattle.tier_store.proofs.Places.{manifest_of, within_three}
-use Rattle.tier_store.proofs.Staying.{as_filed, retired_listed}
+use Rattle.tier_store.proofs.Removals.{as_filed, retired_listed}
 use Rattle.pv_catalog.proofs.Standing.{keeps_same}
 use Rattle.tier_store.specs.Revival.{AreWhole, KeepsWhole}
 use Rattle.tier_store.proofs.Revival.{read_whole}
 use Rattle.tier_store.proofs.Showing.{held_same}
-use Rattle.etl_mover.proofs.Onward.{targets, last_of-push}
 use Rattle.durable_write.specs.Flush.{with_files}
 use Rattle.durable_write.specs.Plan.{IsLastOf}
-use Rattle.tier_store.proofs.MovedFiles.{has_copied, is_ahead}
+use Rattle.tier_store.proofs.RunningMoves.{has_copied, is_ahead}
 use Rattle.partition_names.proofs.PartLemmas as parts
 use Rattle.tier_store.specs.declared.copying.CopyEnd.TheVariants as ends
 

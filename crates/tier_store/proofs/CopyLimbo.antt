@@ -22,11 +22,9 @@ use Rattle.durable_write.specs.Flush.{file_at, put_all, with_files}
 use Rattle.durable_write.specs.Held.{Filed, Held, AreFiled, IsFiled, IsIn, IsListed, entry_of, file_of, filed_at, samples_of}
 use Rattle.durable_write.specs.Plan.{IsLastOf, StartBefore, of_row}
 use Rattle.durable_write.specs.Stored.{AreHeld, AreSafe, KeysDiffer}
-use Rattle.durable_write.proofs.Ahead.{put_all_has, contains_entry}
-use Rattle.durable_write.proofs.Listed.{listed_at}
-use Rattle.durable_write.proofs.Names.{same_place}
-use Rattle.durable_write.proofs.PutFile.{put_behind, start_before}
-use Rattle.durable_write.proofs.There.{contains_map}
+use Rattle.durable_write.proofs.Written.{put_all_has, contains_entry, put_all_new, one_of_place}
+use Rattle.durable_write.proofs.Places.{listed_at, put_behind, start_before, last_view}
+use Rattle.durable_write.proofs.Staying.{same_place, contains_map}
 use Rattle.tier_store.specs.Stores.{Stores, list_at, tier}
 use Rattle.tier_store.specs.Change.{Has}
 use Rattle.tier_store.specs.Limbo.{IsOfPlace, LimboStands}
@@ -36,29 +34,26 @@ use Rattle.tier_store.specs.Revival.{AreWhole, IsAmong, IsOfLimbo, store_with, s
 use Rattle.tier_store.specs.Reviving.{AreBack, IsBehind, IsCovered, IsUncovered, SaysBehind, free_of, is_free, is_nothing, past, reviving}
 use Rattle.tier_store.specs.Seen.{granularities}
 use Rattle.tier_store.specs.declared.limbo.Retired.{Retired}
-use Rattle.tier_store.proofs.CopyFiles.{SetsFile, before_push, earlier_start, last_file, last_in, last_then, none_of_row, stands_behind, end_is, inside_until, since_earlier, weaker, within_row}
-use Rattle.tier_store.proofs.CopyWrites.{begins_within}
+use Rattle.tier_store.proofs.CopyLeft.{begins_within, inside_until, since_earlier, weaker}
+use Rattle.tier_store.proofs.CopyFiles.{SetsFile, before_push, earlier_start, last_file, last_in, last_then, none_of_row, stands_behind, end_is, within_row}
 use Rattle.tier_store.proofs.CopyGoes.{last_in_pending}
-use Rattle.tier_store.proofs.Dropped.{contains_filter, from_filter, none_at}
-use Rattle.tier_store.proofs.MovedFiles.{valid_with}
-use Rattle.tier_store.proofs.Places.{granularity_at, manifest_of, one_manifest}
+use Rattle.tier_store.proofs.Showing.{contains_filter, from_filter, none_at}
+use Rattle.tier_store.proofs.RunningMoves.{valid_with}
+use Rattle.tier_store.proofs.Places.{granularity_at, manifest_of, one_manifest, parts_apart}
 use Rattle.tier_store.proofs.Revival.{listed_by, none_is}
-use Rattle.tier_store.proofs.Staying.{as_filed, listed_place}
+use Rattle.tier_store.proofs.Removals.{as_filed, listed_place}
 use Rattle.std.specs.List.{AllByRecursion}
 use Rattle.pb_lines.proofs.FileLines.{all_rest}
 use Rattle.series_model.specs.Series.{RisesFrom, end_of, end_from, since}
 use Rattle.series_model.specs.declared.sample.Sample.{Sample}
 use Rattle.series_model.proofs.RisingLists.{end_from-append, end_from-ge, since-append}
-use Rattle.durable_write.proofs.Lasts.{last_view}
 use Rattle.tier_store.specs.Copied.{end_after}
 use Rattle.tier_store.specs.Finding.{BeginsAt}
 use Rattle.tier_store.proofs.Revived.{found_at}
 use Rattle.partition_names.proofs.PartLemmas as parts
 use Rattle.tier_store.proofs.Revived as revived_files
 use Rattle.tier_store.proofs.CopyParts.{runs_by}
-use Rattle.etl_mover.proofs.Onward.{last_of-push}
-use Rattle.tier_store.proofs.Rising.{parts_apart}
-use Rattle.durable_write.proofs.Revival.{put_all_new, one_of_place}
+use Rattle.etl_mover.proofs.Steps.{last_of-push}
 
 -- LISTS
 

@@ -12,9 +12,7 @@ use Rattle.store_manifest.specs.Batches.{Configured}
 use Rattle.store_manifest.specs.Manifest.{ManifestState, manifest_name}
 use Rattle.durable_write.specs.Held.{Held, entry_of}
 use Rattle.durable_write.specs.Stored.{AreSafe, CatalogueStored, TierStored, Holds, AreHeld, TierUnsure}
-use Rattle.durable_write.proofs.Quiet.{Quiet, Alone}
-use Rattle.durable_write.proofs.Reading.{Reads, reads_all, tier_read, unopened_same}
-use Rattle.durable_write.proofs.Three.{same_cases, set_long, get_set_same}
+use Rattle.durable_write.proofs.Staying.{Quiet, Alone, Reads, reads_all, tier_read, unopened_same, same_cases, set_long, get_set_same, not_in, says_listed, own_long, own_stay, safe_stays}
 use Rattle.tier_store.specs.Stores.{Stores, list_at, tier, with_list}
 use Rattle.tier_store.specs.Seen.{Seen, seen_on, AtEach, granularities}
 use Rattle.tier_store.specs.Stored.{IsStoredAt, PlaceUnsure, HoldsAll}
@@ -26,11 +24,9 @@ use Rattle.gate_journal.proofs.Keeping.{says_stays}
 use Rattle.gate_journal.proofs.Owning.{own_store}
 use Rattle.partition_names.specs.declared.granularity.Granularity.{Granularity}
 use Rattle.durable_write.specs.Three.{Anything, Beside}
-use Rattle.durable_write.proofs.Ending.{other_journal}
-use Rattle.durable_write.proofs.Holding.{not_in, says_listed}
-use Rattle.durable_write.proofs.Stays.{own_long, own_stay, safe_stays}
-use Rattle.tier_store.proofs.Beside.{OnStore, holds_beside, in_out, rows_beside, tier_beside}
-use Rattle.tier_store.proofs.Left.{all_hold, rows_say, tier_holds}
+use Rattle.durable_write.proofs.Commits.{other_journal}
+use Rattle.tier_store.proofs.OnePlace.{OnStore, holds_beside, in_out, rows_beside, tier_beside}
+use Rattle.tier_store.proofs.Holding.{all_hold, rows_say, tier_holds}
 use Rattle.pv_catalog.specs.Catalogue as catalogue
 use Rattle.store_manifest.specs.Manifest as manifest
 

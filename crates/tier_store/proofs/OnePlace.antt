@@ -1,26 +1,173 @@
--- A change of the list at one place where nothing stands in doubt, by what the call on that store says.
-use Rattle.std.proofs.Common.{◌≡◌, ◌≢◌, ◌⊎◌, inl, inr, true, false, Bool, ℕ, ◌≤◌, ◌<◌, ◌+◌, List, map, Some, refl, sym, ◌∙◌, ap, subst, arith}
-use Rattle.std.specs.Prelude.{IsTrue, slice_get, slice_set}
+-- A change of the list at one place where nothing stands in doubt: what stands beside it, what the call on that store says, and how a flush and a
+-- commit of other files end. And calls that change nothing.
+use Rattle.std.proofs.Common.{◌≡◌, ◌≢◌, ℕ, ◌≤◌, List, map, get_or, refl, sym, ◌∙◌, subst, arith, ◌⊎◌, inl, Bool, ap, inr, true, false, ◌<◌, ◌+◌, Some}
 use Rattle.disk_model.specs.Files.{Name, Files, Rose}
-use Rattle.disk_model.specs.Past.{Past, MayLeave, Passes}
+use Rattle.disk_model.specs.Past.{Past, Passes, MayLeave}
+use Rattle.gate_journal.specs.Generations.{IsOwn, AtOwn}
+use Rattle.gate_journal.specs.Journal.{JournalState}
+use Rattle.gate_journal.proofs.Keeping.{says_stays}
+use Rattle.partition_names.specs.declared.granularity.Granularity.{Granularity}
+use Rattle.pv_catalog.specs.declared.row.Row.{Row}
+use Rattle.pv_catalog.specs.Rows.{IsCatalogue}
+use Rattle.pv_catalog.specs.Catalogue.{catalogue_name, CatalogueState}
+use Rattle.store_files.specs.Fronts.{Begins}
+use Rattle.store_manifest.specs.Batches.{Folds}
+use Rattle.store_manifest.specs.Manifest.{manifest_name, ManifestState}
+use Rattle.durable_write.specs.Held.{Filed, Held, AreIn, bytes_of, entry_of, file_of, shelf_of, Shelf}
+use Rattle.durable_write.specs.Stored.{Holds, AreLong, AreSafe, CatalogueStored, TierStored, HoldsEither, AreHeld, TierUnsure}
+use Rattle.durable_write.specs.Three.{Beside, Anything}
+use Rattle.durable_write.proofs.Commits.{other_journal}
+use Rattle.durable_write.proofs.Staying.{Untouched, catalogue_stays, tier_stays, not_own_in, safe_stays, manifests_differ, same_cases, set_long, get_set_same}
+use Rattle.tier_store.specs.Change.{SameFiles, Has, HoldsBy, HoldsEither as StoresEither, Call, EndsFrom, OnlyReads, OnlySettles, Changes, IsKnownAt, IsKnown, Doubts, CanList}
+use Rattle.std.specs.Prelude.{IsTrue, Result, Ok, Err, slice_get, slice_set}
 use Rattle.disk_model.specs.declared.disk.DiskErr.{DiskErr}
 use Rattle.disk_model.specs.declared.disk.DiskErr.TheVariants.{Fault, Memory}
-use Rattle.partition_names.specs.declared.granularity.Granularity.{Granularity}
-use Rattle.pv_catalog.specs.Catalogue.{CatalogueState}
-use Rattle.store_manifest.specs.Manifest.{ManifestState, manifest_name}
-use Rattle.durable_write.specs.Ends.{End, Done, end_of_error}
-use Rattle.durable_write.specs.Held.{Filed, Held, entry_of}
-use Rattle.durable_write.specs.Stored.{Holds, HoldsEither, AreHeld, CatalogueStored, TierStored, TierUnsure}
-use Rattle.durable_write.specs.Three.{Beside}
-use Rattle.durable_write.proofs.Three.{same_cases, set_long, get_set_same}
+use Rattle.disk_model.proofs.Passing.{passes_weaker, passes_none}
+use Rattle.durable_write.specs.Ends.{End, end_of_disk, IsFailed, Done, end_of_error}
 use Rattle.tier_store.specs.Stores.{Stores, list_at, tier, with_list}
-use Rattle.tier_store.specs.Seen.{Seen, seen_on, AtEach, granularities}
+use Rattle.tier_store.specs.Seen.{Seen, granularities, seen_on, AtEach}
 use Rattle.tier_store.specs.Stored.{HoldsAll}
-use Rattle.tier_store.specs.Change.{IsKnownAt, IsKnown, Has, Doubts, HoldsBy, Call, Changes}
 use Rattle.tier_store.specs.Given.{ChangesGiven}
-use Rattle.tier_store.proofs.Beside.{OnStore, holds_beside, rows_beside, tier_beside}
-use Rattle.tier_store.proofs.Left.{all_hold, all_left, hold_at}
+use Rattle.tier_store.proofs.Holding.{has_left, open_left, all_hold, all_left, hold_at}
 use Rattle.tier_store.proofs.Places.{within_three, one_manifest, set_cases, same_granularities, holding, list_set, tier_set, tier_other}
+use Rattle.series_model.specs.declared.batch.RowSamples.{RowSamples}
+use Rattle.durable_write.specs.declared.piece.Piece.{Piece}
+use Rattle.store_manifest.specs.declared.entry.Entry.{Entry}
+use Rattle.durable_write.specs.Flush.{HoldsBoth}
+use Rattle.durable_write.specs.Flush as flush
+use Rattle.durable_write.specs.Writing.{IsStoredAs, IsDoubtedAs}
+use Rattle.store_manifest.specs.Entries.{all_changed}
+use Rattle.store_manifest.specs.declared.entry.Change.{Change}
+use Rattle.durable_write.specs.Ahead.{CanRelist}
+
+-- WHAT STANDS BESIDE A CHANGE OF ONE STORE
+
+-- no file of another store than this is its manifest's or one of its files
+file_beside : (store : ℕ) (a c : Files) (t : Held) (f : Filed) → 1 ≤ t.store → t.store ≢ store → Beside store (manifest_name store) a c → c (file_of (shelf_of t) f.entry) ≡ a (file_of (shelf_of t) f.entry)
+file_beside store a c t f numbered apart step =
+    step (file_of (shelf_of t) f.entry) apart (λ own. not_own_in t.store (manifest_name store) (file_of (shelf_of t) f.entry) numbered refl own refl)
+
+in_beside : (store : ℕ) (a c : Files) (t : Held) → 1 ≤ t.store → t.store ≢ store → Beside store (manifest_name store) a c → AreIn t a → AreIn t c
+in_beside store a c t numbered apart step was stands k d lt =
+    let f : Filed = get_or t.files k d in
+    subst (Begins (bytes_of f)) (sym (file_beside store a c t f numbered apart step)) (was stands k d lt)
+
+long_beside : (store : ℕ) (a c : Files) (t : Held) → 1 ≤ t.store → t.store ≢ store → Beside store (manifest_name store) a c → AreLong t a → AreLong t c
+long_beside store a c t numbered apart step long k d lt =
+    let was = long k d lt in
+    record { bytes = was.bytes; file = file_beside store a c t (get_or t.files k d) numbered apart step ∙ was.file; holds = was.holds }
+
+-- the journals are of store 0, and have no file in common
+journal_beside : (store : ℕ) (journal : Name) (a c : Files) → 1 ≤ store → journal.0 ≡ 0 → ((n : Name) → IsOwn journal n → IsOwn (manifest_name store) n → ⊥) → Beside store (manifest_name store) a c → (n : Name) → IsOwn journal n → c n ≡ a n
+journal_beside store journal a c numbered zero_store other step n own = step n (not_own_in store journal n numbered zero_store own) (other n own)
+
+-- an image holds another store still
+pub holds_beside : (store : ℕ) (g : Granularity) (a c : Files) (t : Held) → 1 ≤ store → t.store ≢ store → Beside store (manifest_name store) a c → Holds g a t → Holds g c t
+holds_beside store g a c t numbered apart step holds = record {
+  rows = says_stays IsCatalogue t.rows catalogue_name a c (journal_beside store catalogue_name a c numbered refl (other_journal store) step) holds.rows;
+  lists = says_stays (Folds g) (map entry_of t.files) (manifest_name t.store) a c (journal_beside store (manifest_name t.store) a c numbered refl (manifests_differ t.store store apart) step) holds.lists;
+  filed = holds.filed;
+  files = in_beside store a c t holds.filed.numbered apart step holds.files;
+}
+
+-- CHANGES OF STORE 0 ALONE
+
+file_out : (a c : Files) (t : Held) (f : Filed) → 1 ≤ t.store → SameFiles a c → c (file_of (shelf_of t) f.entry) ≡ a (file_of (shelf_of t) f.entry)
+file_out a c t f numbered same = same (file_of (shelf_of t) f.entry) (λ is. let zero_store : t.store ≡ 0 = is in absurd (omega (arith, numbered, zero_store)))
+
+pub in_out : (a c : Files) (t : Held) → 1 ≤ t.store → SameFiles a c → AreIn t a → AreIn t c
+in_out a c t numbered same was stands k d lt =
+    let f : Filed = get_or t.files k d in
+    subst (Begins (bytes_of f)) (sym (file_out a c t f numbered same)) (was stands k d lt)
+
+pub long_out : (a c : Files) (t : Held) → 1 ≤ t.store → SameFiles a c → AreLong t a → AreLong t c
+long_out a c t numbered same long k d lt =
+    let was = long k d lt in
+    record { bytes = was.bytes; file = file_out a c t (get_or t.files k d) numbered same ∙ was.file; holds = was.holds }
+
+-- ONE STORE
+
+-- a call on the files of one store and on its manifest
+pub record OnStore (store : ℕ) (name : Name) (files later : Files) (opened after : Name → ℕ) (old new : Past) : Type 0 where
+  pub numbered : 1 ≤ store
+  pub named : name ≡ manifest_name store
+  pub passes : Passes (Beside store name) old new
+  pub same : Beside store name files later
+  pub fewer : (n : Name) → after n ≤ opened n
+
+module _ (store : ℕ) (name : Name) (files later : Files) (opened after : Name → ℕ) (old new : Past) (call : OnStore store name files later opened after old new) where
+  by_name : (a c : Files) → Beside store name a c → Beside store (manifest_name store) a c
+  by_name a c step = subst (λ (n : Name). Beside store n a c) call.named step
+
+  untouched : (journal : JournalState) (own : Name) → journal.name ≡ own → own.0 ≡ 0 → ((n : Name) → IsOwn own n → IsOwn (manifest_name store) n → ⊥) → Untouched (Beside store name) journal files later opened after
+  untouched journal own is zero_store other =
+      let mine : (n : Name) → IsOwn journal.name n → IsOwn own n = λ n its. subst (λ (m : Name). IsOwn m n) is its in
+      record {
+        step = λ a c step n its. journal_beside store own a c call.numbered zero_store other (by_name a c step) n (mine n its);
+        same = λ n its. journal_beside store own files later call.numbered zero_store other (by_name files later call.same) n (mine n its);
+        fewer = λ n its. call.fewer n;
+      }
+
+  pub rows_beside : (c : JournalState) (rows : List Row) → CatalogueStored c files opened old rows → CatalogueStored c later after new rows
+  rows_beside c rows stored = catalogue_stays (Beside store name) c files later opened after old new call.passes (untouched c catalogue_name stored.named refl (other_journal store)) rows stored
+
+  pub safe_beside : (t : Held) → 1 ≤ t.store → t.store ≢ store → AreSafe t files opened old → AreSafe t later after new
+  safe_beside t numbered apart safe =
+      safe_stays t (Beside store name) files later opened after old new safe call.passes (λ a c step. in_beside store a c t numbered apart (by_name a c step)) (long_beside store files later t numbered apart (by_name files later call.same) safe.long) call.fewer
+
+  pub tier_beside : (g : Granularity) (m : JournalState) (t : Held) → t.store ≢ store → TierStored g m files opened old t → TierStored g m later after new t
+  tier_beside g m t apart stored =
+      let numbered = stored.valid.filed.numbered in
+      tier_stays (Beside store name) m files later opened after old new call.passes (untouched m (manifest_name t.store) stored.named refl (manifests_differ t.store store apart)) g t stored
+      (safe_beside t numbered apart stored.safe)
+
+-- CALLS THAT CHANGE NOTHING
+
+-- a call of the disk failed only where it counted a fault
+pub failed_so : {B : Type 0} (before now : ℕ) (r : Result B DiskErr) → (r ≡ Err Fault → Rose before now) → IsFailed (end_of_disk r) → Rose before now
+failed_so {B} before now (Ok a) cause none = absurd none
+failed_so {B} before now (Err Fault) cause is = cause refl
+failed_so {B} before now (Err Memory) cause none = absurd none
+
+-- a call on the disk that only read it
+pub only_reads : {B : Type 0} (tells : Bool) (old new : Seen) (r : Result B DiskErr) → (IsTrue tells → new.files ≡ old.files) → (IsTrue tells → Passes (λ a b. b ≡ a) old.past new.past) → old.faults ≤ new.faults → (r ≡ Err Fault → Rose old.faults new.faults) → OnlyReads tells old new (end_of_disk r)
+only_reads {B} tells old new r files passes more cause = record { files = files; any_moment = passes; faults = more; cause = failed_so old.faults new.faults r cause }
+
+-- nothing was read
+pub nothing_read : {A E : Type 0} (tells : Bool) (s : Seen) (end : End A E) → (IsFailed end → ⊥) → OnlyReads tells s s end
+nothing_read {A} {E} tells s end not_failed = record {
+  files = λ told. refl;
+  any_moment = λ told. passes_none (λ (a b : Files). b ≡ a) s.past (λ image left. refl);
+  faults = omega arith;
+  cause = λ failed. absurd (not_failed failed);
+}
+
+-- what is said of all stores is said of those of which this is true
+pub changes_given : {A E : Type 0} (Is : Stores → Type 0) (tells : Bool) (call : Call A E) (old new : Seen) (end : End A E) → Changes tells call old new end → ChangesGiven Is tells call old new end
+changes_given {A} {E} Is tells call old new end change = record { ends = λ held has given. change.ends held has; any_moment = λ told held has given. change.any_moment told held has; costs = change.costs }
+
+-- a call that only read settles nothing, and whatever was in doubt stays
+pub reads_settle : {A E : Type 0} (tells : Bool) (old new : Seen) (end : End A E) → OnlyReads tells old new end → OnlySettles tells old new end
+reads_settle {A} {E} tells old new end reads = record {
+  files = λ told n other. ap (λ (f : Files). f n) (reads.files told);
+  frame = λ told. passes_weaker (λ a b. b ≡ a) SameFiles old.past new.past (reads.any_moment told) (λ a b left is n other. ap (λ (f : Files). f n) is);
+  any_moment = λ told before after was.
+      passes_weaker (λ a b. b ≡ a) (StoresEither (granularities old.manifests) before after) old.past new.past (reads.any_moment told)
+      (λ a b left is. subst (λ (f : Files). HoldsAll (granularities old.manifests) f before ⊎ HoldsAll (granularities old.manifests) f after) (sym is) (open_left tells old before after was told a left));
+  quiet = λ settled told. (reads.files told, reads.any_moment told);
+  faults = reads.faults;
+  cause = reads.cause;
+}
+
+-- nothing was done
+pub nothing_changes : {A E : Type 0} (tells : Bool) (call : Call A E) (s : Seen) (end : End A E) → ((held : Stores) → Has tells s held → EndsFrom tells call s held end) → (IsFailed end → ⊥) → Changes tells call s s end
+nothing_changes {A} {E} tells call s end ends not_failed = record {
+  ends = ends;
+  any_moment = λ told held has. passes_none (HoldsBy (granularities s.manifests) call.by held) s.past (λ image left. inl (has_left tells s held has told image left));
+  costs = record { granularity = refl; faults = omega arith; cause = λ failed. absurd (not_failed failed) };
+}
+
+-- A CHANGE OF THE LIST AT ONE PLACE
 
 -- what is said of stores of which anything is true is said of all
 every : {A E : Type 0} (tells : Bool) (call : Call A E) (old new : Seen) (end : End A E) → ChangesGiven (λ (s : Stores). Unit {0}) tells call old new end → Changes tells call old new end
@@ -228,3 +375,98 @@ module _ {S : Type 0} (files_of : S → Files) (opened_of : S → Name → ℕ) 
       place_cut unchanged will unmade in_doubt e end is memory cause = every tells call before behind end
           (given_cut Any call (λ held has given. next held has) (λ held has given. by held has) (λ held has given. valid held has) (λ told held has given. moment told held has)
           unchanged (λ held has given. will held has) (λ told held has given. unmade told held has) (λ told held has given. in_doubt told held has) e end is memory cause)
+
+-- A FLUSH INTO STORE 1
+
+-- a store of which the list is in doubt, out of what is said of it with the catalogue
+pub list_unsure : (catalogue : JournalState) (m : ManifestState) (shelf : Shelf) (files : Files) (opened : Name → ℕ) (past : Past) (before after : Held) → IsDoubtedAs catalogue m shelf files opened past before after → m.journal.sound ≡ false → TierUnsure m.granularity m.journal files opened past before after
+list_unsure catalogue m shelf files opened past before after doubted unsound = elim doubted.in_doubt.doubt [
+  | inl r ↦ absurd (cc (unsound, r.tier.sound))
+  | inr l ↦ l.tier
+]
+
+-- one store as it is stored with the rows
+pub stored_as : (tells : Bool) (at : Seen) (held : Stores) (i : ℕ) (m : ManifestState) → slice_get at.manifests i ≡ Some m → Has tells at held → IsTrue tells → IsStoredAs at.catalogue.journal m (i + 1, at.catalogue.rows) at.files at.opened at.past (tier i held)
+stored_as tells at held i m here has told = record {
+  stored = record { rows = (has.disk told).rows; tier = (has.disk told).each i m here };
+  of_rows = ap (λ (r : List Row). let s : Shelf = (i + 1, r) in s) (sym has.known.rows);
+  entries = (has.known.each i m here).entries;
+}
+
+-- the plan of a manifest that is the same
+pub planned : (ms : List ManifestState) (n m : ManifestState) → slice_get ms 0 ≡ Some n → slice_get ms 0 ≡ Some m → (rows : List Row) (limbo : List Entry) (batch : List RowSamples) (pieces : List Piece) (count : ℕ) → ((held : Held) → HoldsBoth n.granularity rows n.entries limbo held → flush.Flushes n.granularity held batch pieces count)
+    → (held : Held) → HoldsBoth m.granularity rows m.entries limbo held → flush.Flushes m.granularity held batch pieces count
+planned ms n m there here rows limbo batch pieces count plan =
+    subst (λ (x : ManifestState). (held : Held) → HoldsBoth x.granularity rows x.entries limbo held → flush.Flushes x.granularity held batch pieces count) (one_manifest ms 0 0 m n refl here there) plan
+
+-- what the writing of the pieces says of all that stands beside store 1
+pub on_store : (tells : Bool) (at : Seen) (held : Stores) (i : ℕ) (m : ManifestState) → slice_get at.manifests i ≡ Some m → Has tells at held → (tells_it : IsTrue tells) → (later : Files) (after : Name → ℕ) (new : Past) → Passes (Beside (i + 1) m.journal.name) at.past new → ((n : Name) → n.0 ≢ i + 1 → (IsOwn m.journal.name n → ⊥) → later n ≡ at.files n) → ((n : Name) → after n ≤ at.opened n) → OnStore (i + 1) m.journal.name at.files later at.opened after at.past new
+on_store tells at held i m here has told later after new passes same fewer = record { numbered = omega arith; named = ((has.disk told).each i m here).named; passes = passes; same = same; fewer = fewer }
+
+-- OTHER FILES AT ONE PLACE
+
+module _ {S : Type 0} (files_of : S → Files) (opened_of : S → Name → ℕ) (past_of : S → Past) (faults_of : S → ℕ) (tells : Bool) (c : CatalogueState) (ms : List ManifestState) (i : ℕ) (m made : ManifestState) (here : slice_get ms i ≡ Some m) (d after : S) (changes : List Change)
+    (can : (held : Stores) → Has tells (seen_on files_of opened_of past_of faults_of c ms d) held → (fs : List Filed) × CanList i tells (seen_on files_of opened_of past_of faults_of c ms d) changes held fs) where
+  abbrev list_before : Seen
+  list_before = seen_on files_of opened_of past_of faults_of c ms d
+
+  abbrev list_behind : Seen
+  list_behind = seen_on files_of opened_of past_of faults_of c (slice_set ms i made) after
+
+  abbrev shelf : Shelf
+  shelf = (i + 1, c.rows)
+
+  abbrev Can : JournalState → Shelf → Held → Held → Type 0
+  Can catalogue s held next = CanRelist catalogue m s (files_of d) (opened_of d) (past_of d) held next changes
+
+  abbrev pub files : (held : Stores) → Has tells list_before held → List Filed
+  files held has = (can held has).0
+
+  are : (held : Stores) (has : Has tells list_before held) → tier i (with_list i (files held has) held) ≡ holding i held (files held has)
+  are held has = tier_set i (files held has) held (within_three ms i m has.known.three here)
+
+  valid : (held : Stores) (has : Has tells list_before held) → AreHeld m.granularity (holding i held (files held has))
+  valid held has = subst (AreHeld m.granularity) (are held has) ((can held has).1.valid m here)
+
+  lists : (held : Stores) (has : Has tells list_before held) → all_changed m.entries changes ≡ map entry_of (files held has)
+  lists held has = ap (λ (es : List Entry). all_changed es changes) (has.known.each i m here).entries ∙ (can held has).1.lists
+
+  pub can_relist : (held : Stores) (has : Has tells list_before held) → IsTrue tells → Can c.journal shelf (tier i held) (holding i held (files held has))
+  can_relist held has told = record {
+    stored = stored_as tells list_before held i m here has told;
+    same_shelf = refl;
+    same_stands = refl;
+    valid = valid held has;
+    safe = subst (λ (t : Held). AreSafe t (files_of d) (opened_of d) (past_of d)) (are held has) ((can held has).1.safe told);
+    lists = lists held has;
+  }
+
+  pub beside_all : (held : Stores) → Has tells list_before held → IsTrue tells → Passes (AtOwn m.journal.name Anything) (past_of d) (past_of after) → ((n : Name) → (IsOwn m.journal.name n → ⊥) → files_of after n ≡ files_of d n) → ((n : Name) → opened_of after n ≤ opened_of d n)
+      → OnStore (i + 1) m.journal.name (files_of d) (files_of after) (opened_of d) (opened_of after) (past_of d) (past_of after)
+  beside_all held has told passes elsewhere fewer =
+      on_store tells list_before held i m here has told (files_of after) (opened_of after) (past_of after) (passes_weaker (AtOwn m.journal.name Anything) (Beside (i + 1) m.journal.name) (past_of d) (past_of after) passes (λ a x was step n other apart. step.elsewhere n apart))
+      (λ n other apart. elsewhere n apart) fewer
+
+  module _ (same_g : made.granularity ≡ m.granularity) (moment : IsTrue tells → (catalogue : JournalState) (s : Shelf) (held next : Held) → Can catalogue s held next → Passes (HoldsEither m.granularity held next) (past_of d) (past_of after))
+      (beside : IsTrue tells → OnStore (i + 1) m.journal.name (files_of d) (files_of after) (opened_of d) (opened_of after) (past_of d) (past_of after)) (faults : faults_of d ≤ faults_of after) where
+    at_moment : IsTrue tells → (held : Stores) (has : Has tells list_before held) → Passes (HoldsEither m.granularity (tier i held) (holding i held (files held has))) (past_of d) (past_of after)
+    at_moment told held has = moment told c.journal shelf (tier i held) (holding i held (files held has)) (can_relist held has told)
+
+    -- by whatever call lists these files
+    module _ (call : Call (Unit {0}) ⊥) (by : (held : Stores) (has : Has tells list_before held) → call.by held (with_list i (files held has) held)) (says : (held : Stores) (has : Has tells list_before held) → call.says tt held (with_list i (files held has) held)) where
+      pub call_done : made.entries ≡ all_changed m.entries changes → made.journal.sound ≡ true
+          → (IsTrue tells → (catalogue : JournalState) (s : Shelf) (held next : Held) → Can catalogue s held next → IsStoredAs catalogue made s (files_of after) (opened_of after) (past_of after) next)
+          → Changes tells call list_before list_behind (Done tt)
+      call_done entries sound stored =
+          place_done files_of opened_of past_of faults_of tells c ms i m made here d after same_g beside faults call files by valid at_moment tt says sound (λ held has. entries ∙ lists held has)
+          (λ told held has. (stored told c.journal shelf (tier i held) (holding i held (files held has)) (can_relist held has told)).stored.tier)
+
+      pub call_cut : made.entries ≡ m.entries → (made.journal.sound ≡ false → made.next ≡ all_changed m.entries changes)
+          → (IsTrue tells → (catalogue : JournalState) (s : Shelf) (held next : Held) → Can catalogue s held next → made.journal.sound ≡ true → IsStoredAs catalogue made s (files_of after) (opened_of after) (past_of after) held)
+          → (IsTrue tells → (catalogue : JournalState) (s : Shelf) (held next : Held) → Can catalogue s held next → made.journal.sound ≡ false → IsDoubtedAs catalogue made s (files_of after) (opened_of after) (past_of after) held next)
+          → (e : DiskErr) (end : End (Unit {0}) ⊥) → end ≡ end_of_error e → (e ≡ Memory → made.journal.sound ≡ true) → (e ≡ Fault → Rose (faults_of d) (faults_of after)) → Changes tells call list_before list_behind end
+      call_cut unchanged next unmade in_doubt e end is memory cause =
+          place_cut files_of opened_of past_of faults_of tells c ms i m made here d after same_g beside faults call files by valid at_moment unchanged (λ held has unsound. next unsound ∙ lists held has)
+          (λ told held has sound. (unmade told c.journal shelf (tier i held) (holding i held (files held has)) (can_relist held has told) sound).stored.tier)
+          (λ told held has unsound. list_unsure c.journal made shelf (files_of after) (opened_of after) (past_of after) (tier i held) (holding i held (files held has)) (in_doubt told c.journal shelf (tier i held) (holding i held (files held has)) (can_relist held has told) unsound) unsound)
+          e end is memory cause

@@ -17,8 +17,7 @@ use Rattle.durable_write.specs.Plan.{of_row}
 use Rattle.tier_store.specs.Change.{IsKnown, IsKnownAt, Has, IsListedIn}
 use Rattle.tier_store.specs.Pinning.{files_in, files_of_line, placed, placed_at, AreEnough, Placed, entries_of, files_to, has_bytes, listed_in, listed_of, listed_of_line, piece_of, state_of, HasNoName, IsPinned, PinsOf, SaysPinned, found, is_pinned, none_has, unknown}
 use Rattle.tier_store.specs.Stores.{Stores, list_at, overs, samples_in, tier, whole_in}
-use Rattle.tier_store.proofs.Places.{manifest_at}
-use Rattle.tier_store.proofs.Rising.{row_rises}
+use Rattle.tier_store.proofs.Places.{manifest_at, row_rises, file_there, listed_file}
 use Rattle.std.proofs.lemmas.Grind.{flat_map-append}
 use Rattle.pb_lines.proofs.FileLines.{all-append, all_front, all_rest}
 use Rattle.series_model.specs.declared.sample.Sample.{Sample}
@@ -38,7 +37,7 @@ use Rattle.pins.specs.declared.choosing.Choice.{Choice}
 use Rattle.pins.specs.declared.choosing.Listed.{Listed}
 use Rattle.pins.specs.declared.piece.PinnedFile.{PinnedFile}
 use Rattle.store_manifest.specs.declared.entry.Entry.{Entry}
-use Rattle.durable_write.proofs.Ending.{filter-map}
+use Rattle.durable_write.proofs.Commits.{filter-map}
 use Rattle.std.specs.FinMap.{FinMap, get, get-insert, insert}
 use Rattle.std.specs.Ordering.{nat_cmp, eq_by_cmp}
 use Rattle.std.proofs.lemmas.Cmp.{nat_cmp_total}
@@ -58,7 +57,6 @@ use Rattle.tier_store.specs.Pinned.{IsShown, PinsStand, beside}
 use Rattle.tier_store.specs.declared.limbo.Retired.{Retired}
 use Rattle.tier_store.specs.Seen.{Seen}
 use Rattle.tier_store.specs.Telling.{SaysOf}
-use Rattle.tier_store.proofs.There.{file_there, listed_file}
 
 -- Pieces over one another, and which of them may stay closed
 

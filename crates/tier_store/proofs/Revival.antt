@@ -22,10 +22,9 @@ use Rattle.durable_write.specs.Held.{Filed, Held, IsFiled, IsIn, IsListed, entry
 use Rattle.durable_write.specs.Revival.{having, AreUnlisted, ListsNoShorter}
 use Rattle.durable_write.specs.Stored.{HoldsEither, AreHeld, AreSafe, AreLong}
 use Rattle.durable_write.specs.Writing.{IsStoredAs, IsDoubtedAs, set_of, LeavesListed}
-use Rattle.durable_write.proofs.Ahead.{contains_entry}
-use Rattle.durable_write.proofs.Listed.{found, listed_at, rise_filter}
-use Rattle.durable_write.proofs.Revival.{copied_beside, entries_over, flushes_over, holds_both, leads_beside, one_of_place, valid_over, listed_stays, put_all_one, limbo_stays}
-use Rattle.durable_write.proofs.There.{contains_map}
+use Rattle.durable_write.proofs.Written.{contains_entry, copied_beside, entries_over, flushes_over, holds_both, leads_beside, one_of_place, valid_over, listed_stays, put_all_one, limbo_stays}
+use Rattle.durable_write.proofs.Places.{found, listed_at, rise_filter}
+use Rattle.durable_write.proofs.Staying.{contains_map, filed_still, safe_grows, same_file, safe_stays, same_cases}
 use Rattle.tier_store.specs.Stores.{Stores, tier, with_list, list_at}
 use Rattle.tier_store.specs.Seen.{AtEach, Seen, seen_on, granularities}
 use Rattle.tier_store.specs.Change.{IsKnown, Has, IsOpen, HasEither, SameFiles, EndsFrom}
@@ -34,26 +33,19 @@ use Rattle.tier_store.specs.Limbo.{IsOfPlace, IsListedName, LimboStands, ListsPl
 use Rattle.tier_store.specs.Pinned.{IsHeldTo, SeenAll, NoneShorter}
 use Rattle.tier_store.specs.Revival.{IsOfUnlisted, AreUnlistedIn, IsAmong, AreWhole, AreInLimbo, FlushesOver, CountsOver, flushing_over, store_with, KeepsWhole, IsOfLimbo}
 use Rattle.tier_store.specs.declared.limbo.Retired.{Retired}
-use Rattle.tier_store.proofs.Beside.{OnStore, in_out, long_out}
-use Rattle.tier_store.proofs.FlushCall.{list_unsure, stored_as}
-use Rattle.tier_store.proofs.OnePlace.{given_done, given_cut}
+use Rattle.tier_store.proofs.OnePlace.{OnStore, in_out, long_out, list_unsure, stored_as, given_done, given_cut}
 use Rattle.tier_store.proofs.Places.{one_manifest, granularity_at, manifest_at, manifest_of, tier_other}
-use Rattle.tier_store.proofs.Staying.{listed_place, as_filed, retired_listed}
+use Rattle.tier_store.proofs.Removals.{listed_place, as_filed, retired_listed}
 use Rattle.disk_model.proofs.Passing.{passes_weaker}
 use Rattle.partition_names.specs.declared.granularity.Granularity.{Granularity}
 use Rattle.pv_catalog.specs.Rows.{KeepsRows}
-use Rattle.durable_write.proofs.Growing.{filed_still, safe_grows}
-use Rattle.durable_write.proofs.Names.{same_file}
-use Rattle.durable_write.proofs.Stays.{safe_stays}
-use Rattle.durable_write.proofs.Three.{same_cases}
-use Rattle.tier_store.proofs.LeavingNames.{none_further}
-use Rattle.tier_store.proofs.Showing.{GoesOn, Spares, settled_held, still_held, still_itself, ends_held, has_held}
+use Rattle.tier_store.proofs.RunningMoves.{none_further}
+use Rattle.tier_store.proofs.Showing.{GoesOn, Spares, settled_held, still_held, still_itself, ends_held, has_held, contains_filter}
 use Rattle.std.proofs.lemmas.List.{length-append}
 use Rattle.std.proofs.lemmas.Option.{same_Some}
 use Rattle.pb_lines.specs.File.{lines_of}
 use Rattle.store_files.specs.Fronts.{Keeps}
 use Rattle.tier_store.specs.Reviving.{free_of, is_free, is_nothing}
-use Rattle.tier_store.proofs.Dropped.{contains_filter}
 use Rattle.durable_write.specs.Flush as flush
 use Rattle.durable_write.specs.Revival as one_store
 

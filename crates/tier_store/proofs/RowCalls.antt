@@ -31,16 +31,13 @@ use Rattle.store_manifest.specs.Manifest.{ManifestState, manifest_name}
 use Rattle.durable_write.specs.Held.{Held, AreIn, entry_of}
 use Rattle.durable_write.specs.Ends.{End, Done, Refused, Failed, Spent, IsFailed, end_of_register, end_of_rename, end_of_switch}
 use Rattle.durable_write.specs.Stored.{Holds, KeysDiffer, AreHeld, CatalogueStored, TierStored}
-use Rattle.durable_write.proofs.Ending.{other_journal}
-use Rattle.durable_write.proofs.Frame.{tier_stays}
-use Rattle.durable_write.proofs.Growing.{filed_still, held_grows, in_grows, safe_grows}
-use Rattle.durable_write.proofs.Holding.{not_in}
-use Rattle.durable_write.proofs.RowCalls.{keeps_renamed, keys_pushed, keys_renamed, keys_switched, of_disk, has_state}
-use Rattle.durable_write.proofs.Stays.{own_stay, own_long, safe_stays}
+use Rattle.durable_write.proofs.Commits.{other_journal}
+use Rattle.durable_write.proofs.Staying.{tier_stays, filed_still, held_grows, in_grows, safe_grows, not_in, own_stay, own_long, safe_stays}
+use Rattle.durable_write.proofs.Places.{keeps_renamed, keys_pushed, keys_renamed, keys_switched, of_disk, has_state}
 use Rattle.tier_store.specs.Stores.{Stores, tier, with_rows}
 use Rattle.tier_store.specs.Seen.{Seen, seen_on, AtEach, granularities}
 use Rattle.tier_store.specs.Change.{IsKnown, Has, HoldsBy, Call, EndsFrom, Changes, registering, renaming, pausing, resuming, Registers, Renames, Switches}
-use Rattle.tier_store.proofs.Left.{all_left, has_left}
+use Rattle.tier_store.proofs.Holding.{all_left, has_left}
 
 registers : (c : List Row) (name : List ℕ) (about : About) → ((e : RegisterErr) → Refuses c name e → ⊥) → (held : Stores) → held.rows ≡ c → Registers name about held (with_rows held (c ++ registered c name about ∷ []))
 registers c name about free held same = (λ e refuses. free e (subst (λ (rs : List Row). Refuses rs name e) same refuses), ap (λ (rs : List Row). with_rows held (rs ++ registered rs name about ∷ [])) (sym same))

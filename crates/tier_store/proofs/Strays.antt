@@ -30,11 +30,8 @@ use Rattle.durable_write.specs.Ends.{Done, End, end_of_disk}
 use Rattle.durable_write.specs.Flush.{MakesFiles, PlacesRise, put_all}
 use Rattle.durable_write.specs.Held.{Filed, Held, entry_of, file_of, name_of}
 use Rattle.durable_write.specs.declared.piece.Piece.{Piece}
-use Rattle.durable_write.proofs.Ahead.{contains_entry}
-use Rattle.durable_write.proofs.Revival.{put_all_new}
-use Rattle.durable_write.proofs.There.{contains_map}
-use Rattle.durable_write.proofs.Three.{same_cases}
-use Rattle.durable_write.proofs.WrittenPiece.{nth_grows}
+use Rattle.durable_write.proofs.Written.{contains_entry, put_all_new, nth_grows}
+use Rattle.durable_write.proofs.Staying.{contains_map, same_cases}
 use Rattle.tier_store.specs.Change.{Call, Has, EndsFrom}
 use Rattle.tier_store.specs.Limbo.{IsListedName, IsNeeded, IsSwept, IsUnneeded, AreFree, AreGone, LeavesKept}
 use Rattle.tier_store.specs.Moving.{LeavesNames, RunsBeside, publishing}
@@ -49,12 +46,11 @@ use Rattle.tier_store.specs.declared.copying.CopyEnd.TheVariants as copied
 use Rattle.tier_store.specs.declared.limbo.Retired.{Retired}
 use Rattle.tier_store.specs.declared.retirement.RetireEnd.TheVariants as ends
 use Rattle.tier_store.proofs.CopyFiles.{Start}
-use Rattle.tier_store.proofs.Dropped.{from_oldest, stays_or}
-use Rattle.tier_store.proofs.Handing.{name_left, named_in, pinned_by}
+use Rattle.tier_store.proofs.Showing.{from_oldest, stays_or, has_held, known_to, low_of}
+use Rattle.tier_store.proofs.Retirements.{name_left, named_in, pinned_by}
 use Rattle.tier_store.proofs.Places.{list_set, list_other}
 use Rattle.tier_store.proofs.Revival.{listed_by}
-use Rattle.tier_store.proofs.Showing.{has_held, known_to, low_of}
-use Rattle.tier_store.proofs.Staying.{stay_cases, stay_from}
+use Rattle.tier_store.proofs.Removals.{stay_cases, stay_from}
 
 -- NAMES
 

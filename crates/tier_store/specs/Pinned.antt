@@ -8,11 +8,12 @@ use Rattle.disk_model.specs.Past.{Passes}
 use Rattle.disk_model.specs.declared.disk.Disk.{Ghosts}
 use Rattle.pins.specs.Pieces.{PinOf}
 use Rattle.pins.specs.declared.piece.PinnedFile.{PinnedFile}
+use Rattle.pv_catalog.specs.Catalogue.{CatalogueState}
 use Rattle.store_files.specs.Fronts.{Begins, Keeps}
 use Rattle.store_manifest.specs.Manifest.{ManifestState}
 use Rattle.store_manifest.specs.declared.entry.Entry.{Entry}
 use Rattle.durable_write.specs.Held.{Listing, IsListedTo, file_of}
-use Rattle.tier_store.specs.Seen.{Seen, AtEach, seen}
+use Rattle.tier_store.specs.Seen.{Seen, AtEach, seen, seen_by}
 use Rattle.tier_store.specs.declared.limbo.Retired.{Retired}
 use Rattle.tier_store.specs.declared.store.TierStore.{TierStore}
 
@@ -23,6 +24,9 @@ pub record SeenAll : Type 1 where
 
 abbrev pub beside : Seen → List Retired → SeenAll
 beside at limbo = record { stores = at; limbo = limbo }
+
+abbrev pub seen_all_by : {D R : Type 0} → Ghosts D R → CatalogueState → List ManifestState → List Retired → D → SeenAll
+seen_all_by {D} {R} disk catalogue manifests limbo d = beside (seen_by disk catalogue manifests d) limbo
 
 abbrev pub seen_all : {D R : Type 0} → Ghosts D R → TierStore D R → SeenAll
 seen_all {D} {R} disk store = beside (seen disk store) store.limbo.items

@@ -21,9 +21,21 @@ pub record Seen : Type 1 where
 abbrev pub seen_on : {D : Type 0} → (D → Files) → (D → Name → ℕ) → (D → Past) → (D → ℕ) → CatalogueState → List ManifestState → D → Seen
 seen_on {D} files opened past faults catalogue manifests d = record { catalogue = catalogue; manifests = manifests; files = files d; opened = opened d; past = past d; faults = faults d }
 
--- stores, by the members of their disk's type
+-- the same by the members of the disk's type
+abbrev pub seen_by : {D R : Type 0} → Ghosts D R → CatalogueState → List ManifestState → D → Seen
+seen_by {D} {R} disk = seen_on disk.files disk.opened disk.past disk.faults
+
+-- stores
 abbrev pub seen : {D R : Type 0} → Ghosts D R → TierStore D R → Seen
-seen {D} {R} disk store = seen_on disk.files disk.opened disk.past disk.faults store.catalogue store.manifests.items store.disk
+seen {D} {R} disk store = seen_by disk store.catalogue store.manifests.items store.disk
+
+-- all is as it was but the disk
+abbrev pub SameMemory : {D R : Type 0} → TierStore D R → TierStore D R → Type 0
+SameMemory {D} {R} old new = (new.catalogue ≡ old.catalogue) × (new.manifests ≡ old.manifests) × (new.pinned ≡ old.pinned) × (new.limbo ≡ old.limbo)
+
+-- all is as it was but the disk and the lists
+abbrev pub SameButLists : {D R : Type 0} → TierStore D R → TierStore D R → Type 0
+SameButLists {D} {R} old new = (new.catalogue ≡ old.catalogue) × (new.pinned ≡ old.pinned) × (new.limbo ≡ old.limbo)
 
 -- this is true of each place and its manifest
 abbrev pub AtEach : List ManifestState → (ℕ → ManifestState → Type 0) → Type 0

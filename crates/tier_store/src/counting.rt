@@ -9,7 +9,7 @@ ghost use Rattle.pb_lines.specs.File.{IsFile};
 ghost use Rattle.pb_lines.specs.Header.{IsHeaderLine};
 ghost use Rattle.series_model.specs.Series.{since};
 ghost use Rattle.series_model.specs.declared.sample.Sample.{Sample};
-ghost use Rattle.tier_store.specs.Counting.{CountsLines, HasLines, ReadsDisk};
+ghost use Rattle.tier_store.specs.Counting.{CountsLines, HasLines, OnlyReadsDisk};
 
 use arch_time::YearStart;
 use disk_model::{Disk, DiskErr, FileName};
@@ -41,8 +41,7 @@ pub(crate) fn read<D: Disk>(
     ensures bytes { IsTrue D.tells → (b : List ℕ) → D.files disk.old name.now ≡ Some b
         → IfOk result (λ v. v.items ≡ take len (drop at b)) }
     ensures long { IfOk result (λ v. length v.items ≤ len) }
-    ensures reads { IsTrue D.tells → ReadsDisk (D.files disk.old) (D.files disk.new)
-        (D.opened disk.old) (D.opened disk.new) (D.past disk.old) (D.past disk.new) }
+    ensures reads { OnlyReadsDisk D.Disk disk.old disk.new }
     ensures faults { D.faults disk.old ≤ D.faults disk.new }
     ensures cause { IsErrOf result DiskErr.Fault → Rose (D.faults disk.old) (D.faults disk.new) }
 {
@@ -124,8 +123,7 @@ fn count_between<D: Disk>(
     ensures count { IsTrue D.tells → (samples : List Sample)
         → HasLines (D.files disk.old) name.now from end ty year.now.year samples
         → IfOk result (λ n. n ≡ length (since (last + 1) samples)) }
-    ensures reads { IsTrue D.tells → ReadsDisk (D.files disk.old) (D.files disk.new)
-        (D.opened disk.old) (D.opened disk.new) (D.past disk.old) (D.past disk.new) }
+    ensures reads { OnlyReadsDisk D.Disk disk.old disk.new }
     ensures faults { D.faults disk.old ≤ D.faults disk.new }
     ensures cause { IsErrOf result DiskErr.Fault → Rose (D.faults disk.old) (D.faults disk.new) }
 {
@@ -163,8 +161,7 @@ pub(crate) fn count_later<D: Disk>(
         → HasFile (D.files disk.old) name.now (λ b. IsFile (take entry.now.len b) head info samples)
         → entry.now.head_len ≡ length head + 1
         → IfOk result (λ n. n ≡ length (since (last + 1) samples)) }
-    ensures reads { IsTrue D.tells → ReadsDisk (D.files disk.old) (D.files disk.new)
-        (D.opened disk.old) (D.opened disk.new) (D.past disk.old) (D.past disk.new) }
+    ensures reads { OnlyReadsDisk D.Disk disk.old disk.new }
     ensures faults { D.faults disk.old ≤ D.faults disk.new }
     ensures cause { IsErrOf result DiskErr.Fault → Rose (D.faults disk.old) (D.faults disk.new) }
 {

@@ -7,9 +7,9 @@ ghost use Rattle.durable_write.specs.Ends.{end_of_disk};
 ghost use Rattle.series_model.specs.Series.{over};
 ghost use Rattle.series_model.specs.declared.sample.Sample.{Sample};
 ghost use Rattle.tier_store.specs.Stores.{Stores, samples_in, whole_in};
-ghost use Rattle.tier_store.specs.Seen.{seen};
+ghost use Rattle.tier_store.specs.Seen.{seen, SameMemory};
 ghost use Rattle.tier_store.specs.Change.{Has, IsKnown, OnlyReads};
-ghost use Rattle.tier_store.specs.Counting.{ReadsDisk, behind};
+ghost use Rattle.tier_store.specs.Counting.{OnlyReadsDisk, behind};
 ghost use Rattle.tier_store.specs.Details.{IsDescribed, IsTally, SaysDescribed};
 ghost use Rattle.tier_store.specs.Frame.{Frame};
 ghost use Rattle.tier_store.specs.Opening.{end_of_answer};
@@ -49,12 +49,8 @@ impl<D: Disk> TierStore<D> {
         ensures listed { IfOk result (Adds tally (entries_in row self.old.manifests.items)) }
         ensures ends { IfOk result (λ t.
             behind t.last ≡ end_of_files (behind tally.last) (entries_in row self.old.manifests.items)) }
-        ensures same { (self.new.catalogue ≡ self.old.catalogue)
-            × (self.new.manifests ≡ self.old.manifests)
-            × (self.new.pinned ≡ self.old.pinned)
-            × (self.new.limbo ≡ self.old.limbo) }
-        ensures reads { IsTrue D.tells → ReadsDisk (D.files self.old.disk) (D.files self.new.disk)
-            (D.opened self.old.disk) (D.opened self.new.disk) (D.past self.old.disk) (D.past self.new.disk) }
+        ensures same { SameMemory self.old self.new }
+        ensures reads { OnlyReadsDisk D.Disk self.old.disk self.new.disk }
         ensures faults { D.faults self.old.disk ≤ D.faults self.new.disk }
         ensures cause { IsErrOf result DiskErr.Fault → Rose (D.faults self.old.disk) (D.faults self.new.disk) }
     {
@@ -79,10 +75,8 @@ impl<D: Disk> TierStore<D> {
             RiseFrom 0 entries → IfOk result (λ t. t.count ≡ listed_count entries) }
         ensures ends { IfOk result (λ t.
             behind t.last ≡ end_of_files 0 (entries_of_line row self.old.catalogue.rows self.old.manifests.items)) }
-        ensures same { (self.new.catalogue ≡ self.old.catalogue) × (self.new.manifests ≡ self.old.manifests)
-            × (self.new.pinned ≡ self.old.pinned) × (self.new.limbo ≡ self.old.limbo) }
-        ensures reads { IsTrue D.tells → ReadsDisk (D.files self.old.disk) (D.files self.new.disk)
-            (D.opened self.old.disk) (D.opened self.new.disk) (D.past self.old.disk) (D.past self.new.disk) }
+        ensures same { SameMemory self.old self.new }
+        ensures reads { OnlyReadsDisk D.Disk self.old.disk self.new.disk }
         ensures faults { D.faults self.old.disk ≤ D.faults self.new.disk }
         ensures cause { IsErrOf result DiskErr.Fault → Rose (D.faults self.old.disk) (D.faults self.new.disk) }
     {
@@ -118,10 +112,7 @@ impl<D: Disk> TierStore<D> {
             behind t.last ≡ end_of_files 0 (entries_of_line row self.old.catalogue.rows self.old.manifests.items)) }
         ensures kept { (held : Stores) → Has D.tells (seen D.Disk self.old) held
             → Has D.tells (seen D.Disk self.new) held }
-        ensures same { (self.new.catalogue ≡ self.old.catalogue)
-            × (self.new.manifests ≡ self.old.manifests)
-            × (self.new.pinned ≡ self.old.pinned)
-            × (self.new.limbo ≡ self.old.limbo) }
+        ensures same { SameMemory self.old self.new }
         ensures frame { Frame D.tells (seen_all D.Disk self.old) (seen_all D.Disk self.new) }
         ensures reads { OnlyReads D.tells (seen D.Disk self.old) (seen D.Disk self.new) (end_of_disk result) }
     {
@@ -167,12 +158,8 @@ impl<D: Disk> TierStore<D> {
 
         ensures described { (held : Stores) → Has D.tells (seen D.Disk self.old) held
             → IfOk result (IsDescribed D.tells held row tail.now) }
-        ensures same { (self.new.catalogue ≡ self.old.catalogue)
-            × (self.new.manifests ≡ self.old.manifests)
-            × (self.new.pinned ≡ self.old.pinned)
-            × (self.new.limbo ≡ self.old.limbo) }
-        ensures reads { IsTrue D.tells → ReadsDisk (D.files self.old.disk) (D.files self.new.disk)
-            (D.opened self.old.disk) (D.opened self.new.disk) (D.past self.old.disk) (D.past self.new.disk) }
+        ensures same { SameMemory self.old self.new }
+        ensures reads { OnlyReadsDisk D.Disk self.old.disk self.new.disk }
         ensures faults { D.faults self.old.disk ≤ D.faults self.new.disk }
         ensures cause { IsErrOf result DiskErr.Fault → Rose (D.faults self.old.disk) (D.faults self.new.disk) }
     {
@@ -206,12 +193,8 @@ impl<D: Disk> TierStore<D> {
             → IfOk result (λ a. SaysDescribed D.tells name.now tail.now a held) }
         ensures unknown { HasNoName self.old.catalogue.rows name.now
             → (result ≡ Ok NoSuchVariable) × (self.new ≡ self.old) }
-        ensures same { (self.new.catalogue ≡ self.old.catalogue)
-            × (self.new.manifests ≡ self.old.manifests)
-            × (self.new.pinned ≡ self.old.pinned)
-            × (self.new.limbo ≡ self.old.limbo) }
-        ensures reads { IsTrue D.tells → ReadsDisk (D.files self.old.disk) (D.files self.new.disk)
-            (D.opened self.old.disk) (D.opened self.new.disk) (D.past self.old.disk) (D.past self.new.disk) }
+        ensures same { SameMemory self.old self.new }
+        ensures reads { OnlyReadsDisk D.Disk self.old.disk self.new.disk }
         ensures faults { D.faults self.old.disk ≤ D.faults self.new.disk }
         ensures cause { IsErrOf result DiskErr.Fault → Rose (D.faults self.old.disk) (D.faults self.new.disk) }
     {
@@ -243,10 +226,7 @@ impl<D: Disk> TierStore<D> {
             → (result ≡ NoSuchVariable) × (self.new ≡ self.old) }
         ensures kept { (held : Stores) → Has D.tells (seen D.Disk self.old) held
             → Has D.tells (seen D.Disk self.new) held }
-        ensures same { (self.new.catalogue ≡ self.old.catalogue)
-            × (self.new.manifests ≡ self.old.manifests)
-            × (self.new.pinned ≡ self.old.pinned)
-            × (self.new.limbo ≡ self.old.limbo) }
+        ensures same { SameMemory self.old self.new }
         ensures frame { Frame D.tells (seen_all D.Disk self.old) (seen_all D.Disk self.new) }
         ensures reads { OnlyReads D.tells (seen D.Disk self.old) (seen D.Disk self.new) (end_of_answer result) }
     {

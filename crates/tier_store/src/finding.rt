@@ -8,7 +8,7 @@ ghost use Rattle.durable_write.specs.Ends.{end_of_disk};
 ghost use Rattle.durable_write.specs.Held.{Filed, file_of};
 ghost use Rattle.tier_store.specs.Change.{Has, IsListedIn};
 ghost use Rattle.tier_store.specs.Copying.{OnlyLooks};
-ghost use Rattle.tier_store.specs.Counting.{HasLines, ReadsDisk, behind};
+ghost use Rattle.tier_store.specs.Counting.{HasLines, OnlyReadsDisk, behind};
 ghost use Rattle.tier_store.specs.Finding.{IsFrom, IsNext, IsNoSooner, IsTold, IsUpTo, SaysFile, SkipsLines};
 ghost use Rattle.tier_store.specs.Pinned.{seen_all};
 ghost use Rattle.tier_store.specs.Seen.{seen};
@@ -106,8 +106,7 @@ fn next_between<D: Disk>(
     ensures no_sooner { IfOk result (IsNoSooner from) }
     ensures within { IfOk result (IsUpTo end) }
     ensures behind { IfOk result (IsFrom from) }
-    ensures reads { IsTrue D.tells → ReadsDisk (D.files disk.old) (D.files disk.new)
-        (D.opened disk.old) (D.opened disk.new) (D.past disk.old) (D.past disk.new) }
+    ensures reads { OnlyReadsDisk D.Disk disk.old disk.new }
     ensures faults { D.faults disk.old ≤ D.faults disk.new }
     ensures cause { IsErrOf result DiskErr.Fault → Rose (D.faults disk.old) (D.faults disk.new) }
 {
@@ -150,8 +149,7 @@ fn find_next<D: Disk>(
         → IfOk result (λ later. HasFile (D.files disk.old) name.now (λ b. SaysFile head_len (take len b) later)) }
     ensures within { IfOk result (IsUpTo len) }
     ensures behind { IfOk result (IsFrom head_len) }
-    ensures reads { IsTrue D.tells → ReadsDisk (D.files disk.old) (D.files disk.new)
-        (D.opened disk.old) (D.opened disk.new) (D.past disk.old) (D.past disk.new) }
+    ensures reads { OnlyReadsDisk D.Disk disk.old disk.new }
     ensures faults { D.faults disk.old ≤ D.faults disk.new }
     ensures cause { IsErrOf result DiskErr.Fault → Rose (D.faults disk.old) (D.faults disk.new) }
 {

@@ -2,6 +2,7 @@
 ghost use Rattle.std.specs.Prelude.{◌≡◌, ◌≤◌, ◌<◌, length, IfOk, IfErr};
 ghost use Rattle.std.specs.BTreeMap.{get};
 ghost use Rattle.std.specs.Ordering.{nat_cmp};
+ghost use Rattle.series_model.specs.Limits.{most_rows};
 ghost use Rattle.disk_model.specs.declared.disk.DiskErr.TheVariants.{Memory};
 ghost use Rattle.tier_store.specs.Beginning.{AreNested, IsBegun, SaysBegun};
 ghost use Rattle.tier_store.specs.Stores.{Stores};
@@ -38,7 +39,7 @@ fn begin_chosen(
     rule: &MoveRule,
     running: &BTreeMap<u32, u32>,
 ) -> Result<MoveBegun, AllocError>
-    requires { length rows.now ≤ 65_536 }
+    requires { length rows.now ≤ most_rows }
     ensures { IfOk result (IsBegun rule.now (get nat_cmp running.now) rows.now source.now destination.now) }
 {
     let count = rows.len() as u32;

@@ -6,7 +6,7 @@ ghost use Rattle.pins.specs.declared.table.PinErr.{PinErr as PinErrValue};
 ghost use Rattle.pins.specs.Pieces.{PinOf, asked};
 ghost use Rattle.pins.specs.declared.piece.PinnedFile.{PinnedFile as Piece};
 ghost use Rattle.tier_store.specs.Stores.{Stores};
-ghost use Rattle.tier_store.specs.Seen.{seen};
+ghost use Rattle.tier_store.specs.Seen.{seen, SameMemory};
 ghost use Rattle.tier_store.specs.Change.{IsOpen, OnlyReads};
 ghost use Rattle.tier_store.specs.Limbo.{LimboStands};
 ghost use Rattle.tier_store.specs.Moving.{KeepsBeside};
@@ -46,10 +46,7 @@ impl<D: Disk> TierStore<D> {
             (seen_all D.Disk self.old) piece (answer_of result) }
         ensures kept { (before after : Stores) → IsOpen D.tells (seen D.Disk self.old) before after
             → IsOpen D.tells (seen D.Disk self.new) before after }
-        ensures same { (self.new.catalogue ≡ self.old.catalogue)
-            × (self.new.manifests ≡ self.old.manifests)
-            × (self.new.pinned ≡ self.old.pinned)
-            × (self.new.limbo ≡ self.old.limbo) }
+        ensures same { SameMemory self.old self.new }
         ensures beside { KeepsBeside D.tells (seen_all D.Disk self.old) (seen_all D.Disk self.new) }
         ensures whole { LimboStands (seen D.Disk self.old) self.old.limbo.items
             → KeepsWhole D.tells (seen_all D.Disk self.old) (seen_all D.Disk self.new) }
@@ -95,10 +92,7 @@ impl<D: Disk> TierStore<D> {
             → IsOpened D.tells D.Reader.tells D.Reader.bytes D.Reader.faults (seen_all D.Disk self.old) piece result }
         ensures kept { (before after : Stores) → IsOpen D.tells (seen D.Disk self.old) before after
             → IsOpen D.tells (seen D.Disk self.new) before after }
-        ensures same { (self.new.catalogue ≡ self.old.catalogue)
-            × (self.new.manifests ≡ self.old.manifests)
-            × (self.new.pinned ≡ self.old.pinned)
-            × (self.new.limbo ≡ self.old.limbo) }
+        ensures same { SameMemory self.old self.new }
         ensures shown { KeepsShown D.tells (seen_all D.Disk self.old) (seen_all D.Disk self.new) }
         ensures beside { KeepsBeside D.tells (seen_all D.Disk self.old) (seen_all D.Disk self.new) }
         ensures whole { LimboStands (seen D.Disk self.old) self.old.limbo.items

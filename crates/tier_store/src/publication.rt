@@ -5,7 +5,7 @@ ghost use Rattle.etl_mover.specs.declared.moving.Stage.TheVariants.{Published};
 ghost use Rattle.durable_write.specs.Ends.{end_of_disk};
 ghost use Rattle.durable_write.specs.Held.{Filed};
 ghost use Rattle.tier_store.specs.Stores.{Stores};
-ghost use Rattle.tier_store.specs.Seen.{seen, IsSettled};
+ghost use Rattle.tier_store.specs.Seen.{seen, IsSettled, SameButLists};
 ghost use Rattle.tier_store.specs.Change.{Has};
 ghost use Rattle.tier_store.specs.Frame.{Frame};
 ghost use Rattle.tier_store.specs.Given.{ChangesGiven};
@@ -37,9 +37,7 @@ impl<D: Disk> TierStore<D> {
         ensures frame { Frame D.tells (seen_all D.Disk self.old) (seen_all D.Disk self.new) }
         ensures tidy { OnOk result (IsSettled (seen D.Disk self.new)
             × MakesNoStray D.tells (seen_all D.Disk self.old) (targets moving.old) (seen_all D.Disk self.new) []) }
-        ensures same { (self.new.catalogue ≡ self.old.catalogue)
-            × (self.new.pinned ≡ self.old.pinned)
-            × (self.new.limbo ≡ self.old.limbo) }
+        ensures same { SameButLists self.old self.new }
         ensures published { OnOk result (moving.new ≡ record moving.old { stage = Published }) }
         ensures unpublished { OnErr result (moving.new ≡ moving.old) }
     {

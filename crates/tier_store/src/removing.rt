@@ -11,7 +11,7 @@ ghost use Rattle.disk_model.specs.Past.{Passes, Only};
 ghost use Rattle.disk_model.specs.Record.{is_same};
 ghost use Rattle.std.specs.List.{list_any, AllPairs};
 ghost use Rattle.store_manifest.specs.Entries.{InOrder};
-ghost use Rattle.tier_store.specs.Counting.{ReadsDisk};
+ghost use Rattle.tier_store.specs.Counting.{OnlyReadsDisk};
 ghost use Rattle.tier_store.specs.Limbo.{IsNeeded, StayNeeded, Elsewhere, Removes, RemovesNames, AreFree, AreRemovable};
 ghost use Rattle.tier_store.specs.Limbo.{IsUseless, IsLeftOver, NamesDiffer};
 ghost use Rattle.tier_store.specs.Seen.{AtEach};
@@ -45,8 +45,7 @@ pub(crate) fn find_removable<D: Disk>(
     ensures found { IsTrue D.tells → AtEach manifests.now (λ i m. InOrder m.entries)
         → IfOk result (λ names.
         AreRemovable (IsLeftOver manifests.now pinned.now copied.now) files.now (D.files disk.old) names.items) }
-    ensures reads { IsTrue D.tells → ReadsDisk (D.files disk.old) (D.files disk.new)
-        (D.opened disk.old) (D.opened disk.new) (D.past disk.old) (D.past disk.new) }
+    ensures reads { OnlyReadsDisk D.Disk disk.old disk.new }
     ensures faults { D.faults disk.old ≤ D.faults disk.new }
     ensures cause { IsErrOf result DiskErr.Fault → Rose (D.faults disk.old) (D.faults disk.new) }
 {
@@ -81,8 +80,7 @@ fn is_left_over(
 // Whether a file has the name.
 fn is_there<D: Disk>(disk: &mut D, name: &FileName) -> Result<bool, DiskErr>
     ensures there { IsTrue D.tells → IfOk result (λ there. IsTrue there ↔ IsSome (D.files disk.old name.now)) }
-    ensures reads { IsTrue D.tells → ReadsDisk (D.files disk.old) (D.files disk.new)
-        (D.opened disk.old) (D.opened disk.new) (D.past disk.old) (D.past disk.new) }
+    ensures reads { OnlyReadsDisk D.Disk disk.old disk.new }
     ensures faults { D.faults disk.old ≤ D.faults disk.new }
     ensures cause { IsErrOf result DiskErr.Fault → Rose (D.faults disk.old) (D.faults disk.new) }
 {

@@ -4,6 +4,7 @@
 // names are removed behind it.
 ghost use Rattle.std.specs.Prelude.{◌≡◌, ◌≤◌, ◌<◌, ◌+◌, ℕ, List, All, Ok, Some, None, IfOk, OnErr, IsErr, IsErrOf};
 ghost use Rattle.std.specs.Prelude.{IsTrue, Contains, [], length, map, slice_get};
+ghost use Rattle.series_model.specs.Limits.{most_parts};
 ghost use Rattle.disk_model.specs.Files.{Name, Rose};
 ghost use Rattle.store_manifest.specs.Manifest.{ManifestState};
 ghost use Rattle.durable_write.specs.Ends.{end_of_disk};
@@ -63,7 +64,7 @@ impl<D: Disk> TierStore<D> {
         drops: &[Change],
     ) -> Result<(), DiskErr>
         requires within { place < length self.old.manifests.items }
-        requires few { length drops.now ≤ 65_536 }
+        requires few { length drops.now ≤ most_parts }
         requires has { (held : Stores) × Has D.tells (seen D.Disk self.old) held }
         requires drops { (m : ManifestState) → slice_get self.old.manifests.items place ≡ Some m
             → drops.now ≡ map drop_entry (oldest_entries row n m.entries) }
@@ -92,7 +93,7 @@ impl<D: Disk> TierStore<D> {
         leaving: &Leaving,
     ) -> Result<Vec<FileName>, DiskErr>
         requires within { place < length self.old.manifests.items }
-        requires few { length leaving.now.drops.items ≤ 65_536 }
+        requires few { length leaving.now.drops.items ≤ most_parts }
         requires has { (held : Stores) × Has D.tells (seen D.Disk self.old) held }
         requires drops { (m : ManifestState) → slice_get self.old.manifests.items place ≡ Some m
             → leaving.now.drops.items ≡ map drop_entry (oldest_entries row n m.entries) }
@@ -138,7 +139,7 @@ impl<D: Disk> TierStore<D> {
         published: &[u64],
     ) -> Result<RetireEnd, DiskErr>
         requires within { place < 2 }
-        requires few { length published.now ≤ 65_536 }
+        requires few { length published.now ≤ most_parts }
         requires has { (held : Stores) × Has D.tells (seen D.Disk self.old) held }
         requires stands { LimboStands (seen D.Disk self.old) self.old.limbo.items }
 

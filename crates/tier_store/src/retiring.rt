@@ -12,7 +12,7 @@ ghost use Rattle.store_manifest.specs.Manifest.{ManifestState};
 ghost use Rattle.store_manifest.specs.declared.entry.Entry.{Entry as EntryValue};
 ghost use Rattle.durable_write.specs.Ends.{Done, end_of_disk};
 ghost use Rattle.tier_store.specs.Stores.{Stores};
-ghost use Rattle.tier_store.specs.Seen.{seen};
+ghost use Rattle.tier_store.specs.Seen.{seen, SameMemory};
 ghost use Rattle.tier_store.specs.Change.{Has, Changes};
 ghost use Rattle.tier_store.specs.Pinned.{seen_all, KeepsShown};
 ghost use Rattle.tier_store.specs.Limbo.{LimboStands, AreRemovable, IsUseless, NamesDiffer, IsListedName, Stay};
@@ -153,10 +153,7 @@ impl<D: Disk> TierStore<D> {
             AreRemovable (IsUseless self.new.pinned []) files.now (D.files self.new.disk) names.items) }
         ensures looks { OnlyLooks D.tells (seen_all D.Disk self.old) (seen_all D.Disk self.new) (end_of_disk result) }
         ensures later { LeavesFiles D.tells (seen_all D.Disk self.old) (seen_all D.Disk self.new) }
-        ensures same { (self.new.catalogue ≡ self.old.catalogue)
-            × (self.new.manifests ≡ self.old.manifests)
-            × (self.new.pinned ≡ self.old.pinned)
-            × (self.new.limbo ≡ self.old.limbo) }
+        ensures same { SameMemory self.old self.new }
     {
         find_removable(self.alloc, &mut self.disk, &[], files, &self.pinned, &[])
     }

@@ -3,7 +3,7 @@ ghost use Rattle.std.specs.Prelude.{◌≡◌, Ok, IfOk, OnOk, OnErr, IsErr, IsT
 ghost use Rattle.disk_model.specs.Files.{Rose};
 ghost use Rattle.durable_write.specs.Ends.{Done, end_of_disk};
 ghost use Rattle.tier_store.specs.Stores.{Stores};
-ghost use Rattle.tier_store.specs.Seen.{seen, IsSettled};
+ghost use Rattle.tier_store.specs.Seen.{seen, IsSettled, SameMemory};
 ghost use Rattle.tier_store.specs.Change.{Has, Changes};
 ghost use Rattle.tier_store.specs.Copying.{OnlyLooks};
 ghost use Rattle.tier_store.specs.Moving.{LeavesLater, LeavesNames};
@@ -60,10 +60,7 @@ impl<D: Disk> TierStore<D> {
             → IfOk result (λ names. AreRemovable (IsLeftOver self.new.manifests.items self.new.pinned copied.now)
             self.new.limbo.items (D.files self.new.disk) names.items) }
         ensures looks { OnlyLooks D.tells (seen_all D.Disk self.old) (seen_all D.Disk self.new) (end_of_disk result) }
-        ensures same { (self.new.catalogue ≡ self.old.catalogue)
-            × (self.new.manifests ≡ self.old.manifests)
-            × (self.new.pinned ≡ self.old.pinned)
-            × (self.new.limbo ≡ self.old.limbo) }
+        ensures same { SameMemory self.old self.new }
     {
         let limbo = self.limbo.as_slice();
         find_removable(

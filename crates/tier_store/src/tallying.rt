@@ -1,6 +1,6 @@
 // How many samples are held of a row, by what the stores list of it. Where a later store's samples reach into an
 // earlier store's file, as while a move is half done, that file is read.
-ghost use Rattle.std.specs.Prelude.{◌≡◌, ◌≤◌, ◌<◌, ◌+◌, ◌++◌, ◌∷◌, ◌↔◌, List, [], All, Some, length, map, max, IfOk};
+ghost use Rattle.std.specs.Prelude.{◌≡◌, ◌≤◌, ◌<◌, ◌+◌, ◌++◌, ◌∷◌, List, [], All, Some, length, map, max, IfOk};
 ghost use Rattle.std.specs.Prelude.{IfSome, IsErrOf, IsTrue};
 ghost use Rattle.std.specs.List.{flat_map};
 ghost use Rattle.disk_model.specs.Files.{Rose};
@@ -9,11 +9,12 @@ ghost use Rattle.series_model.specs.Series.{since, over, IsRising};
 ghost use Rattle.series_model.specs.declared.sample.Sample.{Sample as SampleValue};
 ghost use Rattle.store_manifest.specs.declared.entry.Entry.{Entry as EntryValue};
 ghost use Rattle.durable_write.specs.Held.{Filed, entry_of};
-ghost use Rattle.tier_store.specs.Counting.{ReadsDisk, behind};
+ghost use Rattle.tier_store.specs.Counting.{OnlyReadsDisk, behind};
 ghost use Rattle.tier_store.specs.Details.{IsLong, IsTally, IsWhole};
 ghost use Rattle.tier_store.specs.Tallying.{Adds, end_of_files};
 
 use crate::counting::count_later;
+use crate::finding::is_later;
 use disk_model::{Disk, DiskErr};
 use durable_write::file_name;
 use pv_catalog::Row;
@@ -79,8 +80,7 @@ fn count_over<D: Disk>(
         → IsWhole g (store, rows.now) (D.files disk.old) f
         → IfOk result (λ n. n ≡ length (since (behind last) f.samples)) }
     ensures listed { behind last ≤ entry.now.first → IfOk result (λ n. n ≡ entry.now.count) }
-    ensures reads { IsTrue D.tells → ReadsDisk (D.files disk.old) (D.files disk.new)
-        (D.opened disk.old) (D.opened disk.new) (D.past disk.old) (D.past disk.new) }
+    ensures reads { OnlyReadsDisk D.Disk disk.old disk.new }
     ensures faults { D.faults disk.old ≤ D.faults disk.new }
     ensures cause { IsErrOf result DiskErr.Fault → Rose (D.faults disk.old) (D.faults disk.new) }
 {
@@ -116,8 +116,7 @@ fn add_file<D: Disk>(
         → IfOk result (λ t. (t.count ≡ tally.count + entry.now.count)
         × (behind t.last ≡ max (behind tally.last) (entry.now.last + 1))) }
     ensures ends { IfOk result (λ t. behind t.last ≡ max (behind tally.last) (entry.now.last + 1)) }
-    ensures reads { IsTrue D.tells → ReadsDisk (D.files disk.old) (D.files disk.new)
-        (D.opened disk.old) (D.opened disk.new) (D.past disk.old) (D.past disk.new) }
+    ensures reads { OnlyReadsDisk D.Disk disk.old disk.new }
     ensures faults { D.faults disk.old ≤ D.faults disk.new }
     ensures cause { IsErrOf result DiskErr.Fault → Rose (D.faults disk.old) (D.faults disk.new) }
 {
@@ -125,10 +124,7 @@ fn add_file<D: Disk>(
     let Some(count) = tally.count.checked_add(more) else {
         return Err(DiskErr::Memory);
     };
-    let first = match tally.first {
-        Some(first) => first,
-        None => entry.first,
-    };
+    let first = tally.first.unwrap_or(entry.first);
     Ok(Tally {
         count,
         first: Some(first),
@@ -154,8 +150,7 @@ pub(crate) fn add_files<D: Disk>(
         → IfOk result (IsTally (over samples (flat_map (λ (f : Filed). f.samples) files))) }
     ensures listed { IfOk result (Adds tally entries.now) }
     ensures ends { IfOk result (λ t. behind t.last ≡ end_of_files (behind tally.last) entries.now) }
-    ensures reads { IsTrue D.tells → ReadsDisk (D.files disk.old) (D.files disk.new)
-        (D.opened disk.old) (D.opened disk.new) (D.past disk.old) (D.past disk.new) }
+    ensures reads { OnlyReadsDisk D.Disk disk.old disk.new }
     ensures faults { D.faults disk.old ≤ D.faults disk.new }
     ensures cause { IsErrOf result DiskErr.Fault → Rose (D.faults disk.old) (D.faults disk.new) }
 {
@@ -186,23 +181,10 @@ fn with_later(all: Tally, sample: &Sample, last: Option<u64>) -> Option<Tally>
         return Some(all);
     }
     let count = all.count.checked_add(1)?;
-    let first = match all.first {
-        Some(first) => first,
-        None => sample.t,
-    };
+    let first = all.first.unwrap_or(sample.t);
     Some(Tally {
         count,
         first: Some(first),
         last: Some(sample.t),
     })
-}
-
-// Whether a moment is later than another, which may be none.
-fn is_later(before: Option<u64>, t: u64) -> bool
-    ensures { IsTrue result ↔ (behind before ≤ t) }
-{
-    match before {
-        Some(last) => last < t,
-        None => true,
-    }
 }

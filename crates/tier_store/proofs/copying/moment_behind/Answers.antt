@@ -3,7 +3,7 @@ use Rattle.store_manifest.specs.declared.entry.Entry.{Entry}
 use Rattle.etl_mover.specs.Copying.{last_of}
 use Rattle.tier_store.specs.Copied.{end_after}
 use Rattle.tier_store.specs.Reviving.{pending_with}
-use Rattle.etl_mover.proofs.Onward.{last_of-push}
+use Rattle.etl_mover.proofs.Steps.{last_of-push}
 use Rattle.tier_store.proofs.copying.moment_behind.Goals as goal
 
 pub returns : goal.returns

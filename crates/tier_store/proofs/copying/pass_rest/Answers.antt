@@ -3,8 +3,7 @@ use Rattle.std.specs.Prelude.{option_copied, slice_get}
 use Rattle.std.proofs.lemmas.Option.{slice_get_within}
 use Rattle.etl_mover.specs.Move.{MoveState}
 use Rattle.store_manifest.specs.declared.entry.Entry.{Entry}
-use Rattle.tier_store.proofs.CopyParts.{some_entry}
-use Rattle.tier_store.proofs.CopyPass.{rest_begun, rest_done, rest_long, rest_step}
+use Rattle.tier_store.proofs.CopyParts.{some_entry, rest_begun, rest_done, rest_long, rest_step}
 use Rattle.tier_store.proofs.copying.pass_rest.Goals as goal
 
 pub loop-part-init : goal.loop-part-init

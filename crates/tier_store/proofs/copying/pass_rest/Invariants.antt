@@ -1,7 +1,7 @@
 use Rattle.std.proofs.Common.{◌≡◌, ◌≤◌, ◌-◌, length}
 use Rattle.etl_mover.specs.Move.{IsMove}
 use Rattle.partition_names.specs.declared.granularity.Granularity.{Granularity}
-use Rattle.tier_store.proofs.CopyPass.{heads_to}
+use Rattle.tier_store.proofs.CopyParts.{heads_to}
 use Rattle.tier_store.proofs.copying.pass_rest.Given as goal
 
 abbrev pub invariant-loop-part : goal.invariant-loop-part

@@ -1,7 +1,7 @@
 use Rattle.std.proofs.Common.{◌≤◌, ◌-◌, ◌+◌, ℕ, List, length, ◌∙◌, ap, subst, arith}
 use Rattle.disk_model.specs.Files.{Files}
 use Rattle.tier_store.specs.Counting.{CountsLines}
-use Rattle.tier_store.proofs.CountingPieces.{IsPiece, as_counting, goes_on, at_end, none_left, then_reads}
+use Rattle.tier_store.proofs.Lines.{IsPiece, as_counting, goes_on, at_end, none_left, then_reads}
 use Rattle.tier_store.proofs.counting.count_between.Goals as goal
 use Rattle.tier_store.proofs.counting.count_between.Goals.{then-counted-eq0+else-want-rest, else-counted-eq0}
 

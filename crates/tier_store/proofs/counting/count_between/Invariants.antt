@@ -1,7 +1,7 @@
 use Rattle.std.proofs.Common.{◌≤◌, ◌-◌, ◌+◌, List, IsTrue}
 use Rattle.series_model.specs.declared.sample.Sample.{Sample}
 use Rattle.tier_store.specs.Counting.{HasLines, ReadsDisk}
-use Rattle.tier_store.proofs.CountingPieces.{IsBetween}
+use Rattle.tier_store.proofs.Lines.{IsBetween}
 use Rattle.tier_store.proofs.counting.count_between.Given as goal
 
 abbrev pub invariant-loop-at : goal.invariant-loop-at

@@ -7,7 +7,7 @@ use Rattle.disk_model.specs.Files.{Files}
 use Rattle.pb_messages.specs.declared.info.PayloadInfo.{PayloadInfo}
 use Rattle.pb_lines.specs.File.{AreSamples}
 use Rattle.tier_store.specs.Counting.{HasLines}
-use Rattle.tier_store.proofs.CountingPieces.{is_split, then_reads}
+use Rattle.tier_store.proofs.Lines.{is_split, then_reads}
 use Rattle.tier_store.proofs.counting.count_later.Goals as goal
 
 pub returns-in_default-clause-count : goal.returns-in_default-clause-count

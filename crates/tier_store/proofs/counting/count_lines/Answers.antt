@@ -3,7 +3,7 @@ use Rattle.std.proofs.lemmas.Bool.{cases_lt}
 use Rattle.std.proofs.lemmas.Bool.Decides.{nat_tests}
 use Rattle.std.proofs.lemmas.List.{length-drop, take_all}
 use Rattle.pb_lines.proofs.Unique.{sample_or_fault}
-use Rattle.tier_store.proofs.CountingLines.{counts_more, counts_all, one_later}
+use Rattle.tier_store.proofs.Lines.{counts_more, counts_all, one_later}
 use Rattle.etl_mover.proofs.Taking.{none_meant, none_torn}
 use Rattle.etl_mover.specs.Lines.{IsSampleStart}
 use Rattle.tier_store.proofs.counting.count_lines.Goals as goal

@@ -1,5 +1,5 @@
 use Rattle.std.proofs.Common.{◌≤◌, ◌-◌, ◌+◌, length}
-use Rattle.tier_store.proofs.CountingLines.{IsCounting}
+use Rattle.tier_store.proofs.Lines.{IsCounting}
 use Rattle.tier_store.proofs.counting.count_lines.Given as goal
 
 abbrev pub invariant-loop-counted : goal.invariant-loop-counted

@@ -3,8 +3,7 @@ use Rattle.std.proofs.Math.ListN.{drop_of_length-le}
 use Rattle.pb_messages.specs.declared.info.PayloadInfo.{PayloadInfo}
 use Rattle.pb_lines.specs.Header.{IsHeaderLine}
 use Rattle.pb_lines.proofs.Unique.{one_header, header_or_fault}
-use Rattle.etl_mover.proofs.Parts.{header_ends}
-use Rattle.etl_mover.proofs.Taking.{line_at}
+use Rattle.etl_mover.proofs.Taking.{header_ends, line_at}
 use Rattle.tier_store.proofs.counting.header_of.Goals as goal
 
 pub returns-in-Ok-clause-header : goal.returns-in-Ok-clause-header

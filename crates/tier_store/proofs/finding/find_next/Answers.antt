@@ -11,8 +11,7 @@ use Rattle.pb_lines.specs.File.{AreSamples, lines_of}
 use Rattle.pb_lines.specs.Header.{IsHeaderLine}
 use Rattle.tier_store.specs.Counting.{HasLines, behind}
 use Rattle.tier_store.specs.Finding.{IsNext, IsNoSooner, IsTold, no_header}
-use Rattle.tier_store.proofs.CountingPieces.{is_split, then_reads}
-use Rattle.tier_store.proofs.FindingLines.{header_front, says_file}
+use Rattle.tier_store.proofs.Lines.{is_split, then_reads, header_front, says_file}
 use Rattle.tier_store.proofs.finding.find_next.Goals as goal
 
 pub returns-then-from-len-clause-next : goal.returns-then-from-len-clause-next

@@ -4,8 +4,7 @@ use Rattle.disk_model.specs.Files.{Files, HasFile}
 use Rattle.disk_model.proofs.Passing.{passes_none}
 use Rattle.tier_store.specs.Counting.{behind}
 use Rattle.tier_store.specs.Finding.{AreLinesFrom, SkipsLines}
-use Rattle.tier_store.proofs.CountingPieces.{IsPiece, goes_on, then_reads}
-use Rattle.tier_store.proofs.FindingLines.{both_file, damaged_here, lines_begun, lines_more, not_damaged, skipped_counting, splits_end, splits_here}
+use Rattle.tier_store.proofs.Lines.{IsPiece, goes_on, then_reads, both_file, damaged_here, lines_begun, lines_more, not_damaged, skipped_counting, splits_end, splits_here}
 use Rattle.tier_store.proofs.finding.next_between.Goals as goal
 use Rattle.tier_store.proofs.finding.next_between.Goals.{In_ok-skipped, then-skipped-eq0+else-want-rest, else-skipped-eq0}
 

@@ -3,7 +3,7 @@ use Rattle.disk_model.specs.Files.{HasFile}
 use Rattle.series_model.specs.declared.sample.Sample.{Sample}
 use Rattle.tier_store.specs.Counting.{HasLines, ReadsDisk, behind}
 use Rattle.tier_store.specs.Finding.{AreLinesFrom}
-use Rattle.tier_store.proofs.CountingPieces.{IsBetween}
+use Rattle.tier_store.proofs.Lines.{IsBetween}
 use Rattle.tier_store.proofs.finding.next_between.Given as goal
 
 abbrev pub invariant-loop-at : goal.invariant-loop-at

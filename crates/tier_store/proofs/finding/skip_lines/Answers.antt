@@ -3,8 +3,7 @@ use Rattle.std.proofs.lemmas.List.{length-drop, take_all}
 use Rattle.pb_lines.proofs.Unique.{sample_or_fault}
 use Rattle.tier_store.specs.Counting.{behind}
 use Rattle.tier_store.specs.Finding.{IsLaterStart}
-use Rattle.tier_store.proofs.CountingLines.{begins_counting, counts_more, none_at_end}
-use Rattle.tier_store.proofs.FindingLines.{later_start, none_earlier, skips}
+use Rattle.tier_store.proofs.Lines.{begins_counting, counts_more, none_at_end, later_start, none_earlier, skips}
 use Rattle.etl_mover.proofs.Taking.{none_meant, none_torn}
 use Rattle.etl_mover.specs.Lines.{IsSampleStart}
 use Rattle.tier_store.proofs.finding.skip_lines.Goals as goal

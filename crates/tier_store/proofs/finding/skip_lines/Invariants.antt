@@ -1,6 +1,6 @@
 use Rattle.std.proofs.Common.{◌≤◌, ◌-◌, length}
 use Rattle.tier_store.specs.Counting.{behind}
-use Rattle.tier_store.proofs.CountingLines.{IsCounting}
+use Rattle.tier_store.proofs.Lines.{IsCounting}
 use Rattle.tier_store.proofs.finding.skip_lines.Given as goal
 
 abbrev pub invariant-loop-len : goal.invariant-loop-len

@@ -2,7 +2,7 @@ use Rattle.std.proofs.Common.{[]}
 use Rattle.tier_store.specs.Revival.{AreWhole}
 use Rattle.tier_store.specs.Seen.{seen_on}
 use Rattle.tier_store.specs.Stores.{Stores}
-use Rattle.tier_store.proofs.WithoutLimbo.{none_whole, plain_changes}
+use Rattle.tier_store.proofs.Revived.{none_whole, plain_changes}
 use Rattle.tier_store.proofs.laws.a_flush_without_limbo.Goals as goal
 
 pub returns-clause-whole : goal.returns-clause-whole

@@ -1,4 +1,4 @@
-use Rattle.tier_store.proofs.CopyBegun.{copies_begun, copies_still}
+use Rattle.tier_store.proofs.RunningMoves.{copies_begun, copies_still}
 use Rattle.tier_store.proofs.laws.a_move_copies_beside.Goals as goal
 
 pub returns-clause-begun : goal.returns-clause-begun

@@ -1,5 +1,4 @@
-use Rattle.tier_store.proofs.BesideMoves.{runs_begun, runs_listed, runs_still}
-use Rattle.tier_store.proofs.LeavingNames.{fewer_names}
+use Rattle.tier_store.proofs.RunningMoves.{runs_begun, runs_listed, runs_still, fewer_names}
 use Rattle.tier_store.proofs.laws.a_move_runs_beside.Goals as goal
 
 pub returns-clause-begun : goal.returns-clause-begun

@@ -1,4 +1,4 @@
-use Rattle.tier_store.proofs.Wholes.{rename_keeps, rename_stays}
+use Rattle.tier_store.proofs.Tallies.{rename_keeps, rename_stays}
 use Rattle.tier_store.proofs.laws.a_rename_keeps_the_whole.Goals as goal
 
 pub returns-clause-new : goal.returns-clause-new

@@ -1,4 +1,4 @@
-use Rattle.tier_store.proofs.Staying.{limbo_kept}
+use Rattle.tier_store.proofs.Removals.{limbo_kept}
 use Rattle.tier_store.proofs.laws.limbo_stands.Goals as goal
 
 pub returns : goal.returns

@@ -1,5 +1,5 @@
-use Rattle.tier_store.proofs.OpeningPieces.{stand_none, stand_kept, stand_fewer}
-use Rattle.tier_store.proofs.Sparing.{pins_kept}
+use Rattle.tier_store.proofs.ReadCalls.{stand_none, stand_kept, stand_fewer}
+use Rattle.tier_store.proofs.Retirements.{pins_kept}
 use Rattle.tier_store.proofs.laws.pins_stand.Goals as goal
 
 pub returns-clause-none : goal.returns-clause-none

@@ -2,7 +2,7 @@ use Rattle.std.proofs.Common.{◌≡◌, ◌+◌, ◌++◌, ◌∷◌, [], List,
 use Rattle.std.specs.Prelude.{IsSome}
 use Rattle.disk_model.specs.Files.{Files, Name}
 use Rattle.tier_store.specs.Limbo.{AreRemovable, IsLeftOver}
-use Rattle.tier_store.proofs.CountingPieces.{then_reads}
+use Rattle.tier_store.proofs.Lines.{then_reads}
 use Rattle.tier_store.proofs.Removals.{found_more, found_other, not_some_none}
 use Rattle.tier_store.proofs.removing.find_removable.Goals as goal
 use Rattle.tier_store.proofs.removing.find_removable.Goals.{then-there+in_ok-copy+in_ok-push, else-there}

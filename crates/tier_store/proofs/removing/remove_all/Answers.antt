@@ -4,7 +4,7 @@ use Rattle.std.proofs.lemmas.List.{take_all}
 use Rattle.std.proofs.lemmas.List.Elements.{Contains-get_or}
 use Rattle.disk_model.specs.Files.{Name, Rose}
 use Rattle.disk_model.specs.declared.disk.DiskErr.{DiskErr}
-use Rattle.durable_write.proofs.Rises.{rose_after}
+use Rattle.durable_write.proofs.Staying.{rose_after}
 use Rattle.tier_store.proofs.Removals.{both_err, gone_more, names_more, names_none, there_more, both_done, rose_until}
 use Rattle.tier_store.proofs.removing.remove_all.Goals as goal
 

@@ -3,7 +3,7 @@ use Rattle.std.specs.Prelude.{OnOk, Result, IsErr}
 use Rattle.disk_model.specs.Files.{Rose}
 use Rattle.disk_model.specs.Past.{Only}
 use Rattle.disk_model.specs.declared.disk.DiskErr.{DiskErr}
-use Rattle.durable_write.proofs.Rises.{rose_after}
+use Rattle.durable_write.proofs.Staying.{rose_after}
 use Rattle.tier_store.specs.Limbo.{AreFree}
 use Rattle.tier_store.proofs.Removals.{both_err, own_gone, own_removed, removes_read, gone_for_good, both_done, rose_until}
 use Rattle.tier_store.proofs.removing.remove_for_good.Goals as goal

@@ -4,12 +4,10 @@ use Rattle.std.proofs.lemmas.List.{take_all}
 use Rattle.disk_model.specs.Files.{Content, Files, Rose}
 use Rattle.disk_model.specs.Past.{Only}
 use Rattle.disk_model.specs.declared.disk.DiskErr.{DiskErr}
-use Rattle.durable_write.proofs.Rises.{rose_after}
-use Rattle.durable_write.proofs.Stays.{same_then}
+use Rattle.durable_write.proofs.Staying.{rose_after, same_then}
 use Rattle.tier_store.specs.Limbo.{AreFree}
 use Rattle.tier_store.specs.declared.limbo.Retired.{Retired}
-use Rattle.tier_store.proofs.Removals.{both_err, on_ok, both_done, rose_until}
-use Rattle.tier_store.proofs.Staying.{free_needed, free_more, only_read}
+use Rattle.tier_store.proofs.Removals.{both_err, on_ok, both_done, rose_until, free_needed, free_more, only_read}
 use Rattle.tier_store.proofs.removing.sync_unneeded.Goals as goal
 
 pub loop-file-preserved-then-is_needed : goal.loop-file-preserved-then-is_needed

@@ -1,5 +1,5 @@
 use Rattle.std.proofs.Common.{inr}
-use Rattle.tier_store.proofs.Handing.{stays_there, free_leaves, pinned_by}
+use Rattle.tier_store.proofs.Retirements.{stays_there, free_leaves, pinned_by}
 use Rattle.tier_store.proofs.retiring.remains.Goals as goal
 
 pub returns-then-not-leaves-clause-stays : goal.returns-then-not-leaves-clause-stays

@@ -9,8 +9,8 @@ use Rattle.durable_write.specs.Held.{Filed, Shelf, entry_of}
 use Rattle.tier_store.specs.Counting.{behind}
 use Rattle.tier_store.specs.Details.{IsTally, IsWhole}
 use Rattle.tier_store.specs.Tallying.{end_of_files, listed_count}
-use Rattle.tier_store.proofs.CountingPieces.{then_reads}
-use Rattle.tier_store.proofs.RowTallies.{adds_more, ends_more, file_at, flat}
+use Rattle.tier_store.proofs.Lines.{then_reads}
+use Rattle.tier_store.proofs.Tallies.{adds_more, ends_more, file_at, flat}
 use Rattle.tier_store.proofs.tallying.add_files.Goals as goal
 
 pub loop-entry-preserved : goal.loop-entry-preserved

@@ -6,7 +6,7 @@ use Rattle.series_model.specs.Series.{since}
 use Rattle.store_manifest.specs.declared.entry.Entry.{Entry}
 use Rattle.durable_write.specs.Held.{Shelf, file_of}
 use Rattle.tier_store.specs.Counting.{behind}
-use Rattle.tier_store.proofs.RowTallies.{all_later, none_later, file_read}
+use Rattle.tier_store.proofs.Tallies.{all_later, none_later, file_read}
 use Rattle.tier_store.proofs.tallying.count_over.Goals as goal
 
 pub returns-in_default-clause-count : goal.returns-in_default-clause-count

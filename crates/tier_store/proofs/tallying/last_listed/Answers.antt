@@ -3,7 +3,7 @@ use Rattle.std.proofs.lemmas.List.{take_all}
 use Rattle.store_manifest.specs.declared.entry.Entry.{Entry}
 use Rattle.tier_store.specs.Counting.{behind}
 use Rattle.tier_store.specs.Tallying.{end_of_files}
-use Rattle.tier_store.proofs.RowTallies.{ends_more}
+use Rattle.tier_store.proofs.Tallies.{ends_more}
 use Rattle.tier_store.proofs.tallying.last_listed.Goals as goal
 
 pub loop-entry-preserved : goal.loop-entry-preserved

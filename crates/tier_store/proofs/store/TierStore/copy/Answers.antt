@@ -14,9 +14,8 @@ use Rattle.tier_store.specs.Strays.{MakesNoStray, targets}
 use Rattle.tier_store.specs.declared.copying.CopyEnd.TheVariants as ends
 use Rattle.tier_store.specs.declared.limbo.Retired.{Retired}
 use Rattle.tier_store.proofs.CopyLimbo.{are_back, back_of}
-use Rattle.tier_store.proofs.CopySteps.{damaged_same, err_says, look_then_leaves, look_then_steps, looks_ends, looks_err, looks_held, looks_leave, looks_stands, moves_passed, moves_then, on_err, on_err_then, on_ok, says_ended, says_from, stays_changes}
-use Rattle.tier_store.proofs.CopyPass.{passes_then}
-use Rattle.tier_store.proofs.CopyTurn.{whole_read}
+use Rattle.tier_store.proofs.CopySteps.{damaged_same, err_says, look_then_leaves, look_then_steps, looks_ends, looks_err, looks_held, looks_leave, looks_stands, moves_passed, moves_then, on_err, on_err_then, on_ok, says_ended, says_from, stays_changes, whole_read}
+use Rattle.tier_store.proofs.CopyParts.{passes_then}
 use Rattle.tier_store.proofs.Strays.{copied_strays, ok_then, targets_same, targets_then}
 use Rattle.tier_store.proofs.store.TierStore.copy.Goals.{After-copy_left, In_ok-next}
 use Rattle.tier_store.proofs.store.TierStore.copy.Goals as goal

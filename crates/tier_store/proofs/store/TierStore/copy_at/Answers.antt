@@ -9,8 +9,7 @@ use Rattle.tier_store.specs.Reviving.{reviving}
 use Rattle.tier_store.specs.Seen.{granularities, seen}
 use Rattle.tier_store.specs.Stores.{Stores}
 use Rattle.tier_store.proofs.CopySteps.{err_says, further_on, look_then_leaves, look_then_steps, looks_ends, looks_err, looks_held, looks_leave, looks_stands}
-use Rattle.tier_store.proofs.CopyParts.{low, q_filed, next_part}
-use Rattle.tier_store.proofs.CopyPass.{passes_none, says_line}
+use Rattle.tier_store.proofs.CopyParts.{low, q_filed, next_part, passes_none, says_line}
 use Rattle.tier_store.proofs.Strays.{ok_then, targets_same, targets_then}
 use Rattle.tier_store.proofs.store.TierStore.copy_at.Goals.{After-line_of}
 use Rattle.tier_store.proofs.store.TierStore.copy_at.Goals as goal

@@ -16,8 +16,7 @@ use Rattle.tier_store.specs.Strays.{WritesTargets, targets}
 use Rattle.tier_store.specs.declared.copying.CopyEnd.{CopyEnd}
 use Rattle.tier_store.proofs.CopyCovered.{turn_mid, went_back}
 use Rattle.tier_store.proofs.CopyParts.{further, next_never, source}
-use Rattle.tier_store.proofs.CopySteps.{part_from, passed_leaves}
-use Rattle.tier_store.proofs.CopyTurn.{Turn, has_line, line_later}
+use Rattle.tier_store.proofs.CopySteps.{part_from, passed_leaves, Turn, has_line, line_later}
 use Rattle.tier_store.proofs.Strays.{targets_same, targets_then}
 use Rattle.tier_store.proofs.store.TierStore.copy_part.Goals.{After-kept_line-found}
 use Rattle.tier_store.proofs.store.TierStore.copy_part.Goals as goal

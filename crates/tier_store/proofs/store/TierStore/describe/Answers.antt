@@ -13,7 +13,7 @@ use Rattle.tier_store.specs.Details.{IsTally}
 use Rattle.tier_store.specs.Pinning.{entries_of}
 use Rattle.tier_store.specs.Seen.{seen_on}
 use Rattle.tier_store.specs.Stores.{whole_in}
-use Rattle.tier_store.proofs.RowTallies.{ends_last, own_files}
+use Rattle.tier_store.proofs.Tallies.{ends_last, own_files}
 use Rattle.tier_store.proofs.store.TierStore.describe.Goals as goal
 
 pub returns-clause-described : goal.returns-clause-described

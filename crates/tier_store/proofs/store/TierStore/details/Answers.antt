@@ -2,9 +2,9 @@ use Rattle.std.proofs.Common.{refl, ap, subst}
 use Rattle.tier_store.specs.Change.{Has, OnlyReads}
 use Rattle.tier_store.specs.Opening.{answer_of, end_of_answer}
 use Rattle.tier_store.specs.Seen.{Seen, seen}
-use Rattle.tier_store.proofs.ReadsThen.{described_cause, has_read, says_described}
-use Rattle.tier_store.proofs.Sparing.{same_seen}
-use Rattle.tier_store.proofs.Framing.{read_frame}
+use Rattle.tier_store.proofs.ReadCalls.{described_cause, has_read, says_described}
+use Rattle.tier_store.proofs.Retirements.{same_seen}
+use Rattle.tier_store.proofs.Frames.{read_frame}
 use Rattle.tier_store.proofs.store.TierStore.details.Goals as goal
 
 pub describe_named-requires : goal.describe_named-requires

@@ -15,9 +15,9 @@ use Rattle.tier_store.specs.Limbo.{AreRemovable, IsUseless}
 use Rattle.tier_store.specs.Retiring.{dropping, retired_of}
 use Rattle.tier_store.specs.Seen.{seen}
 use Rattle.tier_store.specs.declared.limbo.Retired.{Retired}
-use Rattle.tier_store.proofs.Asked.{drop_done, drop_fails, look_fails, look_then_call}
+use Rattle.tier_store.proofs.ReadCalls.{drop_done, drop_fails, look_fails, look_then_call}
 use Rattle.tier_store.proofs.CopySteps.{looks_err}
-use Rattle.tier_store.proofs.LeavingNames.{names_then}
+use Rattle.tier_store.proofs.RunningMoves.{names_then}
 use Rattle.tier_store.proofs.Removals.{found_still}
 use Rattle.tier_store.proofs.store.TierStore.drop_asked.Goals as goal
 

@@ -12,12 +12,11 @@ use Rattle.tier_store.specs.Retiring.{dropping}
 use Rattle.tier_store.specs.Change.{CanList, Has}
 use Rattle.tier_store.specs.Seen.{seen}
 use Rattle.tier_store.specs.Stores.{Stores, tier}
-use Rattle.tier_store.proofs.Dropped.{can_drop, dropped_shown}
-use Rattle.tier_store.proofs.Drops.{oldest_follow}
+use Rattle.tier_store.proofs.Showing.{can_drop, dropped_shown}
+use Rattle.tier_store.proofs.Removals.{oldest_follow, lists_in_order}
 use Rattle.tier_store.proofs.Places.{manifest_here, holding, within_three}
-use Rattle.tier_store.proofs.RelistCall.{can_relist, beside_all, call_done, call_cut}
-use Rattle.tier_store.proofs.Removals.{lists_in_order}
-use Rattle.tier_store.proofs.LeavingNames.{commit_leaves_files}
+use Rattle.tier_store.proofs.OnePlace.{can_relist, beside_all, call_done, call_cut}
+use Rattle.tier_store.proofs.RunningMoves.{commit_leaves_files}
 use Rattle.tier_store.proofs.store.TierStore.drop_oldest.Goals.{After-index_mut}
 use Rattle.tier_store.proofs.store.TierStore.drop_oldest.Goals as goal
 

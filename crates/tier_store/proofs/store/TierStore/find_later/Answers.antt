@@ -12,12 +12,12 @@ use Rattle.tier_store.specs.Copying.{OnlyLooks}
 use Rattle.tier_store.specs.Pinned.{beside, seen_all}
 use Rattle.tier_store.specs.Seen.{seen_on}
 use Rattle.tier_store.specs.Stores.{list_at}
-use Rattle.tier_store.proofs.Acting.{only_reads}
+use Rattle.tier_store.proofs.OnePlace.{only_reads}
 use Rattle.tier_store.proofs.CopySteps.{looks_ends, looks_err, looks_none}
-use Rattle.tier_store.proofs.LeavingNames.{read_leaves}
-use Rattle.tier_store.proofs.ReadsThen.{has_read}
+use Rattle.tier_store.proofs.RunningMoves.{read_leaves}
+use Rattle.tier_store.proofs.ReadCalls.{has_read}
 use Rattle.tier_store.proofs.Showing.{read_shown}
-use Rattle.tier_store.proofs.There.{row_listed, listed_file, file_there, front_there}
+use Rattle.tier_store.proofs.Places.{row_listed, listed_file, file_there, front_there}
 use Rattle.tier_store.specs.Finding.{SaysFile}
 use Rattle.tier_store.proofs.store.TierStore.find_later.Goals.{After-find_next}
 use Rattle.tier_store.proofs.store.TierStore.find_later.Goals as goal

@@ -2,8 +2,8 @@ use Rattle.std.proofs.Common.{[], refl, subst, sym}
 use Rattle.std.specs.Prelude.{IfOk}
 use Rattle.disk_model.specs.Files.{Files}
 use Rattle.tier_store.specs.Limbo.{AreRemovable, IsLeftOver, IsUseless}
-use Rattle.tier_store.proofs.Asked.{if_ok_to, reads_look}
-use Rattle.tier_store.proofs.LeavingNames.{read_names}
+use Rattle.tier_store.proofs.ReadCalls.{if_ok_to, reads_look}
+use Rattle.tier_store.proofs.RunningMoves.{read_names}
 use Rattle.tier_store.proofs.Removals.{found_useless}
 use Rattle.tier_store.proofs.store.TierStore.find_leaving.Goals as goal
 

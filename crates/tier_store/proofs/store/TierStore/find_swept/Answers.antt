@@ -6,7 +6,7 @@ use Rattle.store_manifest.specs.Manifest.{ManifestState}
 use Rattle.tier_store.specs.Limbo.{AreRemovable, IsLeftOver, NamesDiffer}
 use Rattle.tier_store.specs.Seen.{AtEach}
 use Rattle.tier_store.specs.declared.limbo.Retired.{Retired}
-use Rattle.tier_store.proofs.Asked.{reads_look}
+use Rattle.tier_store.proofs.ReadCalls.{reads_look}
 use Rattle.tier_store.proofs.Removals.{lists_in_order}
 use Rattle.tier_store.proofs.store.TierStore.find_swept.Goals as goal
 

@@ -1,4 +1,4 @@
-use Rattle.durable_write.proofs.Three.{get_set_same}
+use Rattle.durable_write.proofs.Staying.{get_set_same}
 use Rattle.std.proofs.Common.{◌≡◌, Err, Result, ℕ, ◌<◌, List, length, refl, ◌∙◌, ap, sym, subst}
 use Rattle.std.proofs.lemmas.Result.{err_from_is_err_and}
 use Rattle.disk_model.specs.Files.{Name}
@@ -9,14 +9,13 @@ use Rattle.durable_write.specs.declared.piece.Piece.{Piece}
 use Rattle.durable_write.specs.Ends.{End, Done, Spent, end_of_disk}
 use Rattle.durable_write.specs.Flush.{Flushes, HoldsBoth, with_files}
 use Rattle.durable_write.specs.Held.{Held}
-use Rattle.durable_write.proofs.BatchCalls.{parts_listed}
+use Rattle.durable_write.proofs.Places.{parts_listed}
 use Rattle.tier_store.specs.Revival.{AreUnlistedIn, flushing_over}
 use Rattle.tier_store.specs.Stores.{Stores, tier}
 use Rattle.tier_store.specs.Seen.{seen, seen_on}
 use Rattle.tier_store.specs.Change.{Changes, IsKnown}
-use Rattle.tier_store.proofs.Acting.{changes_given, nothing_changes}
-use Rattle.tier_store.proofs.FlushCall.{planned, on_store}
-use Rattle.tier_store.proofs.Framing.{flush_frame, frame_same}
+use Rattle.tier_store.proofs.OnePlace.{changes_given, nothing_changes, planned, on_store}
+use Rattle.tier_store.proofs.Frames.{flush_frame, frame_same}
 use Rattle.tier_store.proofs.Places.{manifest_here, one_manifest, first_of_three, same_granularities}
 use Rattle.tier_store.proofs.Revival.{ToRevive, is_ahead, limbo_parts, listed_as, over_cut, over_done, to}
 use Rattle.durable_write.specs.Ahead.{HasCopied}

@@ -9,13 +9,12 @@ use Rattle.tier_store.specs.Limbo.{ListsPlace, Stay, StayUnlisted, LeaveListed}
 use Rattle.tier_store.specs.Retiring.{oldest_entries, drop_entry, retired_of}
 use Rattle.tier_store.specs.Seen.{AtEach, seen}
 use Rattle.tier_store.specs.declared.limbo.Retired.{Retired}
-use Rattle.tier_store.proofs.Handing.{entries_rows, leave_by_list, entered_shown}
+use Rattle.tier_store.proofs.Retirements.{entries_rows, leave_by_list, entered_shown}
 use Rattle.tier_store.proofs.Places.{manifest_here, one_manifest}
-use Rattle.tier_store.proofs.Removals.{lists_in_order, none_left}
-use Rattle.tier_store.proofs.Staying.{stay_unlisted}
+use Rattle.tier_store.proofs.Removals.{lists_in_order, none_left, stay_unlisted}
 use Rattle.tier_store.specs.Pinned.{beside}
 use Rattle.tier_store.specs.Revival.{KeepsWhole}
-use Rattle.tier_store.proofs.WholeCalls.{unlisted_whole}
+use Rattle.tier_store.proofs.Frames.{unlisted_whole}
 use Rattle.tier_store.proofs.store.TierStore.hand_over.Goals.{After-leave_listed, After-oldest-entries}
 use Rattle.tier_store.proofs.store.TierStore.hand_over.Goals as goal
 

@@ -7,8 +7,7 @@ use Rattle.pv_catalog.specs.declared.row.Row.{Row}
 use Rattle.tier_store.specs.Counting.{behind}
 use Rattle.tier_store.specs.Stores.{whole_in}
 use Rattle.tier_store.specs.Tallying.{end_of_files, entries_in, entries_of_line}
-use Rattle.tier_store.proofs.RowTallies.{ends_last}
-use Rattle.tier_store.proofs.Wholes.{base_before, step_down, whole_end}
+use Rattle.tier_store.proofs.Tallies.{ends_last, base_before, step_down, whole_end}
 use Rattle.tier_store.proofs.store.TierStore.last_of.Goals as goal
 use Rattle.tier_store.proofs.store.TierStore.last_of.Goals.{After-index-rows-id}
 

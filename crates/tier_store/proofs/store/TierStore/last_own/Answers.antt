@@ -4,7 +4,7 @@ use Rattle.store_manifest.specs.Manifest.{ManifestState}
 use Rattle.tier_store.specs.Counting.{behind}
 use Rattle.tier_store.specs.Pinning.{entries_of}
 use Rattle.tier_store.specs.Tallying.{end_of_files}
-use Rattle.tier_store.proofs.RowTallies.{ends_both}
+use Rattle.tier_store.proofs.Tallies.{ends_both}
 use Rattle.tier_store.proofs.store.TierStore.last_own.Goals as goal
 
 pub returns : goal.returns

@@ -1,6 +1,6 @@
 use Rattle.std.proofs.Common.{ap, sym, ◌∙◌, subst}
 use Rattle.tier_store.specs.Opening.{IsOpened, answer_of}
-use Rattle.tier_store.proofs.Sparing.{same_shown}
+use Rattle.tier_store.proofs.Retirements.{same_shown}
 use Rattle.tier_store.proofs.store.TierStore.open_piece.Goals as goal
 
 pub returns-clause-refused : goal.returns-clause-refused

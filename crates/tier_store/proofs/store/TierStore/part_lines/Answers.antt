@@ -11,7 +11,7 @@ use Rattle.tier_store.specs.Reviving.{reviving}
 use Rattle.tier_store.specs.Stores.{list_at}
 use Rattle.tier_store.proofs.CopySteps.{looks_ends, looks_err, looks_none}
 use Rattle.tier_store.proofs.CopyParts.{lists_it, next_found, next_never, part_finds}
-use Rattle.tier_store.proofs.There.{row_listed}
+use Rattle.tier_store.proofs.Places.{row_listed}
 use Rattle.tier_store.proofs.store.TierStore.part_lines.Goals as goal
 
 pub manifest-requires-clause-last : goal.manifest-requires-clause-last

@@ -5,8 +5,7 @@ use Rattle.etl_mover.specs.Move.{MoveState}
 use Rattle.tier_store.specs.Pinned.{beside}
 use Rattle.tier_store.specs.Seen.{granularities, seen_on}
 use Rattle.tier_store.proofs.CopySteps.{copies_on, copies_or_on, err_says, looks_ends, looks_err}
-use Rattle.tier_store.proofs.CopyParts.{further, low, next_part}
-use Rattle.tier_store.proofs.CopyPass.{damaged_part, line_left, part_passed, passes_finished, passes_none}
+use Rattle.tier_store.proofs.CopyParts.{further, low, next_part, damaged_part, line_left, part_passed, passes_finished, passes_none}
 use Rattle.tier_store.proofs.store.TierStore.pass_next.Goals as goal
 
 pub part_lines-requires-clause-runs : goal.part_lines-requires-clause-runs

@@ -3,7 +3,7 @@ use Rattle.std.proofs.lemmas.Result.{err_from_is_err_and}
 use Rattle.disk_model.specs.declared.disk.DiskErr.{DiskErr}
 use Rattle.tier_store.specs.Copying.{SaysPassed}
 use Rattle.tier_store.proofs.CopySteps.{err_says, looks_ends, looks_err, looks_none, looks_then}
-use Rattle.tier_store.proofs.CopyPass.{at_left, at_none, copies_if_left, has_if_none, passes_none, passes_then}
+use Rattle.tier_store.proofs.CopyParts.{at_left, at_none, copies_if_left, has_if_none, passes_none, passes_then}
 use Rattle.tier_store.proofs.store.TierStore.pass_parts.Goals as goal
 
 pub loop-self-init : goal.loop-self-init

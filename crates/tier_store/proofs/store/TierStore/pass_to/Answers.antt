@@ -3,8 +3,7 @@ use Rattle.etl_mover.specs.Move.{MoveState}
 use Rattle.store_manifest.specs.declared.entry.Entry.{Entry}
 use Rattle.tier_store.specs.Pinned.{beside}
 use Rattle.tier_store.specs.Seen.{seen_on}
-use Rattle.tier_store.proofs.CopyParts.{next_found, next_never, next_part}
-use Rattle.tier_store.proofs.CopyPass.{fronts_finished, further_finished, parts_finished, passes_finished, passes_none, passes_then}
+use Rattle.tier_store.proofs.CopyParts.{next_found, next_never, next_part, fronts_finished, further_finished, parts_finished, passes_finished, passes_none, passes_then}
 use Rattle.tier_store.proofs.store.TierStore.pass_to.Goals as goal
 
 pub manifest-requires-clause-last : goal.manifest-requires-clause-last

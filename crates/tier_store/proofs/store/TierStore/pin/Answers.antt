@@ -4,7 +4,7 @@ use Rattle.tier_store.specs.Pinned.{PinsStand, SeenAll}
 use Rattle.tier_store.specs.Seen.{seen}
 use Rattle.durable_write.specs.Ends.{IsCut}
 use Rattle.tier_store.proofs.PinnedFiles.{same_pins, says, stands}
-use Rattle.tier_store.proofs.Sparing.{same_all, same_seen}
+use Rattle.tier_store.proofs.Retirements.{same_all, same_seen}
 use Rattle.tier_store.proofs.store.TierStore.pin.Goals as goal
 
 pub pin_named-requires : goal.pin_named-requires

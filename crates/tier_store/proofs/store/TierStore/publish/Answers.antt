@@ -11,9 +11,9 @@ use Rattle.tier_store.specs.Pinned.{seen_all}
 use Rattle.tier_store.specs.Seen.{seen}
 use Rattle.std.specs.Prelude.{IsTrue, slice_get}
 use Rattle.tier_store.specs.Stores.{tier}
-use Rattle.tier_store.proofs.FlushCall.{on_store}
-use Rattle.tier_store.proofs.Framing.{commit_frame}
-use Rattle.tier_store.proofs.MovedFiles.{goes_on, has_copied, is_ahead, place_low, same_size, spares_then, publish_ends}
+use Rattle.tier_store.proofs.OnePlace.{on_store}
+use Rattle.tier_store.proofs.Frames.{commit_frame}
+use Rattle.tier_store.proofs.RunningMoves.{goes_on, has_copied, is_ahead, place_low, same_size, spares_then, publish_ends}
 use Rattle.tier_store.proofs.Places.{manifest_here}
 use Rattle.tier_store.proofs.Showing.{ends_held}
 use Rattle.tier_store.proofs.Strays.{file_apart, ok_both, ok_settled, published_strays}

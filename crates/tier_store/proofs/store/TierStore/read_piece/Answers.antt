@@ -12,8 +12,7 @@ use Rattle.tier_store.specs.Stores.{Stores}
 use Rattle.tier_store.specs.Opening.{IsReaderOf}
 use Rattle.tier_store.specs.Pinned.{beside, IsThereTo, seen_all}
 use Rattle.tier_store.proofs.Showing.{numbered}
-use Rattle.tier_store.proofs.OpeningPieces.{found_at, granted_shown, one_piece, some_piece, shown_long, shown_held, reader_of, piece_opened, opened_most, unopened_most}
-use Rattle.tier_store.proofs.OpenedBeside.{opened_beside, opened_whole}
+use Rattle.tier_store.proofs.ReadCalls.{found_at, granted_shown, one_piece, some_piece, shown_long, shown_held, reader_of, piece_opened, opened_most, unopened_most, opened_beside, opened_whole}
 use Rattle.tier_store.proofs.store.TierStore.read_piece.Goals.{After-open_file}
 use Rattle.tier_store.proofs.store.TierStore.read_piece.Goals as goal
 

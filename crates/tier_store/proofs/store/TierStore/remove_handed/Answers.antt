@@ -6,10 +6,9 @@ use Rattle.tier_store.specs.Limbo.{IsListedName, Removes, Stay, StayUnlisted}
 use Rattle.tier_store.specs.Retiring.{IsFree, Stays, names_in}
 use Rattle.tier_store.specs.Seen.{seen}
 use Rattle.tier_store.proofs.Removals.{stay_differ, retained}
-use Rattle.tier_store.proofs.Handing.{all_stay, removes_left, left_stays, name_left, none_more}
-use Rattle.tier_store.proofs.Sparing.{swept_changes, swept_leaves, still_stands}
-use Rattle.tier_store.proofs.WholeCalls.{swept_whole}
-use Rattle.tier_store.proofs.LeavingNames.{removal_apart}
+use Rattle.tier_store.proofs.Retirements.{all_stay, removes_left, left_stays, name_left, none_more, swept_changes, swept_leaves, still_stands}
+use Rattle.tier_store.proofs.Frames.{swept_whole}
+use Rattle.tier_store.proofs.RunningMoves.{removal_apart}
 use Rattle.tier_store.proofs.store.TierStore.remove_handed.Goals.{After-retain}
 use Rattle.tier_store.proofs.store.TierStore.remove_handed.Goals as goal
 

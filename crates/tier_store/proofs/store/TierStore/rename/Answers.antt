@@ -3,7 +3,7 @@ use Rattle.durable_write.specs.Ends.{end_of_rename}
 use Rattle.tier_store.specs.Change.{renaming}
 use Rattle.tier_store.proofs.RowCalls.{rename_changes}
 use Rattle.tier_store.proofs.Showing.{rows_keep, renames_on}
-use Rattle.tier_store.proofs.Framing.{rows_frame, rows_tidy}
+use Rattle.tier_store.proofs.Frames.{rows_frame, rows_tidy}
 use Rattle.tier_store.proofs.store.TierStore.rename.Goals as goal
 
 pub returns-clause-changes : goal.returns-clause-changes

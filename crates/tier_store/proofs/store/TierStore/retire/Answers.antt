@@ -12,7 +12,7 @@ use Rattle.pins.specs.Pieces.{PinOf}
 use Rattle.store_manifest.specs.declared.entry.Entry.{Entry}
 use Rattle.durable_write.specs.Ends.{Done, end_of_disk}
 use Rattle.durable_write.specs.Held.{entry_of}
-use Rattle.durable_write.proofs.Rises.{rose_after}
+use Rattle.durable_write.proofs.Staying.{rose_after}
 use Rattle.tier_store.specs.Change.{Changes, Has}
 use Rattle.tier_store.specs.Limbo.{LimboStands, NamesDiffer, AreRemovable, IsUseless, IsListedName, IsKeptName, LeaveListed, Stay, AreFree}
 use Rattle.disk_model.specs.Past.{Only}
@@ -23,20 +23,17 @@ use Rattle.tier_store.specs.Stores.{Stores}
 use Rattle.tier_store.specs.declared.limbo.Retired.{Retired}
 use Rattle.tier_store.specs.declared.retirement.RetireEnd.{RetireEnd}
 use Rattle.tier_store.specs.declared.retirement.RetireEnd.TheVariants as ends
-use Rattle.tier_store.proofs.Acting.{nothing_changes}
-use Rattle.tier_store.proofs.Leaving.{entries_leave, leaving_differ, leaving_numbered, stands_then, unlisted_then, among_then, has_then, enters, of_held, none_grown, has_grown, fewer_stand, nothing_retired, stays_then, cut_handed, retired_done, retired_cut, retired_doubt}
+use Rattle.tier_store.proofs.OnePlace.{nothing_changes}
+use Rattle.tier_store.proofs.Retirements.{entries_leave, leaving_differ, leaving_numbered, stands_then, unlisted_then, among_then, has_then, enters, of_held, none_grown, has_grown, fewer_stand, nothing_retired, stays_then, cut_handed, retired_done, retired_cut, retired_doubt, same_seen, entered_from, leaving_apart}
 use Rattle.tier_store.proofs.Places.{manifest_here}
-use Rattle.tier_store.proofs.Sparing.{same_seen}
 use Rattle.pv_catalog.specs.Catalogue.{CatalogueState}
 use Rattle.pv_catalog.specs.Rows.{KeepsRows}
 use Rattle.pv_catalog.proofs.Standing.{keeps_same}
-use Rattle.tier_store.specs.Moving.{LeavesFiles}
+use Rattle.tier_store.specs.Moving.{LeavesFiles, LeavesNames}
 use Rattle.tier_store.specs.Pinned.{beside, seen_all}
-use Rattle.tier_store.proofs.WholeCalls.{handed_whole}
-use Rattle.tier_store.specs.Moving.{LeavesNames}
-use Rattle.tier_store.proofs.Leaving.{entered_from, leaving_apart}
-use Rattle.tier_store.proofs.LeavingNames.{limbo_leaves, names_then, nothing_names}
-use Rattle.tier_store.proofs.Staying.{stay_from}
+use Rattle.tier_store.proofs.Frames.{handed_whole}
+use Rattle.tier_store.proofs.RunningMoves.{limbo_leaves, names_then, nothing_names}
+use Rattle.tier_store.proofs.Removals.{stay_from}
 use Rattle.tier_store.proofs.Strays.{no_strays, retired_strays}
 use Rattle.tier_store.proofs.store.TierStore.retire.Goals.{After-drop_asked, After-grown, After-hand_over, After-oldest-entries}
 use Rattle.tier_store.proofs.store.TierStore.retire.Goals as goal

@@ -7,16 +7,16 @@ use Rattle.gate_journal.specs.Generations.{AtOwn}
 use Rattle.gate_journal.specs.Kept.{SaysEither}
 use Rattle.gate_journal.proofs.Owning.{own_store}
 use Rattle.store_manifest.specs.Batches.{Configured}
-use Rattle.durable_write.proofs.Quiet.{alone}
-use Rattle.durable_write.proofs.OneCommit.{made_further, unsure_further}
+use Rattle.durable_write.proofs.Staying.{alone}
+use Rattle.durable_write.proofs.Commits.{made_further, unsure_further}
 use Rattle.disk_model.specs.Files.{Files, Rose}
 use Rattle.durable_write.specs.Ends.{End, IsFailed}
 use Rattle.tier_store.specs.Change.{OnlySettles, SameFiles}
 use Rattle.tier_store.specs.Seen.{seen, seen_on}
-use Rattle.tier_store.proofs.Acting.{failed_so}
+use Rattle.tier_store.proofs.OnePlace.{failed_so}
 use Rattle.tier_store.proofs.Places.{same_granularities, manifest_here}
 use Rattle.tier_store.proofs.ListDoubts.{list_in_doubt, list_settled, list_open, list_moment, zero_named}
-use Rattle.tier_store.proofs.LeavingNames.{commit_leaves}
+use Rattle.tier_store.proofs.RunningMoves.{commit_leaves}
 use Rattle.tier_store.proofs.store.TierStore.settle_list.Goals.{After-index_mut, After-review}
 use Rattle.tier_store.proofs.store.TierStore.settle_list.Goals as goal
 

@@ -7,18 +7,18 @@ use Rattle.disk_model.specs.Files.{Name}
 use Rattle.disk_model.specs.declared.disk.DiskErr.{DiskErr}
 use Rattle.pins.specs.Pieces.{PinOf}
 use Rattle.durable_write.specs.Ends.{Done}
-use Rattle.durable_write.proofs.Rises.{rose_after}
+use Rattle.durable_write.proofs.Staying.{rose_after}
 use Rattle.tier_store.specs.Limbo.{AreGone, AreRemovable, IsLeftOver, IsSwept, LeavesKept, staying}
 use Rattle.tier_store.specs.Pinned.{seen_all}
 use Rattle.store_manifest.specs.Manifest.{ManifestState}
 use Rattle.tier_store.specs.Seen.{AtEach, IsSettled, seen}
 use Rattle.tier_store.specs.declared.limbo.Retired.{Retired}
-use Rattle.tier_store.proofs.Acting.{changes_given}
-use Rattle.tier_store.proofs.Asked.{given_changes, look_leaves, look_then_leaves}
+use Rattle.tier_store.proofs.OnePlace.{changes_given}
+use Rattle.tier_store.proofs.ReadCalls.{given_changes, look_leaves, look_then_leaves}
 use Rattle.tier_store.proofs.CopySteps.{look_then_change, looks_change, looks_err, looks_stands, looks_whole}
-use Rattle.tier_store.proofs.LeavingNames.{names_then, read_names}
+use Rattle.tier_store.proofs.RunningMoves.{names_then, read_names}
 use Rattle.tier_store.proofs.Strays.{swept_strays}
-use Rattle.tier_store.proofs.WholeCalls.{whole_then}
+use Rattle.tier_store.proofs.Frames.{whole_then}
 use Rattle.tier_store.proofs.store.TierStore.sweep.Goals as goal
 
 -- AFTER AN ERROR

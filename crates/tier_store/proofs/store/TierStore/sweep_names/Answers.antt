@@ -5,11 +5,10 @@ use Rattle.store_manifest.specs.Manifest.{ManifestState}
 use Rattle.durable_write.specs.Ends.{Done}
 use Rattle.tier_store.specs.Seen.{AtEach, seen}
 use Rattle.tier_store.specs.Limbo.{IsListedName, IsNeeded, ListsPlace, Stay, StayUnlisted}
-use Rattle.tier_store.proofs.Staying.{stay_from, stay_unlisted}
-use Rattle.tier_store.proofs.Removals.{stay_differ, lists_in_order, on_ok, needed_stays, none_came, found_unlisted}
-use Rattle.tier_store.proofs.Sparing.{swept_changes, swept_leaves, swept_files, are_gone, still_stands}
-use Rattle.tier_store.proofs.LeavingNames.{removal_leaves}
-use Rattle.tier_store.proofs.WholeCalls.{swept_whole}
+use Rattle.tier_store.proofs.Removals.{stay_from, stay_unlisted, stay_differ, lists_in_order, on_ok, needed_stays, none_came, found_unlisted}
+use Rattle.tier_store.proofs.Retirements.{swept_changes, swept_leaves, swept_files, are_gone, still_stands}
+use Rattle.tier_store.proofs.RunningMoves.{removal_leaves}
+use Rattle.tier_store.proofs.Frames.{swept_whole}
 use Rattle.tier_store.proofs.store.TierStore.sweep_names.Goals.{After-leave_listed}
 use Rattle.tier_store.proofs.store.TierStore.sweep_names.Goals as goal
 

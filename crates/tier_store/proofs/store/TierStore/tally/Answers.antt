@@ -1,10 +1,10 @@
 use Rattle.std.proofs.Common.{refl, ap, subst}
 use Rattle.tier_store.specs.Change.{Has}
 use Rattle.tier_store.specs.Seen.{Seen}
-use Rattle.tier_store.proofs.Acting.{only_reads}
-use Rattle.tier_store.proofs.ReadsThen.{has_read}
-use Rattle.tier_store.proofs.Sparing.{same_seen}
-use Rattle.tier_store.proofs.Framing.{read_frame}
+use Rattle.tier_store.proofs.OnePlace.{only_reads}
+use Rattle.tier_store.proofs.ReadCalls.{has_read}
+use Rattle.tier_store.proofs.Retirements.{same_seen}
+use Rattle.tier_store.proofs.Frames.{read_frame}
 use Rattle.tier_store.proofs.store.TierStore.tally.Goals as goal
 
 pub tally_line-requires-clause-three : goal.tally_line-requires-clause-three

@@ -13,11 +13,10 @@ use Rattle.tier_store.specs.Details.{IsTally}
 use Rattle.tier_store.specs.Seen.{Seen}
 use Rattle.tier_store.specs.Stores.{overs}
 use Rattle.tier_store.specs.Tallying.{Adds, RiseFrom, end_of_files, entries_in, listed_count}
-use Rattle.tier_store.proofs.CountingPieces.{then_reads}
-use Rattle.tier_store.proofs.ReadsThen.{has_read}
-use Rattle.tier_store.proofs.RowTallies.{ends_both}
-use Rattle.tier_store.proofs.Sparing.{same_seen}
-use Rattle.tier_store.proofs.Wholes.{counts_more, listed_more, overs_more}
+use Rattle.tier_store.proofs.Lines.{then_reads}
+use Rattle.tier_store.proofs.ReadCalls.{has_read}
+use Rattle.tier_store.proofs.Tallies.{ends_both, counts_more, listed_more, overs_more}
+use Rattle.tier_store.proofs.Retirements.{same_seen}
 use Rattle.tier_store.proofs.store.TierStore.tally_line.Goals as goal
 
 pub loop-id-init : goal.loop-id-init

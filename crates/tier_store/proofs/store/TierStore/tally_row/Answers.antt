@@ -12,8 +12,7 @@ use Rattle.tier_store.specs.Pinning.{entries_of}
 use Rattle.tier_store.specs.Seen.{seen_on}
 use Rattle.tier_store.specs.Counting.{behind}
 use Rattle.tier_store.specs.Tallying.{Adds, end_of_files}
-use Rattle.tier_store.proofs.RowTallies.{adds_both, ends_both, ok_weaker, own_rows, own_long, own_files, own_whole}
-use Rattle.tier_store.proofs.Wholes.{over_three}
+use Rattle.tier_store.proofs.Tallies.{adds_both, ends_both, ok_weaker, own_rows, own_long, own_files, own_whole, over_three}
 use Rattle.tier_store.proofs.store.TierStore.tally_row.Goals as goal
 use Rattle.tier_store.proofs.store.TierStore.tally_row.Goals.{After-add_files-3}
 
