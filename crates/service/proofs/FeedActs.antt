@@ -6,6 +6,7 @@ use Rattle.pb_messages.specs.declared.info.PayloadInfo.{PayloadInfo}
 use Rattle.pb_lines.specs.Stream.{Item, header, sample, chunk_end}
 use Rattle.act_model.specs.declared.acts.Act.{Act}
 use Rattle.act_model.specs.declared.acts.Answer.TheVariants.{IntakeFull}
+use Rattle.act_model.specs.declared.actor.Actor.{Ghosts as OfActor}
 use Rattle.act_model.specs.History.{Done, Entry}
 use Rattle.act_model.specs.Reply.{Reply}
 use Rattle.act_model.specs.Roles.{is_of_link}
@@ -55,10 +56,10 @@ taken_of_link chunk [] a = tt
 taken_of_link chunk (t ∷ ts) a =
     of_link-append t.done (acts_of ts) (made_of_link a.0.asked t.done [] (item_asked chunk t.item t.moments a.0.asked a.0.asks) a.0.made) (taken_of_link (chunk_behind chunk t.item) ts a.1)
 
-pub feed_makes : {A : Type 0} (number : A → ℕ) (between : A → List Entry → A → Type 0) (end : Fed) (old new : A) (source : Option (List ℕ)) (clock clock' : Option Moments) (a b : Option (List ℕ))
-    → Feeds number between end old new source clock clock' a b → MakesOnly number between is_of_link old new
-feed_makes number between end old new source clock clock' a b f =
+pub feed_makes : {A R : Type 0} (actor : OfActor A R) (end : Fed) (old new : A) (source : Option (List ℕ)) (clock clock' : Option Moments) (a b : Option (List ℕ))
+    → Feeds actor.number actor.between end old new source clock clock' a b → MakesOnly actor is_of_link old new
+feed_makes actor end old new source clock clock' a b f =
     let s = f.ended.session in
-    makes number between old new f.ended.mine f.ended.made
+    makes actor old new f.ended.mine f.ended.made
     (subst AreOfLink (sym s.all)
     (of_link-append (acts_of f.taken) s.last (taken_of_link None f.taken s.items) (made_of_link s.asked s.last s.left (last_asked (chunk_after None f.taken) s.begun s.moments s.asked s.asks) s.made)))

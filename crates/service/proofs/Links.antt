@@ -6,6 +6,7 @@ use Rattle.std.proofs.lemmas.List.{length-append}
 use Rattle.std.proofs.lemmas.List.Elements.{All-nil, All-push}
 use Rattle.edge_io.specs.Doors.{IsFresh, Ledger, one_back, one_given}
 use Rattle.edge_io.specs.Moments.{Moments}
+use Rattle.edge_io.specs.declared.link.Door.{Ghosts as OfDoor}
 use Rattle.edge_io.specs.Stream.{Rose}
 use Rattle.service.specs.declared.served.Kind.{Kind}
 use Rattle.service.specs.declared.served.Served.{Served}
@@ -60,34 +61,34 @@ any_push test (y ∷ ys) x = ap (λ (b : Bool). test y || b) (any_push test ys x
 
 -- DOORS
 
-module _ {A D L R : Type 0} (faults : D → ℕ) (ledger : D → Option (Ledger L)) (Fresh : L → Type 0) (Is : L → Type 0) (Serves : A → Option Moments → L → Served R → A → Option Moments → L → Type 0) where
+module _ {A D L R : Type 0} (door : OfDoor D L) (Fresh : L → Type 0) (Is : L → Type 0) (Serves : A → Option Moments → L → Served R → A → Option Moments → L → Type 0) where
   abbrev Were : A → Option Moments → A → Option Moments → List L → List (Served R) → Type 0
   Were old clock new clock' links results = InTurn Fresh Serves old clock links results new clock'
 
   abbrev Next : A → Option Moments → A → Option Moments → D → D → Type 0
-  Next old clock new clock' a b = ServesNext faults ledger Fresh (λ was result l. Serves old clock was result new clock' l) a b
+  Next old clock new clock' a b = ServesNext door Fresh (λ was result l. Serves old clock was result new clock' l) a b
 
   -- no link was given
-  pub leaves_none : (old : A) (clock : Option Moments) (a : D) → LeavesTold faults ledger Is (Were old clock old clock) a false a
+  pub leaves_none : (old : A) (clock : Option Moments) (a : D) → LeavesTold door Is (Were old clock old clock) a false a
   leaves_none old clock a = record {
-    left = record { links = []; results = []; were = no_link; returned = back_none (ledger a); faults_rise = omega arith };
+    left = record { links = []; results = []; were = no_link; returned = back_none (door.ledger a); faults_rise = omega arith };
     told = refl;
     are = λ enough. All-nil Is;
   }
 
   -- links, and then one more
-  abbrev pub leaves_more : (old mid new : A) (clock₁ clock₂ clock₃ : Option Moments) (a b c : D) → Leaves faults ledger (Were old clock₁ mid clock₂) a b → Next mid clock₂ new clock₃ b c → Leaves faults ledger (Were old clock₁ new clock₃) a c
+  abbrev pub leaves_more : (old mid new : A) (clock₁ clock₂ clock₃ : Option Moments) (a b c : D) → Leaves door (Were old clock₁ mid clock₂) a b → Next mid clock₂ new clock₃ b c → Leaves door (Were old clock₁ new clock₃) a c
   leaves_more old mid new clock₁ clock₂ clock₃ a b c p n = record {
     links = p.links ++ n.link ∷ [];
     results = p.results ++ n.result ∷ [];
     were = one_more_link n.was n.link n.result new clock₃ p.were n.fresh n.serves;
-    returned = n.returned ∙ (ap (λ (o : Option (Ledger L)). option_map (with_back (n.link ∷ [])) o) p.returned ∙ back_both p.links (n.link ∷ []) (ledger a));
+    returned = n.returned ∙ (ap (λ (o : Option (Ledger L)). option_map (with_back (n.link ∷ [])) o) p.returned ∙ back_both p.links (n.link ∷ []) (door.ledger a));
     faults_rise = (let one = p.faults_rise in let two = n.faults_rise in omega arith);
   }
 
   -- and it is told whether memory ran out
-  pub told_more : (old mid new : A) (clock₁ clock₂ clock₃ : Option Moments) (a b c : D) (before now : Bool) → LeavesTold faults ledger Is (Were old clock₁ mid clock₂) a before b
-      → (n : Next mid clock₂ new clock₃ b c) → now ≡ (before || is_memory n.result) → (now ≡ false → Is n.link) → LeavesTold faults ledger Is (Were old clock₁ new clock₃) a now c
+  pub told_more : (old mid new : A) (clock₁ clock₂ clock₃ : Option Moments) (a b c : D) (before now : Bool) → LeavesTold door Is (Were old clock₁ mid clock₂) a before b
+      → (n : Next mid clock₂ new clock₃ b c) → now ≡ (before || is_memory n.result) → (now ≡ false → Is n.link) → LeavesTold door Is (Were old clock₁ new clock₃) a now c
   told_more old mid new clock₁ clock₂ clock₃ a b c before now p n same is = record {
     left = leaves_more old mid new clock₁ clock₂ clock₃ a b c p.left n;
     told = same ∙ (ap (λ (x : Bool). x || is_memory n.result) p.told ∙ sym (any_push is_memory p.left.results n.result));
@@ -95,8 +96,8 @@ module _ {A D L R : Type 0} (faults : D → ℕ) (ledger : D → Option (Ledger 
   }
 
   -- no link came any more, and nothing was done
-  pub told_end : (old mid new : A) (clock₁ clock₂ clock₃ : Option Moments) (a b c : D) (lacked : Bool) → LeavesTold faults ledger Is (Were old clock₁ mid clock₂) a lacked b
-      → new ≡ mid → clock₃ ≡ clock₂ → ledger c ≡ ledger b → faults b ≤ faults c → LeavesTold faults ledger Is (Were old clock₁ new clock₃) a lacked c
+  pub told_end : (old mid new : A) (clock₁ clock₂ clock₃ : Option Moments) (a b c : D) (lacked : Bool) → LeavesTold door Is (Were old clock₁ mid clock₂) a lacked b
+      → new ≡ mid → clock₃ ≡ clock₂ → door.ledger c ≡ door.ledger b → door.door_faults b ≤ door.door_faults c → LeavesTold door Is (Were old clock₁ new clock₃) a lacked c
   told_end old mid new clock₁ clock₂ clock₃ a b c lacked p same_actor same_clock same rise = record {
     left = record {
       links = p.left.links;

@@ -2,9 +2,11 @@
 use Rattle.std.proofs.Common.{◌≡◌, ◌⊎◌, inl, inr, ℕ, ◌+◌, ◌==◌, List, [], ◌∷◌, ◌++◌, length, Bool, true, false, if◌then◌else◌, Option, Some, None, Result, Ok, Err, refl, sym, subst}
 use Rattle.pb_wire.specs.declared.payload.PayloadType.{PayloadType}
 use Rattle.series_model.specs.declared.sample.Query.{Query}
+use Rattle.disk_model.specs.declared.disk.ReadAt.{Ghosts as OfFile}
 use Rattle.act_model.specs.declared.acts.Act.{Act}
 use Rattle.act_model.specs.declared.acts.Act.TheVariants.{Register, Pause, Resume, Rename, Flush, Names, Details}
 use Rattle.act_model.specs.declared.acts.Answer.TheVariants as answer
+use Rattle.act_model.specs.declared.actor.Actor.{Ghosts as OfActor}
 use Rattle.act_model.specs.History.{Done, Entry}
 use Rattle.act_model.specs.Reply.{Reply}
 use Rattle.act_model.specs.Roles.{is_of_link}
@@ -26,7 +28,7 @@ use Rattle.retrieval_query.specs.Pinning.{FailsToPin, GivesUp}
 use Rattle.retrieval_query.specs.Retrieving.{Ends, ReadsPinned, given_up}
 use Rattle.service.specs.declared.format.Format.{Format}
 use Rattle.service.specs.declared.format.Format.TheVariants as format
-use Rattle.service.specs.declared.replied.Replied.{Replied}
+use Rattle.service.specs.declared.served.Served.{Served}
 use Rattle.service.specs.Data.{MakesActs}
 use Rattle.service.specs.Requests.{Replies, RepliesCall, RepliesTo}
 use Rattle.service.specs.Serving.{MakesOnly}
@@ -146,65 +148,58 @@ follows_of_link asked seen (d ∷ done) f = (next_asks asked seen d.act f.0, fol
 
 -- ANY REQUEST
 
-module _ {A : Type 0} (number : A → ℕ) (between : A → List Entry → A → Type 0) (is_spent : A → Type 0)
-    (joined : (a b c : A) (xs ys : List Entry) → between a xs b → between b ys c → between a (xs ++ ys) c)
-    (stays : (a b : A) (entries : List Entry) → between a entries b → number b ≡ number a) where
-  fails_makes : (old new : A) (name : List ℕ) (query : Query) (why : PinErr) → FailsToPin number between is_spent old name query why new → MakesOnly number between is_of_link old new
-  fails_makes old new name query pin_err.NoSuchVariable f = makes number between old new _ f (refl, tt)
-  fails_makes old new name query pin_err.DiskFault f = makes number between old new _ f (refl, tt)
-  fails_makes old new name query pin_err.Spent f = makes number between old new [] f.0 tt
-  fails_makes old new name query pin_err.Memory (inl f) = makes number between old new [] f tt
-  fails_makes old new name query pin_err.Memory (inr f) = makes number between old new _ f (refl, tt)
+module _ {A R : Type 0} (actor : OfActor A R)
+    (joined : (a b c : A) (xs ys : List Entry) → actor.between a xs b → actor.between b ys c → actor.between a (xs ++ ys) c)
+    (stays : (a b : A) (entries : List Entry) → actor.between a entries b → actor.number b ≡ actor.number a) where
+  fails_makes : (old new : A) (name : List ℕ) (query : Query) (why : PinErr) → FailsToPin actor.number actor.between actor.is_spent old name query why new → MakesOnly actor is_of_link old new
+  fails_makes old new name query pin_err.NoSuchVariable f = makes actor old new _ f (refl, tt)
+  fails_makes old new name query pin_err.DiskFault f = makes actor old new _ f (refl, tt)
+  fails_makes old new name query pin_err.Spent f = makes actor old new [] f.0 tt
+  fails_makes old new name query pin_err.Memory (inl f) = makes actor old new [] f tt
+  fails_makes old new name query pin_err.Memory (inr f) = makes actor old new _ f (refl, tt)
 
-  gives_up_makes : (old new : A) (pin : ℕ) → GivesUp number between is_spent old pin new → MakesOnly number between is_of_link old new
-  gives_up_makes old new pin g = makes number between old new g.unpin g.made (unpin_of_link pin g.unpin (is_spent new) g.is)
+  gives_up_makes : (old new : A) (pin : ℕ) → GivesUp actor.number actor.between actor.is_spent old pin new → MakesOnly actor is_of_link old new
+  gives_up_makes old new pin g = makes actor old new g.unpin g.made (unpin_of_link pin g.unpin (actor.is_spent new) g.is)
 
-  reads_makes : {R : Type 0} (telling : Bool) (faults : R → ℕ) (ty : PayloadType) (old new : A) (pin : ℕ) (rose : Type 0) (result : Retrieved R) → ReadsPinned number between is_spent telling faults ty old pin rose result new → MakesOnly number between is_of_link old new
-  reads_makes telling faults ty old new pin rose result r =
-      makes_more number between joined stays old r.stopped new
-      (makes number between old r.stopped (openings pin 0 r.told ++ r.failed) r.made
-      (of_link-append (openings pin 0 r.told) r.failed (openings_of_link pin 0 r.told) (failed_of_link telling faults ty pin r.told r.failed r.unpin (is_spent r.stopped ⊎ is_spent new) rose result r.ends)))
-      (makes number between r.stopped new r.unpin r.unpinned (unpin_of_link pin r.unpin (is_spent new) r.is))
+  reads_makes : (file : OfFile R) (ty : PayloadType) (old new : A) (pin : ℕ) (rose : Type 0) (result : Retrieved R) → ReadsPinned actor.number actor.between actor.is_spent file.tells file.faults ty old pin rose result new → MakesOnly actor is_of_link old new
+  reads_makes file ty old new pin rose result r =
+      makes_more actor joined stays old r.stopped new
+      (makes actor old r.stopped (openings pin 0 r.told ++ r.failed) r.made
+      (of_link-append (openings pin 0 r.told) r.failed (openings_of_link pin 0 r.told) (failed_of_link file.tells file.faults ty pin r.told r.failed r.unpin (actor.is_spent r.stopped ⊎ actor.is_spent new) rose result r.ends)))
+      (makes actor r.stopped new r.unpin r.unpinned (unpin_of_link pin r.unpin (actor.is_spent new) r.is))
 
-  data_makes : {R : Type 0} (telling : Bool) (faults : R → ℕ) (rose : Type 0) (old new : A) (a b : Option (List ℕ)) (form : Format) (version : ℕ) (name : List ℕ) (query : Query) (result : Retrieved R)
-      → MakesActs number between is_spent telling faults rose old a new b form version name query result → MakesOnly number between is_of_link old new
-  data_makes telling faults rose old new a b form version name query result (inl r) = fails_makes old new name query r.why r.fails
-  data_makes telling faults rose old new a b form version name query result (inr (inl r)) =
-      makes_more number between joined stays old r.pinned new (makes number between old r.pinned _ r.pins (refl, tt)) (gives_up_makes r.pinned new r.pin r.loses.gives_up)
-  data_makes telling faults rose old new a b form version name query result (inr (inr (mid, out, r))) =
-      makes_more number between joined stays old r.pinned new (makes number between old r.pinned _ r.pins (refl, tt)) (reads_makes telling faults r.about.ty r.pinned new r.pin rose result r.reads)
+  data_makes : (file : OfFile R) (rose : Type 0) (old new : A) (a b : Option (List ℕ)) (form : Format) (version : ℕ) (name : List ℕ) (query : Query) (result : Retrieved R)
+      → MakesActs actor file rose old a new b form version name query result → MakesOnly actor is_of_link old new
+  data_makes file rose old new a b form version name query result (inl r) = fails_makes old new name query r.why r.fails
+  data_makes file rose old new a b form version name query result (inr (inl r)) =
+      makes_more actor joined stays old r.pinned new (makes actor old r.pinned _ r.pins (refl, tt)) (gives_up_makes r.pinned new r.pin r.loses.gives_up)
+  data_makes file rose old new a b form version name query result (inr (inr (mid, out, r))) =
+      makes_more actor joined stays old r.pinned new (makes actor old r.pinned _ r.pins (refl, tt)) (reads_makes file r.about.ty r.pinned new r.pin rose result r.reads)
 
-  proceeds_makes : (asked : WebCall) (old new : A) (goes_on : Next → Type 0) → Proceeds number between asked old goes_on new → MakesOnly number between is_of_link old new
-  proceeds_makes asked old new goes_on p = makes number between old new p.done p.made (follows_of_link asked [] p.done p.follows)
+  proceeds_makes : (asked : WebCall) (old new : A) (goes_on : Next → Type 0) → Proceeds actor.number actor.between asked old goes_on new → MakesOnly actor is_of_link old new
+  proceeds_makes asked old new goes_on p = makes actor old new p.done p.made (follows_of_link asked [] p.done p.follows)
 
-  serves_makes : (asked : WebCall) (old new : A) (end : Result (Unit {0}) AdminErr) (a b : Option (List ℕ)) → Serves number between is_spent asked old end new a b → MakesOnly number between is_of_link old new
+  serves_makes : (asked : WebCall) (old new : A) (end : Result (Unit {0}) AdminErr) (a b : Option (List ℕ)) → Serves actor.number actor.between actor.is_spent asked old end new a b → MakesOnly actor is_of_link old new
   serves_makes asked old new (Ok done) a b s = proceeds_makes asked old new _ s.1
   serves_makes asked old new (Err admin.SinkFault) a b s = by_reply _ s.1
     where
-      by_reply : {X : Type 0} (goes_on : Next → Type 0) → Proceeds number between asked old goes_on new ⊎ (X × Proceeds number between asked old AsksMore new × is_spent new) → MakesOnly number between is_of_link old new
+      by_reply : {X : Type 0} (goes_on : Next → Type 0) → Proceeds actor.number actor.between asked old goes_on new ⊎ (X × Proceeds actor.number actor.between asked old AsksMore new × actor.is_spent new) → MakesOnly actor is_of_link old new
       by_reply goes_on (inl p) = proceeds_makes asked old new goes_on p
       by_reply goes_on (inr p) = proceeds_makes asked old new _ p.1
   serves_makes asked old new (Err admin.Spent) a b s = proceeds_makes asked old new _ s.0
   serves_makes asked old new (Err admin.Memory) a b s = proceeds_makes asked old new _ s.0
 
-  call_makes : {R : Type 0} (telling : Bool) (faults : R → ℕ) (rose : Type 0) (version : ℕ) (old new : A) (asked : WebCall) (a b : Option (List ℕ)) (result : Replied R)
-      → RepliesCall number between is_spent (MakesActs number between is_spent telling faults rose old a new b) version old asked a result new b → MakesOnly number between is_of_link old new
-  call_makes telling faults rose version old new (call.Raw pv query op) a b result (end, is, made) = data_makes telling faults rose old new a b (format.Raw op) version pv query end made
-  call_makes telling faults rose version old new (call.Json pv query op) a b result (end, is, made) = data_makes telling faults rose old new a b (format.Json op) version pv query end made
-  call_makes telling faults rose version old new call.AllPvs a b result (end, is, s) = serves_makes call.AllPvs old new end a b s
-  call_makes telling faults rose version old new (call.PvStatus pv) a b result (end, is, s) = serves_makes (call.PvStatus pv) old new end a b s
-  call_makes telling faults rose version old new (call.PvDetails pv) a b result (end, is, s) = serves_makes (call.PvDetails pv) old new end a b s
-  call_makes telling faults rose version old new (call.ArchivePv pv about) a b result (end, is, s) = serves_makes (call.ArchivePv pv about) old new end a b s
-  call_makes telling faults rose version old new (call.PausePv pv) a b result (end, is, s) = serves_makes (call.PausePv pv) old new end a b s
-  call_makes telling faults rose version old new (call.ResumePv pv) a b result (end, is, s) = serves_makes (call.ResumePv pv) old new end a b s
-  call_makes telling faults rose version old new (call.RenamePv pv newname) a b result (end, is, s) = serves_makes (call.RenamePv pv newname) old new end a b s
-  call_makes telling faults rose version old new call.FlushAll a b result (end, is, s) = serves_makes call.FlushAll old new end a b s
+  call_makes : (file : OfFile R) (rose : Type 0) (version : ℕ) (old new : A) (asked : WebCall) (a b : Option (List ℕ)) (result : Served R)
+      → RepliesCall actor (MakesActs actor file rose old a new b) version old asked a result new b → MakesOnly actor is_of_link old new
+  call_makes file rose version old new (call.Raw pv query op) a b result (end, is, made) = data_makes file rose old new a b (format.Raw op) version pv query end made
+  call_makes file rose version old new (call.Json pv query op) a b result (end, is, made) = data_makes file rose old new a b (format.Json op) version pv query end made
+  call_makes file rose version old new other a b result (end, is, s) = serves_makes other old new end a b s
 
-  to_makes : {R : Type 0} (telling : Bool) (faults : R → ℕ) (rose : Type 0) (old new : A) (request : Result Request HttpErr) (a b : Option (List ℕ)) (result : Replied R)
-      → RepliesTo number between is_spent rose (MakesActs number between is_spent telling faults rose old a new b) old request a result new b → MakesOnly number between is_of_link old new
-  to_makes telling faults rose old new (Ok request) a b result r = call_makes telling faults rose request.version old new request.call a b result r
-  to_makes telling faults rose old new (Err why) a b result r = makes number between old new [] r.0 tt
+  to_makes : (file : OfFile R) (rose : Type 0) (old new : A) (request : Result Request HttpErr) (a b : Option (List ℕ)) (result : Served R)
+      → RepliesTo actor rose (MakesActs actor file rose old a new b) old request a result new b → MakesOnly actor is_of_link old new
+  to_makes file rose old new (Ok request) a b result r = call_makes file rose request.version old new request.call a b result r
+  to_makes file rose old new (Err why) a b result r = makes actor old new [] r.0 tt
 
-  pub request_makes : {R : Type 0} (telling : Bool) (faults : R → ℕ) (rose : Type 0) (old new : A) (left a b : Option (List ℕ)) (result : Replied R)
-      → Replies number between is_spent rose (MakesActs number between is_spent telling faults rose old a new b) left old a result new b → MakesOnly number between is_of_link old new
-  request_makes telling faults rose old new left a b result r = to_makes telling faults rose old new r.request a b result r.replies
+  pub request_makes : (file : OfFile R) (rose : Type 0) (old new : A) (left a b : Option (List ℕ)) (result : Served R)
+      → Replies actor rose (MakesActs actor file rose old a new b) left old a result new b → MakesOnly actor is_of_link old new
+  request_makes file rose old new left a b result r = to_makes file rose old new r.request a b result r.replies

@@ -38,6 +38,7 @@ use Rattle.serving.specs.Acting.{Acts, EndsInTurns, HasFlushFault}
 use Rattle.serving.proofs.Histories.{all_parts, ends_in_turns, flush_fault}
 use Rattle.service.proofs.Tending.{give_length}
 use Rattle.service.specs.declared.door.DoorServed.{DoorServed}
+use Rattle.service.specs.declared.door.DoorServed.TheVariants as door
 use Rattle.service.specs.declared.posts.Ended.{Ended}
 use Rattle.service.specs.declared.posts.Ended.TheVariants as ended
 use Rattle.service.specs.declared.posts.Post.{Post}
@@ -45,7 +46,7 @@ use Rattle.service.specs.declared.posts.Task.{Task}
 use Rattle.service.specs.declared.posts.Task.TheVariants as task
 use Rattle.service.specs.declared.served.Kind.{Kind}
 use Rattle.service.specs.declared.service.AllServed.{AllServed}
-use Rattle.service.specs.Service.{AllWorked, CanWork, DoneAt, PostWork, ServesPost, ShiftEnds, TaskEnds, Tends, WorkDone, at_door, at_flushes, at_moves, fails, fails_to_write, finds_none, lacks, told_of, with_end}
+use Rattle.service.specs.Service.{AllWorked, CanWork, DoneAt, PostWork, ServesPost, ShiftEnds, TaskEnds, Tends, WorkDone, at_flushes, at_moves, fails, fails_to_write, finds_none, lacks, told_of, with_end}
 
 -- WHAT IS TOLD
 
@@ -144,10 +145,11 @@ module _ (A S B C D : Type 0) (Serves : Kind → ℕ → A → Option Moments �
 
   shift_goes : (old new : Pass S Act B) (end : Ended) → ShiftEnds steps reply rooms old end new → Goes steps rooms old new
   shift_goes old new ended.NotBegun s = absurd s
-  shift_goes old new (ended.Door lacked failed) s = s.goes
+  shift_goes old new (ended.Door (door.Done lacked failed)) s = s.goes
   shift_goes old new (ended.Flushed end) s = absurd s
   shift_goes old new (ended.Moved end) s = absurd s
-  shift_goes old new ended.Spent s = s.goes
+  shift_goes old new (ended.Door door.Spent) s = s.goes
+  shift_goes old new ended.Spent s = absurd s
 
   task_goes : (what : Task) (old new : Pass S Act B) (clock clock' : Option Moments) (end : Ended) → TaskEnds steps reply rooms what old clock end new clock' → Goes steps rooms old new
   task_goes task.Flush old new clock clock' end s = s.2.acts.goes
@@ -186,7 +188,7 @@ module _ (A S B C D : Type 0) (Serves : Kind → ℕ → A → Option Moments �
     posts_are : ps ≡ map (λ (w : PW). w.post) works
     posts_are' : ps' ≡ map (λ (w : PW). w.post') works
     places_are : map (λ (w : PW). w.place) works ≡ map (λ (w : W). w.place) ws
-    ends_are : ends ws' ≡ map (λ (w : PW). at_door w.served) works
+    ends_are : ends ws' ≡ map (λ (w : PW). ended.Door w.served) works
 
   works_of : (ws : List W) (ps : List (Post D)) (ws' : List W) (ps' : List (Post D)) → AllGive At ws ps ws' ps' → length ws ≡ length ps → Works ws ps ws' ps'
   works_of [] [] ws' ps' g many =
@@ -208,7 +210,7 @@ module _ (A S B C D : Type 0) (Serves : Kind → ℕ → A → Option Moments �
         posts_are = ap (λ (qs : List (Post D)). p ∷ qs) rest.posts_are;
         posts_are' = ap (λ (qs : List (Post D)). p' ∷ qs) rest.posts_are';
         places_are = ap (λ (ks : List ℕ). w.place ∷ ks) rest.places_are;
-        ends_are = both w'.end (at_door d.served) (ends ws') (map (λ (v : PW). at_door v.served) rest.works) d.end_is rest.ends_are;
+        ends_are = both w'.end (ended.Door d.served) (ends ws') (map (λ (v : PW). ended.Door v.served) rest.works) d.end_is rest.ends_are;
       }
 
   -- what is told, said of those at the doors and of the last two
@@ -279,10 +281,11 @@ module _ (A S B C D : Type 0) (Serves : Kind → ℕ → A → Option Moments �
       where
         by_end : (end : Ended) → ShiftEnds steps reply rooms w.pass end w'.pass → finds_none end ≡ false → Acts steps reply rooms w.pass IsShift w'.pass
         by_end ended.NotBegun s n = absurd s
-        by_end (ended.Door lacked failed) s n = s
+        by_end (ended.Door (door.Done lacked failed)) s n = s
         by_end (ended.Flushed end) s n = absurd s
         by_end (ended.Moved end) s n = absurd s
-        by_end ended.Spent s n = absurd cc
+        by_end (ended.Door door.Spent) s n = absurd cc
+        by_end ended.Spent s n = absurd s
 
     abbrev flushed : Result FlushEnd Spent
     flushed = d.flushes.0
@@ -349,10 +352,10 @@ module _ (A S B C D : Type 0) (Serves : Kind → ℕ → A → Option Moments �
           let split : map place d.at ++ d.flusher.place ∷ d.mover.place ∷ [] ≡ range_with_len 0 count = sym (ap (λ (ws : List W). map place ws) d.old_is ∙ map-append place d.at (d.flusher ∷ d.mover ∷ [])) ∙ placed in
           let front = front_of_range 0 count (map place d.at) (d.flusher.place ∷ d.mover.place ∷ []) split in
           let as_many : length (map place d.at) ≡ length k.works = sym (ap length k.places_are) ∙ length-map k.works (λ (w : PW). w.place) in
-          let ends_are : ends news ≡ map (λ (w : PW). at_door w.served) k.works ++ at_flushes flushed ∷ at_moves moved ∷ [] =
+          let ends_are : ends news ≡ map (λ (w : PW). ended.Door w.served) k.works ++ at_flushes flushed ∷ at_moves moved ∷ [] =
           ap (λ (ws : List W). ends ws) d.new_is ∙ (map-append (λ (w : W). w.end) d.at' (d.flusher' ∷ d.mover' ∷ [])
           ∙ (ap (λ (es : List Ended). es ++ d.flusher'.end ∷ d.mover'.end ∷ []) k.ends_are
-          ∙ ap (λ (es : List Ended). map (λ (w : PW). at_door w.served) k.works ++ es) (both d.flusher'.end (at_flushes flushed) (d.mover'.end ∷ []) (at_moves moved ∷ []) d.flushes.1 (ap (λ (e : Ended). e ∷ []) d.moves.1)))) in
+          ∙ ap (λ (es : List Ended). map (λ (w : PW). ended.Door w.served) k.works ++ es) (both d.flusher'.end (at_flushes flushed) (d.mover'.end ∷ []) (at_moves moved ∷ []) d.flushes.1 (ap (λ (e : Ended). e ∷ []) d.moves.1)))) in
           record {
             works = k.works;
             posts = k.posts_are;
@@ -400,10 +403,11 @@ module _ (A S B C D : Type 0) (Serves : Kind → ℕ → A → Option Moments �
         where
           by_end : (end : Ended) → ShiftEnds steps reply rooms w.pass end w'.pass → finds_none end ≡ true → most_acts ≤ length (known w'.pass)
           by_end ended.NotBegun s n = absurd s
-          by_end (ended.Door lacked failed) s n = absurd cc
+          by_end (ended.Door (door.Done lacked failed)) s n = absurd cc
           by_end (ended.Flushed end) s n = absurd s
           by_end (ended.Moved end) s n = absurd s
-          by_end ended.Spent s n = s.all
+          by_end (ended.Door door.Spent) s n = s.all
+          by_end ended.Spent s n = absurd s
 
       flush_full : (f : Result FlushEnd Spent) (a b : Pass S Act B) (clock clock' : Option Moments) → Tends steps reply rooms FlushesTo a clock f b clock' → finds_none (at_flushes f) ≡ true → most_acts ≤ length (known b)
       flush_full (Ok end) a b clock clock' t n = absurd cc
@@ -431,10 +435,11 @@ module _ (A S B C D : Type 0) (Serves : Kind → ℕ → A → Option Moments �
         where
           by_end : (end : Ended) → ShiftEnds steps reply rooms w.pass end w'.pass → fails_to_write end ≡ false
           by_end ended.NotBegun s = absurd s
-          by_end (ended.Door lacked failed) s = refl
+          by_end (ended.Door (door.Done lacked failed)) s = refl
           by_end (ended.Flushed end) s = absurd s
           by_end (ended.Moved end) s = absurd s
-          by_end ended.Spent s = refl
+          by_end (ended.Door door.Spent) s = refl
+          by_end ended.Spent s = absurd s
 
       mover_writes : (f : Result MoverEnd Spent) → fails_to_write (at_moves f) ≡ false
       mover_writes (Ok end) = refl

@@ -3,12 +3,14 @@ use Rattle.std.specs.Prelude.{◌≡◌, ◌⊎◌, ℕ, ◌==◌, IfSome, Bool,
 use Rattle.std.specs.Io.KnownBytes.{Appends}
 use Rattle.edge_io.specs.Stream.{AppendsFront}
 use Rattle.edge_io.specs.declared.stream.Failed.{Failed}
+use Rattle.disk_model.specs.declared.disk.ReadAt.{Ghosts as OfFile}
 use Rattle.series_model.specs.declared.sample.Query.{Query}
 use Rattle.series_model.specs.declared.sample.Sample.{Sample}
 use Rattle.pb_messages.specs.declared.about.About.{About}
 use Rattle.act_model.specs.declared.acts.Act.TheVariants.{Pin}
+use Rattle.act_model.specs.declared.actor.Actor.{Ghosts as OfActor}
 use Rattle.act_model.specs.declared.acts.Answer.TheVariants.{Pinned}
-use Rattle.act_model.specs.History.{Entry, MadeOne}
+use Rattle.act_model.specs.History.{MadeOne}
 use Rattle.act_model.specs.Machine.{Machine}
 use Rattle.act_model.specs.Out.{Subject}
 use Rattle.http_front.specs.declared.reply.Head.{Head}
@@ -107,16 +109,16 @@ Tells (Some why) rose end fault memory a result b =
     ((result ≡ end) × Appends a b (refused_reply why)) ⊎ ((result ≡ fault) × rose × AppendsFront a b (refused_reply why)) ⊎ ((result ≡ memory) × (b ≡ a))
 
 -- No pin was made: why, by just which act; and what was replied.
-pub record RefusesPin {A R : Type 0} (number : A → ℕ) (between : A → List Entry → A → Type 0) (is_spent : A → Type 0) (rose : Type 0) (old : A) (name : List ℕ) (query : Query) (a : Option (List ℕ)) (result : Retrieved R) (new : A) (b : Option (List ℕ)) : Type 0 where
+pub record RefusesPin {A R : Type 0} (actor : OfActor A R) (rose : Type 0) (old : A) (name : List ℕ) (query : Query) (a : Option (List ℕ)) (result : Retrieved R) (new : A) (b : Option (List ℕ)) : Type 0 where
   pub why : PinErr
-  pub fails : FailsToPin number between is_spent old name query why new
+  pub fails : FailsToPin actor.number actor.between actor.is_spent old name query why new
   pub tells : Tells (pin_refusal why) rose (ended_by why) SinkFault Memory a result b
 
 -- A PIN
 
 -- A write of the head failed, and a front of it went out, or memory ran out for it, and nothing did. The pin was given up; just this act was made, unless none was left for it.
-pub record LosesHead {A R : Type 0} (number : A → ℕ) (between : A → List Entry → A → Type 0) (is_spent : A → Type 0) (rose : Type 0) (head : Head) (old : A) (pin : ℕ) (a : Option (List ℕ)) (result : Retrieved R) (new : A) (b : Option (List ℕ)) : Type 0 where
-  pub gives_up : GivesUp number between is_spent old pin new
+pub record LosesHead {A R : Type 0} (actor : OfActor A R) (rose : Type 0) (head : Head) (old : A) (pin : ℕ) (a : Option (List ℕ)) (result : Retrieved R) (new : A) (b : Option (List ℕ)) : Type 0 where
+  pub gives_up : GivesUp actor.number actor.between actor.is_spent old pin new
   pub why : ((result ≡ SinkFault) × rose × AppendsFront a b (head_text head)) ⊎ ((result ≡ Memory) × (b ≡ a))
 
 -- the head went out, and the rest of the reply is as `Rest` says, from what the link had then
@@ -124,37 +126,37 @@ abbrev pub Heads : Format → ℕ → Option (List ℕ) → (Option (List ℕ) �
 Heads format version a Rest = (mid : Option (List ℕ)) × Appends a mid (head_text (data_head format version)) × Rest mid
 
 -- what comes of a pin that was made
-abbrev pub RepliesPinned : {A R : Type 0} → (A → ℕ) → (A → List Entry → A → Type 0) → (A → Type 0) → Type 0 → Format → ℕ → A → PinnedVariable → Option (List ℕ) → (Option (List ℕ) → Type 0) → Retrieved R → A → Option (List ℕ) → Type 0
-RepliesPinned number between is_spent rose format version old v a Rest result new b = LosesHead number between is_spent rose (data_head format version) old v.pin a result new b ⊎ Heads format version a Rest
+abbrev pub RepliesPinned : {A R : Type 0} → OfActor A R → Type 0 → Format → ℕ → A → PinnedVariable → Option (List ℕ) → (Option (List ℕ) → Type 0) → Retrieved R → A → Option (List ℕ) → Type 0
+RepliesPinned actor rose format version old v a Rest result new b = LosesHead actor rose (data_head format version) old v.pin a result new b ⊎ Heads format version a Rest
 
 -- The pin was made, and the head was lost.
-pub record PinsAndLoses {A R : Type 0} (number : A → ℕ) (between : A → List Entry → A → Type 0) (is_spent : A → Type 0) (rose : Type 0) (head : Head) (old : A) (name : List ℕ) (query : Query) (a : Option (List ℕ)) (result : Retrieved R) (new : A) (b : Option (List ℕ)) : Type 0 where
+pub record PinsAndLoses {A R : Type 0} (actor : OfActor A R) (rose : Type 0) (head : Head) (old : A) (name : List ℕ) (query : Query) (a : Option (List ℕ)) (result : Retrieved R) (new : A) (b : Option (List ℕ)) : Type 0 where
   pub pin : ℕ
   pub name_told : List ℕ
   pub about : About
   pub pieces : ℕ
   pub tail : List Sample
   pub pinned : A
-  pub pins : MadeOne number between old (Pin name query) (Pinned pin name_told about pieces tail) pinned
-  pub loses : LosesHead number between is_spent rose head pinned pin a result new b
+  pub pins : MadeOne actor.number actor.between old (Pin name query) (Pinned pin name_told about pieces tail) pinned
+  pub loses : LosesHead actor rose head pinned pin a result new b
 
 -- What a request for data came to. No pin was made; or the head was lost; or the head went out once the pin was made, and the rest of the
 -- reply is as `Rest` says.
-abbrev pub RepliesData : {A R : Type 0} → (A → ℕ) → (A → List Entry → A → Type 0) → (A → Type 0) → Type 0 → Format → ℕ → A → List ℕ → Query → Option (List ℕ) → (Option (List ℕ) → Type 0) → Retrieved R → A → Option (List ℕ) → Type 0
-RepliesData number between is_spent rose format version old name query a Rest result new b =
-    RefusesPin number between is_spent rose old name query a result new b ⊎ PinsAndLoses number between is_spent rose (data_head format version) old name query a result new b ⊎ Heads format version a Rest
+abbrev pub RepliesData : {A R : Type 0} → OfActor A R → Type 0 → Format → ℕ → A → List ℕ → Query → Option (List ℕ) → (Option (List ℕ) → Type 0) → Retrieved R → A → Option (List ℕ) → Type 0
+RepliesData actor rose format version old name query a Rest result new b =
+    RefusesPin actor rose old name query a result new b ⊎ PinsAndLoses actor rose (data_head format version) old name query a result new b ⊎ Heads format version a Rest
 
 -- Just the acts of a retrieval were made, and behind the head stands its text.
-abbrev pub MakesActs : {A R : Type 0} → (A → ℕ) → (A → List Entry → A → Type 0) → (A → Type 0) → Bool → (R → ℕ) → Type 0 → A → Option (List ℕ) → A → Option (List ℕ) → Format → ℕ → List ℕ → Query → Retrieved R → Type 0
-MakesActs number between is_spent tells faults rose old a new b format version name query result =
-    RepliesData number between is_spent rose format version old name query a (λ mid. IsPinned number between is_spent tells faults (FinishesBody format version) (BreaksBody format version) rose old name query mid result new b) result new b
+abbrev pub MakesActs : {A R : Type 0} → OfActor A R → OfFile R → Type 0 → A → Option (List ℕ) → A → Option (List ℕ) → Format → ℕ → List ℕ → Query → Retrieved R → Type 0
+MakesActs actor file rose old a new b format version name query result =
+    RepliesData actor rose format version old name query a (λ mid. IsPinned actor.number actor.between actor.is_spent file.tells file.faults (FinishesBody format version) (BreaksBody format version) rose old name query mid result new b) result new b
 
 -- From this state on, behind the head stands the answer over all that was accepted of the variable as it was pinned.
-abbrev pub IsWhole : {A R : Type 0} → (A → ℕ) → (A → List Entry → A → Type 0) → (A → Type 0) → Type 0 → Machine → A → Option (List ℕ) → A → Option (List ℕ) → Format → ℕ → List ℕ → Query → Retrieved R → Type 0
-IsWhole number between is_spent rose m old a new b format version name query result =
-    RepliesData number between is_spent rose format version old name query a (λ mid. WritesAnswer number between (FinishesBody format version) (BreaksBody format version) old m name query mid result new b) result new b
+abbrev pub IsWhole : {A R : Type 0} → OfActor A R → Type 0 → Machine → A → Option (List ℕ) → A → Option (List ℕ) → Format → ℕ → List ℕ → Query → Retrieved R → Type 0
+IsWhole actor rose m old a new b format version name query result =
+    RepliesData actor rose format version old name query a (λ mid. WritesAnswer actor.number actor.between (FinishesBody format version) (BreaksBody format version) old m name query mid result new b) result new b
 
 -- Both hold of one and the same end: just those acts were made, and from each state whose files are told on the answer is whole.
-pub record AnswersData {A R : Type 0} (number : A → ℕ) (between : A → List Entry → A → Type 0) (is_spent : A → Type 0) (stands : A → Machine → Type 0) (tells : Bool) (faults : R → ℕ) (rose : Type 0) (old : A) (a : Option (List ℕ)) (new : A) (b : Option (List ℕ)) (format : Format) (version : ℕ) (name : List ℕ) (query : Query) (result : Retrieved R) : Type 0 where
-  pub acts : MakesActs number between is_spent tells faults rose old a new b format version name query result
-  pub whole : IsTrue tells → (m : Machine) → stands old m → m.told ≡ true → ReadsHeaders m.rule → IsWhole number between is_spent rose m old a new b format version name query result
+pub record AnswersData {A R : Type 0} (actor : OfActor A R) (file : OfFile R) (rose : Type 0) (old : A) (a : Option (List ℕ)) (new : A) (b : Option (List ℕ)) (format : Format) (version : ℕ) (name : List ℕ) (query : Query) (result : Retrieved R) : Type 0 where
+  pub acts : MakesActs actor file rose old a new b format version name query result
+  pub whole : IsTrue file.tells → (m : Machine) → actor.stands old m → m.told ≡ true → ReadsHeaders m.rule → IsWhole actor rose m old a new b format version name query result

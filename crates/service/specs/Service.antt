@@ -37,8 +37,7 @@ use Rattle.service.specs.declared.served.Kind.{Kind}
 
 -- one at a door
 abbrev pub at_door : DoorServed → Ended
-at_door (door.Done lacked failed) = ended.Door lacked failed
-at_door door.Spent = ended.Spent
+at_door served = ended.Door served
 
 -- the flusher
 abbrev pub at_flushes : Result FlushEnd Spent → Ended
@@ -53,7 +52,7 @@ at_moves (Err spent) = ended.Spent
 -- WHAT IS TOLD
 
 abbrev pub fails : Ended → Bool
-fails (ended.Door lacked failed) = failed
+fails (ended.Door (door.Done lacked failed)) = failed
 fails other = false
 
 abbrev pub fails_to_write : Ended → Bool
@@ -61,11 +60,12 @@ fails_to_write (ended.Flushed FailsToWrite) = true
 fails_to_write other = false
 
 abbrev pub finds_none : Ended → Bool
+finds_none (ended.Door door.Spent) = true
 finds_none ended.Spent = true
 finds_none other = false
 
 abbrev pub lacks : Ended → Bool
-lacks (ended.Door lacked failed) = lacked
+lacks (ended.Door (door.Done lacked failed)) = lacked
 lacks (ended.Flushed LacksMemory) = true
 lacks (ended.Moved MeetsNoMemory) = true
 lacks other = false
@@ -110,10 +110,11 @@ module _ {S B : Type 0} (steps : S → ℕ → ℕ → Act → B → S → Type 
   -- one at a door: a shift
   abbrev pub ShiftEnds : Pass S Act B → Ended → Pass S Act B → Type 0
   ShiftEnds old ended.NotBegun new = ⊥
-  ShiftEnds old (ended.Door lacked failed) new = Acts steps reply rooms old IsShift new
+  ShiftEnds old (ended.Door (door.Done lacked failed)) new = Acts steps reply rooms old IsShift new
+  ShiftEnds old (ended.Door door.Spent) new = FindsNone old new
   ShiftEnds old (ended.Flushed end) new = ⊥
   ShiftEnds old (ended.Moved end) new = ⊥
-  ShiftEnds old ended.Spent new = FindsNone old new
+  ShiftEnds old ended.Spent new = ⊥
 
   -- One beside the doors made just such acts, at the moments that its clock gave. Where it tells that no act was left, the pass knows as many
   -- as there can be.
@@ -142,7 +143,7 @@ module _ {A S B D : Type 0} (Serves : Kind → ℕ → A → Option Moments → 
     pub seat : A
     pub seat' : A
     pub served : DoorServed
-    pub end_is : end ≡ at_door served
+    pub end_is : end ≡ ended.Door served
     pub pass_is : pass_of seat ≡ pass
     pub pass_is' : pass_of seat' ≡ pass'
     pub rooms_are : rooms_of seat ≡ rooms
@@ -209,7 +210,7 @@ module _ {A S B C D : Type 0} (Serves : Kind → ℕ → A → Option Moments �
       pub mid : Pass S Act B
       pub drawn : Drawn steps rooms old mid (map (λ (w : PostWork A C D). pass_of w.seat) works ++ flusher ∷ mover ∷ [])
       pub met : Met steps rooms mid new (map (λ (w : PostWork A C D). pass_of w.seat') works ++ flusher' ∷ mover' ∷ [])
-      pub told_is : told ≡ told_of (map (λ (w : PostWork A C D). at_door w.served) works ++ at_flushes flushed ∷ at_moves moved ∷ [])
+      pub told_is : told ≡ told_of (map (λ (w : PostWork A C D). ended.Door w.served) works ++ at_flushes flushed ∷ at_moves moved ∷ [])
 
     -- All worked, or nobody did.
     abbrev pub ServesAll : AllServed → Pass S Act B → Pass S Act B → List (Post D) → List (Post D) → Type 0

@@ -3,17 +3,18 @@ use Rattle.std.specs.Prelude.{◌≡◌, ◌⊎◌, ℕ, List, [], ◌++◌, Opt
 use Rattle.std.specs.Io.KnownBytes.{Appends}
 use Rattle.edge_io.specs.Moments.{Moments}
 use Rattle.edge_io.specs.Stream.{Rose}
+use Rattle.edge_io.specs.declared.stream.Source.{Ghosts as OfSource}
+use Rattle.edge_io.specs.declared.stream.Sink.{Ghosts as OfSink}
+use Rattle.disk_model.specs.declared.disk.ReadAt.{Ghosts as OfFile}
 use Rattle.line_escape.specs.Unescaping.{HasNoNewline}
 use Rattle.act_model.specs.declared.acts.Act.{Act}
+use Rattle.act_model.specs.declared.actor.Actor.{Ghosts as OfActor}
 use Rattle.act_model.specs.History.{Done, Entry, Made}
-use Rattle.act_model.specs.Machine.{Machine}
 use Rattle.act_model.specs.Roles.{AllAre}
 use Rattle.feed_session.specs.declared.end.Fed.{Fed}
 use Rattle.feed_session.specs.declared.end.Fed.TheVariants as fed
 use Rattle.feed_session.specs.Replies.{Feeds}
 use Rattle.admin_commands.specs.Refusals.{refusal_of}
-use Rattle.service.specs.declared.replied.Replied.{Replied}
-use Rattle.service.specs.declared.replied.Replied.TheVariants as replied
 use Rattle.service.specs.Data.{AnswersData}
 use Rattle.service.specs.Requests.{Replies}
 use Rattle.service.specs.declared.served.FeedTold.TheVariants as told
@@ -33,23 +34,9 @@ fed_as {R} fed.DiskFault = served.Fed told.DiskFault
 fed_as {R} fed.Spent = served.Spent
 fed_as {R} fed.Memory = served.Memory
 
--- a request, by its end
-abbrev pub replied_as : {R : Type 0} → Replied R → Served R
-replied_as {R} replied.Finished = served.Finished
-replied_as {R} (replied.Refused why) = served.Refused why
-replied_as {R} (replied.ReadFault failed) = served.ReadFault failed
-replied_as {R} (replied.Damaged name at) = served.Damaged name at
-replied_as {R} replied.PeerFault = served.PeerFault
-replied_as {R} replied.Spent = served.Spent
-replied_as {R} replied.Memory = served.Memory
-
 -- the feed ended so, of which this holds
 abbrev pub EndsFeed : {R : Type 0} → (Fed → Type 0) → Served R → Type 0
 EndsFeed {R} Holds result = (end : Fed) × (result ≡ fed_as end) × Holds end
-
--- the request ended so, of which this holds
-abbrev pub EndsRequest : {R : Type 0} → (Replied R → Type 0) → Served R → Type 0
-EndsRequest {R} Holds result = (end : Replied R) × (result ≡ replied_as end) × Holds end
 
 -- bytes that are no request are refused for a cause that a reply can tell
 abbrev pub IsToldWhy : {R : Type 0} → Served R → Type 0
@@ -61,24 +48,25 @@ IsToldWhy other = Unit {0}
 -- One request was read of the link and replied to: just its acts were made, in order, and what was written is the reply over their answers.
 -- From a state whose files are told on, behind the head of a request for data stands the answer over all that was accepted of the variable
 -- as it was pinned.
-abbrev pub ServesRequest : {A L R : Type 0} → (A → ℕ) → (A → List Entry → A → Type 0) → (A → Type 0) → (A → Machine → Type 0) → Bool → (R → ℕ) → (L → Option (List ℕ)) → (L → Option (List ℕ)) → (L → ℕ) → A → L → Served R → A → L → Type 0
-ServesRequest number between is_spent stands tells faults left written write_faults old was result new l =
-    EndsRequest (λ end. Replies number between is_spent (Rose (write_faults was) (write_faults l)) (AnswersData number between is_spent stands tells faults (Rose (write_faults was) (write_faults l)) old (written was) new (written l)) (left was) old (written was) end new (written l)) result
+abbrev pub ServesRequest : {A L R : Type 0} → OfActor A R → OfFile R → OfSource L → OfSink L → A → L → Served R → A → L → Type 0
+ServesRequest actor file source sink old was result new l =
+    let rose : Type 0 = Rose (sink.write_faults was) (sink.write_faults l) in
+    Replies actor rose (AnswersData actor file rose old (sink.written was) new (sink.written l)) (source.left was) old (sink.written was) result new (sink.written l)
 
 -- A link was served, by its kind: a feed to its end, or one request, for which the clock isn't read.
-abbrev pub ServesLink : {A L R : Type 0} → (A → ℕ) → (A → List Entry → A → Type 0) → (A → Type 0) → (A → Machine → Type 0) → Bool → (R → ℕ) → (L → Option (List ℕ)) → (L → Option (List ℕ)) → (L → ℕ) → Kind → A → Option Moments → L → Served R → A → Option Moments → L → Type 0
-ServesLink number between is_spent stands tells faults left written write_faults Feed old clock was result new clock' l = EndsFeed (λ end. Feeds number between end old new (left was) clock clock' (written was) (written l)) result
-ServesLink number between is_spent stands tells faults left written write_faults Http old clock was result new clock' l = ServesRequest number between is_spent stands tells faults left written write_faults old was result new l × (clock' ≡ clock)
+abbrev pub ServesLink : {A L R : Type 0} → OfActor A R → OfFile R → OfSource L → OfSink L → Kind → A → Option Moments → L → Served R → A → Option Moments → L → Type 0
+ServesLink actor file source sink Feed old clock was result new clock' l = EndsFeed (λ end. Feeds actor.number actor.between end old new (source.left was) clock clock' (sink.written was) (sink.written l)) result
+ServesLink actor file source sink Http old clock was result new clock' l = ServesRequest actor file source sink old was result new l × (clock' ≡ clock)
 
 -- no act was left at a state that led to this one
-abbrev pub WasSpent : {A : Type 0} → (A → List Entry → A → Type 0) → (A → Type 0) → A → Type 0
-WasSpent {A} between is_spent new = (earlier : A) × is_spent earlier × (entries : List Entry) × between earlier entries new
+abbrev pub WasSpent : {A R : Type 0} → OfActor A R → A → Type 0
+WasSpent {A} actor new = (earlier : A) × actor.is_spent earlier × (entries : List Entry) × actor.between earlier entries new
 
 -- THE ACTS
 
 -- just some acts were made, each of them such
-abbrev pub MakesOnly : {A : Type 0} → (A → ℕ) → (A → List Entry → A → Type 0) → (Act → Bool) → A → A → Type 0
-MakesOnly number between such old new = (acts : List Done) × Made number between old acts new × AllAre such acts
+abbrev pub MakesOnly : {A R : Type 0} → OfActor A R → (Act → Bool) → A → A → Type 0
+MakesOnly actor such old new = (acts : List Done) × Made actor.number actor.between old acts new × AllAre such acts
 
 -- WHAT WAS WRITTEN
 

@@ -5,9 +5,9 @@ ghost use Rattle.act_model.specs.Machine.{Machine};
 ghost use Rattle.retrieval_query.specs.Pinning.{AnswersPinned, IsHeld};
 ghost use Rattle.service.specs.Data.{BreaksBody, BreaksText, Closes, FinishesBody, FinishesText, IsWide};
 
-use act_model::Actor;
 use crate::format::Format;
 use crate::text::give_text;
+use act_model::Actor;
 use disk_model::ReadAt;
 use edge_io::Sink;
 use http_front::ChunkedSink;

@@ -7,10 +7,10 @@ ghost use Rattle.retrieval_query.specs.Retrieving.{ReadsHeaders};
 ghost use Rattle.service.specs.Data.{BreaksBody, FinishesBody, IsWhole, IsWide, MakesActs, RepliesPinned, Tells};
 ghost use Rattle.service.specs.Data.{pin_refusal};
 
-use act_model::{Actor, OutErr};
-use admin_commands::{Refusal, refuse};
 use crate::body::give_body;
 use crate::format::Format;
+use act_model::{Actor, OutErr};
+use admin_commands::{Refusal, refuse};
 use disk_model::ReadAt;
 use edge_io::Sink;
 use http_front::{Head, write_head};
@@ -37,11 +37,10 @@ pub fn reply_with_data<A: Actor, K: Sink>(
     requires stands { (m : Machine) × A.stands actor.old m }
     requires wide { IsWide format }
     requires version { version ≤ 1 }
-    ensures acts { MakesActs A.number A.between A.is_spent A.Reader.tells A.Reader.faults
-        (Rose (K.write_faults link.old) (K.write_faults link.new)) actor.old (K.written link.old) actor.new
-        (K.written link.new) format version name.now query result }
+    ensures acts { MakesActs A.Actor A.Reader.ReadAt (Rose (K.write_faults link.old) (K.write_faults link.new))
+        actor.old (K.written link.old) actor.new (K.written link.new) format version name.now query result }
     ensures whole { IsTrue A.Reader.tells → (m : Machine) → A.stands actor.old m → m.told ≡ true → ReadsHeaders m.rule
-        → IsWhole A.number A.between A.is_spent (Rose (K.write_faults link.old) (K.write_faults link.new)) m actor.old
+        → IsWhole A.Actor (Rose (K.write_faults link.old) (K.write_faults link.new)) m actor.old
         (K.written link.old) actor.new (K.written link.new) format version name.now query result }
     ensures faults { K.write_faults link.old ≤ K.write_faults link.new }
     ensures stands { (n : Machine) × A.stands actor.new n }
@@ -65,10 +64,9 @@ fn reply_pinned<A: Actor, K: Sink>(
     requires held { IsHeld A.number A.stands actor.old variable }
     requires wide { IsWide format }
     requires version { version ≤ 1 }
-    ensures replies { RepliesPinned A.number A.between A.is_spent
-        (Rose (K.write_faults link.old) (K.write_faults link.new)) format version actor.old variable
-        (K.written link.old) (λ mid. AnswersPinned A.number A.between A.is_spent A.stands A.Reader.tells A.Reader.faults
-        (FinishesBody format version) (BreaksBody format version)
+    ensures replies { RepliesPinned A.Actor (Rose (K.write_faults link.old) (K.write_faults link.new)) format version
+        actor.old variable (K.written link.old) (λ mid. AnswersPinned A.number A.between A.is_spent A.stands
+        A.Reader.tells A.Reader.faults (FinishesBody format version) (BreaksBody format version)
         (Rose (K.write_faults link.old) (K.write_faults link.new)) actor.old variable query mid
         result actor.new (K.written link.new)) result actor.new (K.written link.new) }
     ensures faults { K.write_faults link.old ≤ K.write_faults link.new }

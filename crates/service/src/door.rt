@@ -6,11 +6,10 @@ ghost use Rattle.act_model.specs.Roles.{is_of_link};
 ghost use Rattle.service.specs.Serving.{MakesOnly, WasSpent};
 ghost use Rattle.service.specs.Doors.{AsksOn, AsksToEnd, InTurn, IsServed, IsTold, ServesDoorAt, ServesLinkTold};
 
-use act_model::{Actor, Spent, ask_door_done};
-use crate::gate::Gate;
+use crate::gate::{Gate, PostHook};
 use crate::link::serve_link;
 use crate::served::{Kind, Served};
-use disk_model::ReadAt;
+use act_model::{Actor, Spent, ask_door_done};
 use edge_io::{Clock, Door, Next};
 use std::alloc::Global;
 use std::sync::Wait;
@@ -39,8 +38,7 @@ enum Asked {
 /// Serves all links of a door, each of one kind: asks the door for them to its end, serves each, gives each back, and
 /// then counts the door off. It goes on behind a fault of a link and behind want of memory.
 ///
-/// `gate` is told of each link before and after it is served, with the number `post`, and of a damaged
-/// file that ended its reply.
+/// `hook` is told of each link before and after it is served, and of a damaged file that ended its reply.
 ///
 /// The acts are those of the links' sessions, one session after another, and then one `DoorDone`. `Spent` comes only
 /// where no act was left for one of them.
@@ -51,17 +49,15 @@ pub fn serve_door<A: Actor, W: Door, C: Clock, G: Gate>(
     kind: Kind,
     door: &mut W,
     clock: &mut C,
-    gate: &G,
-    post: usize,
+    hook: &PostHook<'_, G>,
 ) -> DoorServed
     requires stands { (m : Machine) × A.stands actor.old m }
-    ensures serves { ServesDoorAt A.number A.between A.is_spent A.stands A.Reader.tells A.Reader.faults W.L.Source.left
-        W.L.Sink.written W.L.Source.read_faults W.L.Sink.write_faults W.is_closed W.door_faults W.ledger
-        (IsTold G.entered G.left gate.now) kind post actor.old
-        (C.coming clock.old) door.old result actor.new (C.coming clock.new) door.new }
+    ensures serves { ServesDoorAt A.Actor A.Reader.ReadAt W.L.Source W.L.Sink W.Door
+        (IsTold G.Gate hook.now.gate.now) kind hook.now.post actor.old (C.coming clock.old) door.old
+        result actor.new (C.coming clock.new) door.new }
     ensures stands { (n : Machine) × A.stands actor.new n }
 {
-    match serve_links(rt, alloc, actor, kind, door, clock, gate, post) {
+    match serve_links(rt, alloc, actor, kind, door, clock, hook) {
         DoorServed::Done { lacked, failed } => match ask_door_done(actor) {
             Ok(_) => DoorServed::Done { lacked, failed },
             Err(Spent) => DoorServed::Spent,
@@ -78,23 +74,20 @@ fn serve_links<A: Actor, W: Door, C: Clock, G: Gate>(
     kind: Kind,
     door: &mut W,
     clock: &mut C,
-    gate: &G,
-    post: usize,
+    hook: &PostHook<'_, G>,
 ) -> DoorServed
     requires stands { (m : Machine) × A.stands actor.old m }
-    ensures acts { MakesOnly A.number A.between is_of_link actor.old actor.new }
-    ensures asked { AsksToEnd W.is_closed W.door_faults W.ledger
-        (IsServed kind W.L.Sink.written W.L.Source.read_faults W.L.Sink.write_faults)
+    ensures acts { MakesOnly A.Actor is_of_link actor.old actor.new }
+    ensures asked { AsksToEnd W.Door (IsServed kind W.L.Sink.written W.L.Source.read_faults W.L.Sink.write_faults)
         (λ links results. InTurn (IsFresh W.L.Sink.written W.L.Source.read_faults W.L.Sink.write_faults)
-        (ServesLinkTold A.number A.between A.is_spent A.stands A.Reader.tells A.Reader.faults W.L.Source.left
-        W.L.Sink.written W.L.Sink.write_faults (IsTold G.entered G.left gate.now post) kind)
-        actor.old (C.coming clock.old) links results actor.new (C.coming clock.new)) door.old result door.new }
-    ensures spent { result ≡ DoorServed.Spent → WasSpent A.between A.is_spent actor.new }
+        (ServesLinkTold A.Actor A.Reader.ReadAt W.L.Source W.L.Sink (IsTold G.Gate hook.now.gate.now hook.now.post)
+        kind) actor.old (C.coming clock.old) links results actor.new (C.coming clock.new)) door.old result door.new }
+    ensures spent { result ≡ DoorServed.Spent → WasSpent A.Actor actor.new }
     ensures stands { (n : Machine) × A.stands actor.new n }
 {
     let mut lacked = false;
     for _ in rt.forever() {
-        match serve_next(rt, alloc, actor, kind, door, clock, gate, post, lacked) {
+        match serve_next(rt, alloc, actor, kind, door, clock, hook, lacked) {
             Asked::Link { lacked: now } => lacked = now,
             Asked::End { failed } => return DoorServed::Done { lacked, failed },
             Asked::Spent => return DoorServed::Spent,
@@ -111,28 +104,26 @@ fn serve_next<A: Actor, W: Door, C: Clock, G: Gate>(
     kind: Kind,
     door: &mut W,
     clock: &mut C,
-    gate: &G,
-    post: usize,
+    hook: &PostHook<'_, G>,
     lacked: bool,
 ) -> Asked
     requires stands { (m : Machine) × A.stands actor.old m }
-    ensures acts { MakesOnly A.number A.between is_of_link actor.old actor.new }
-    ensures asked { AsksOn W.is_closed W.door_faults W.ledger
-        (IsFresh W.L.Sink.written W.L.Source.read_faults W.L.Sink.write_faults)
+    ensures acts { MakesOnly A.Actor is_of_link actor.old actor.new }
+    ensures asked { AsksOn W.Door (IsFresh W.L.Sink.written W.L.Source.read_faults W.L.Sink.write_faults)
         (IsServed kind W.L.Sink.written W.L.Source.read_faults W.L.Sink.write_faults)
-        (λ was served link. ServesLinkTold A.number A.between A.is_spent A.stands A.Reader.tells A.Reader.faults
-        W.L.Source.left W.L.Sink.written W.L.Sink.write_faults (IsTold G.entered G.left gate.now post) kind actor.old
-        (C.coming clock.old) was served actor.new (C.coming clock.new) link) door.old lacked result door.new }
+        (λ was served link. ServesLinkTold A.Actor A.Reader.ReadAt W.L.Source W.L.Sink
+        (IsTold G.Gate hook.now.gate.now hook.now.post) kind actor.old (C.coming clock.old) was
+        served actor.new (C.coming clock.new) link) door.old lacked result door.new }
     ensures stays { (failed : Bool) → result ≡ Asked.End failed
         → (actor.new ≡ actor.old) × (C.coming clock.new ≡ C.coming clock.old) }
-    ensures spent { result ≡ Asked.Spent → WasSpent A.between A.is_spent actor.new }
+    ensures spent { result ≡ Asked.Spent → WasSpent A.Actor actor.new }
     ensures stands { (n : Machine) × A.stands actor.new n }
 {
     match door.next() {
         Next::Link(mut link) => {
-            gate.enter(post);
+            hook.enter();
             let served = serve_link(rt, alloc, actor, kind, &mut link, clock);
-            tell_served(gate, post, &served);
+            hook.leave(&served);
             door.back(link);
             match served {
                 Served::Spent => return Asked::Spent,
@@ -143,14 +134,4 @@ fn serve_next<A: Actor, W: Door, C: Clock, G: Gate>(
         Next::Closed => Asked::End { failed: false },
         Next::Failed => Asked::End { failed: true },
     }
-}
-
-// Tells the gate of a link that was served, and of the damage that its reply met.
-fn tell_served<R: ReadAt, G: Gate>(gate: &G, post: usize, served: &Served<R>)
-    ensures told { G.left gate.now post }
-{
-    if let Served::Damaged { name, at } = served {
-        gate.damaged(name, *at);
-    }
-    gate.leave(post);
 }

@@ -1,7 +1,8 @@
 // What is told of links as they are served.
 ghost use Rattle.std.specs.Prelude.{ℕ};
 
-use disk_model::FileName;
+use crate::served::Served;
+use disk_model::{FileName, ReadAt};
 
 /// Is told of each link that is served.
 pub trait Gate {
@@ -35,4 +36,30 @@ impl Gate for NoGate {
     fn enter(&self, _post: usize) {}
 
     fn leave(&self, _post: usize) {}
+}
+
+/// A gate, and the post of whose links it is told.
+#[derive(Drop)]
+pub struct PostHook<'a, G> {
+    pub gate: &'a G,
+    pub post: usize,
+}
+
+impl<G: Gate> PostHook<'_, G> {
+    // A link is to be served.
+    pub(crate) fn enter(&self)
+        ensures told { G.entered self.now.gate.now self.now.post }
+    {
+        self.gate.enter(self.post);
+    }
+
+    // The link was served so. It is told of the damage that a reply met too.
+    pub(crate) fn leave<R: ReadAt>(&self, served: &Served<R>)
+        ensures told { G.left self.now.gate.now self.now.post }
+    {
+        if let Served::Damaged { name, at } = served {
+            self.gate.damaged(name, *at);
+        }
+        self.gate.leave(self.post);
+    }
 }

@@ -19,13 +19,13 @@
 //! Model: `specs/Data.antt` says what the reply to a request for data is, and `specs/Requests.antt` what is promised of
 //! a request as a whole; `specs/Serving.antt` what the service of a link came to, by what its session says, and what
 //! its peer was written; `specs/Completeness.antt` what a link is given where nothing fails; `specs/Doors.antt` what a
-//! worker leaves of its door, and `specs/Seats.antt` the same where it acts by turns of a pass; `specs/Service.antt`
-//! what all who worked leave, and what is told of them.
+//! worker leaves of its door, and `specs/Seats.antt` what an actor tells that acts by turns of a pass;
+//! `specs/Service.antt` what all who worked leave, and what is told of them.
 //!
 //! Caveats: a link of HTTP serves one request. A feed registers no variables. A reply's text isn't kept, so memory
 //! doesn't grow with the answer.
 //!
-//! Tests: the built program's run the two sessions, and `service_tests` whole services, over the board of `turn_tests`.
+//! Tests: the built program's run the two sessions, and `unit_cases` whole services, over a board of its own.
 #![tactic(auto)]
 
 mod body;
@@ -35,7 +35,6 @@ mod format;
 mod gate;
 mod link;
 mod posts;
-mod replied;
 mod request;
 mod served;
 mod service;
@@ -44,10 +43,9 @@ mod text;
 pub use data::reply_with_data;
 pub use door::{DoorServed, serve_door};
 pub use format::Format;
-pub use gate::{Gate, NoGate};
+pub use gate::{Gate, NoGate, PostHook};
 pub use link::serve_link;
 pub use posts::Post;
-pub use replied::Replied;
 pub use request::reply_to_request;
 pub use served::{FeedTold, Kind, Served};
 pub use service::{AllServed, serve_all};

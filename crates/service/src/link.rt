@@ -6,10 +6,10 @@ ghost use Rattle.act_model.specs.Roles.{is_of_link};
 ghost use Rattle.service.specs.Completeness.{CompletesLink, IsQuiet};
 ghost use Rattle.service.specs.Serving.{HasBegun, IsToldWhy, MakesOnly, ServesLink, WasSpent};
 
-use act_model::Actor;
-use act_model::laws::soundness_stays;
 use crate::request::reply_to_request;
 use crate::served::{Kind, Served};
+use act_model::Actor;
+use act_model::laws::soundness_stays;
 use edge_io::{Clock, Link};
 use feed_session::feed;
 use std::alloc::Global;
@@ -32,27 +32,24 @@ pub fn serve_link<A: Actor, L: Link, C: Clock>(
     clock: &mut C,
 ) -> Served<A::Reader>
     requires stands { (m : Machine) × A.stands actor.old m }
-    ensures serves { ServesLink A.number A.between A.is_spent A.stands A.Reader.tells A.Reader.faults L.Source.left
-        L.Sink.written L.Sink.write_faults kind actor.old
+    ensures serves { ServesLink A.Actor A.Reader.ReadAt L.Source L.Sink kind actor.old
         (C.coming clock.old) link.old result actor.new (C.coming clock.new) link.new }
-    ensures acts { MakesOnly A.number A.between is_of_link actor.old actor.new }
+    ensures acts { MakesOnly A.Actor is_of_link actor.old actor.new }
     ensures begun { HasBegun kind result (L.Sink.written link.old) (L.Sink.written link.new) }
     ensures refused { IsToldWhy result }
     ensures peer_fault { result ≡ Served.PeerFault
         → Rose (L.Source.read_faults link.old) (L.Source.read_faults link.new)
         ⊎ Rose (L.Sink.write_faults link.old) (L.Sink.write_faults link.new) }
     ensures write_faults { L.Sink.write_faults link.old ≤ L.Sink.write_faults link.new }
-    ensures spent { result ≡ Served.Spent → WasSpent A.between A.is_spent actor.new }
+    ensures spent { result ≡ Served.Spent → WasSpent A.Actor actor.new }
     ensures complete { (m : Machine) → A.stands actor.old m
-        → IsQuiet A.between A.is_spent A.stands A.Reader.faults L.Source.read_faults L.Sink.write_faults m actor.old
-        link.old result actor.new link.new
-        → CompletesLink A.number A.between A.is_spent A.Reader.tells L.Source.left L.Sink.written kind m actor.old
-        link.old result actor.new link.new }
+        → IsQuiet A.Actor A.Reader.ReadAt L.Source L.Sink m actor.old link.old result actor.new link.new
+        → CompletesLink A.Actor A.Reader.ReadAt L.Source L.Sink kind m actor.old link.old result actor.new link.new }
     ensures stands { (n : Machine) × A.stands actor.new n }
 {
     soundness_stays();
     match kind {
         Kind::Feed => Served::from(feed(rt, alloc, actor, link, clock)),
-        Kind::Http => Served::from(reply_to_request(alloc, actor, link)),
+        Kind::Http => reply_to_request(alloc, actor, link),
     }
 }

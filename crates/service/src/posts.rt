@@ -1,18 +1,18 @@
 // The posts of a service, and the tasks beside them.
 ghost use Rattle.std.specs.Prelude.{◌≡◌};
 ghost use Rattle.act_model.specs.Machine.{Machine};
-ghost use Rattle.act_model.specs.Reply.{reply_of};
 ghost use Rattle.archive_actors.specs.Seats.{StandsFor};
-ghost use Rattle.archive_actors.specs.Steps.{SharedStands, SharedStep};
-ghost use Rattle.service.specs.Doors.{IsTold};
-ghost use Rattle.service.specs.Seats.{ServesDoorSeated, seat_pass, seat_rooms};
+ghost use Rattle.archive_actors.specs.Steps.{SharedStands};
+ghost use Rattle.service.specs.Doors.{IsTold, ServesDoorAt};
+ghost use Rattle.service.specs.Seats.{seat, seat_pass, seat_rooms};
 ghost use Rattle.service.specs.Service.{DoorEnds, ShiftEnds, TaskEnds};
+ghost use Rattle.serving.specs.Acting.{room_reply, room_steps};
 
+use crate::door::{DoorServed, serve_door};
+use crate::gate::{Gate, PostHook};
+use crate::served::Kind;
 use act_model::{Actor, Spent};
 use archive_actors::{Applies, Seated, Shared};
-use crate::door::{DoorServed, serve_door};
-use crate::gate::Gate;
-use crate::served::Kind;
 use edge_io::{Clock, Door};
 use serving::{FlushEnd, MoverEnd, flush_to_end, move_to_end};
 use std::alloc::Global;
@@ -32,11 +32,10 @@ pub struct Post<W> {
 pub(crate) enum Ended {
     // It hasn't begun.
     NotBegun,
-    // A door was served to its end: whether memory ran out for a link, and whether the door failed.
-    Door { lacked: bool, failed: bool },
+    Door(DoorServed),
     Flushed(FlushEnd),
     Moved(MoverEnd),
-    // No act was left.
+    // No act was left for one who flushed or moved.
     Spent,
 }
 
@@ -47,66 +46,7 @@ pub(crate) enum Task {
     Move,
 }
 
-// Serves a door by turns of a pass.
-fn serve_seated<R: Wait, X: Applies, C: Clock, W: Door, G: Gate>(
-    rt: &R,
-    alloc: Global,
-    rooms: &Rooms<Shared<X>>,
-    pass: &mut Pass<Shared<X>>,
-    kind: Kind,
-    door: &mut W,
-    clock: &mut C,
-    gate: &G,
-    post: usize,
-) -> Ended
-    requires stands { (m : Machine)
-        × StandsFor (SharedStep X.stands X.leaves X.Reader.tells X.Reader.bytes X.Reader.faults)
-        (SharedStands X.stands) rooms.now pass.old m }
-    ensures acts { ShiftEnds (SharedStep X.stands X.leaves X.Reader.tells X.Reader.bytes X.Reader.faults)
-        (reply_of X.Reader.tells X.Reader.bytes X.Reader.faults) rooms.now pass.old result pass.new }
-    ensures door { DoorEnds
-        (ServesDoorSeated rt.now (SharedStep X.stands X.leaves X.Reader.tells X.Reader.bytes X.Reader.faults)
-        (SharedStands X.stands) (reply_of X.Reader.tells X.Reader.bytes X.Reader.faults) X.Reader.tells X.Reader.faults
-        W.L.Source.left W.L.Sink.written W.L.Source.read_faults W.L.Sink.write_faults W.is_closed W.door_faults W.ledger
-        (IsTold G.entered G.left gate.now)) seat_pass seat_rooms rooms.now kind post pass.old
-        (C.coming clock.old) door.old result pass.new (C.coming clock.new) door.new }
-{
-    let mut actor = Seated::new(rt, rooms, pass);
-    match serve_door(rt, alloc, &mut actor, kind, door, clock, gate, post) {
-        DoorServed::Done { lacked, failed } => Ended::Door { lacked, failed },
-        DoorServed::Spent => Ended::Spent,
-    }
-}
-
-// Flushes or moves by turns of a pass.
-fn tend_seated<R: Wait, X: Applies, C: Clock>(
-    rt: &R,
-    rooms: &Rooms<Shared<X>>,
-    pass: &mut Pass<Shared<X>>,
-    task: Task,
-    clock: &mut C,
-) -> Ended
-    requires stands { (m : Machine)
-        × StandsFor (SharedStep X.stands X.leaves X.Reader.tells X.Reader.bytes X.Reader.faults)
-        (SharedStands X.stands) rooms.now pass.old m }
-    ensures { TaskEnds (SharedStep X.stands X.leaves X.Reader.tells X.Reader.bytes X.Reader.faults)
-        (reply_of X.Reader.tells X.Reader.bytes X.Reader.faults) rooms.now task pass.old
-        (C.coming clock.old) result pass.new (C.coming clock.new) }
-{
-    let mut actor = Seated::new(rt, rooms, pass);
-    match task {
-        Task::Flush => match flush_to_end(rt, &mut actor, clock) {
-            Ok(end) => return Ended::Flushed(end),
-            Err(Spent) => return Ended::Spent,
-        },
-        Task::Move => match move_to_end(rt, &mut actor, clock) {
-            Ok(end) => return Ended::Moved(end),
-            Err(Spent) => return Ended::Spent,
-        },
-    }
-}
-
-/// The work of one at a post.
+/// The work of one at a post: serves its door by turns of a pass.
 pub(crate) fn serve_post<R: Wait, X: Applies, C: Clock, W: Door, G: Gate>(
     rt: &R,
     alloc: Global,
@@ -116,34 +56,33 @@ pub(crate) fn serve_post<R: Wait, X: Applies, C: Clock, W: Door, G: Gate>(
     post: &mut Post<W>,
 )
     requires stands { (m : Machine)
-        × StandsFor (SharedStep X.stands X.leaves X.Reader.tells X.Reader.bytes X.Reader.faults)
-        (SharedStands X.stands) rooms.now worker.old.pass m }
-    ensures acts { ShiftEnds (SharedStep X.stands X.leaves X.Reader.tells X.Reader.bytes X.Reader.faults)
-        (reply_of X.Reader.tells X.Reader.bytes X.Reader.faults)
+        × StandsFor (room_steps X.Applies X.Reader.ReadAt) (SharedStands X.stands) rooms.now worker.old.pass m }
+    ensures acts { ShiftEnds (room_steps X.Applies X.Reader.ReadAt) (room_reply X.Reader.ReadAt)
         rooms.now worker.old.pass worker.new.end worker.new.pass }
-    ensures door { DoorEnds
-        (ServesDoorSeated rt.now (SharedStep X.stands X.leaves X.Reader.tells X.Reader.bytes X.Reader.faults)
-        (SharedStands X.stands) (reply_of X.Reader.tells X.Reader.bytes X.Reader.faults) X.Reader.tells X.Reader.faults
-        W.L.Source.left W.L.Sink.written W.L.Source.read_faults W.L.Sink.write_faults W.is_closed W.door_faults W.ledger
-        (IsTold G.entered G.left gate.now))
-        seat_pass seat_rooms rooms.now post.old.kind worker.old.place worker.old.pass (C.coming worker.old.clock)
-        post.old.door worker.new.end worker.new.pass (C.coming worker.new.clock) post.new.door }
+    ensures door { DoorEnds (ServesDoorAt (seat rt.now X.Applies X.Reader.ReadAt) X.Reader.ReadAt W.L.Source W.L.Sink
+        W.Door (IsTold G.Gate gate.now)) seat_pass seat_rooms rooms.now post.old.kind
+        worker.old.place worker.old.pass (C.coming worker.old.clock) post.old.door
+        worker.new.end worker.new.pass (C.coming worker.new.clock) post.new.door }
     ensures kind { post.new.kind ≡ post.old.kind }
 {
-    worker.end = serve_seated(
+    let hook = PostHook {
+        gate,
+        post: worker.place,
+    };
+    let mut actor = Seated::new(rt, rooms, &mut worker.pass);
+    let served = serve_door(
         rt,
         alloc,
-        rooms,
-        &mut worker.pass,
+        &mut actor,
         post.kind,
         &mut post.door,
         &mut worker.clock,
-        gate,
-        worker.place,
+        &hook,
     );
+    worker.end = Ended::Door(served);
 }
 
-/// The work of one who flushes or moves.
+/// The work of one who flushes or moves, by turns of a pass.
 pub(crate) fn tend<R: Wait, X: Applies, C: Clock>(
     rt: &R,
     rooms: &Rooms<Shared<X>>,
@@ -151,11 +90,20 @@ pub(crate) fn tend<R: Wait, X: Applies, C: Clock>(
     task: &mut Task,
 )
     requires stands { (m : Machine)
-        × StandsFor (SharedStep X.stands X.leaves X.Reader.tells X.Reader.bytes X.Reader.faults)
-        (SharedStands X.stands) rooms.now worker.old.pass m }
-    ensures { TaskEnds (SharedStep X.stands X.leaves X.Reader.tells X.Reader.bytes X.Reader.faults)
-        (reply_of X.Reader.tells X.Reader.bytes X.Reader.faults) rooms.now task.old worker.old.pass
-        (C.coming worker.old.clock) worker.new.end worker.new.pass (C.coming worker.new.clock) }
+        × StandsFor (room_steps X.Applies X.Reader.ReadAt) (SharedStands X.stands) rooms.now worker.old.pass m }
+    ensures { TaskEnds (room_steps X.Applies X.Reader.ReadAt) (room_reply X.Reader.ReadAt) rooms.now
+        task.old worker.old.pass (C.coming worker.old.clock)
+        worker.new.end worker.new.pass (C.coming worker.new.clock) }
 {
-    worker.end = tend_seated(rt, rooms, &mut worker.pass, *task, &mut worker.clock);
+    let mut actor = Seated::new(rt, rooms, &mut worker.pass);
+    match *task {
+        Task::Flush => match flush_to_end(rt, &mut actor, &mut worker.clock) {
+            Ok(end) => worker.end = Ended::Flushed(end),
+            Err(Spent) => worker.end = Ended::Spent,
+        },
+        Task::Move => match move_to_end(rt, &mut actor, &mut worker.clock) {
+            Ok(end) => worker.end = Ended::Moved(end),
+            Err(Spent) => worker.end = Ended::Spent,
+        },
+    }
 }

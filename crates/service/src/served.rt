@@ -1,11 +1,12 @@
 // How a connection was served.
 ghost use Rattle.std.specs.Prelude.{◌≡◌};
 
-use crate::replied::Replied;
+use admin_commands::AdminErr;
 use disk_model::{FileName, ReadAt};
 use feed_session::Fed;
 use http_front::HttpErr;
 use pb_lines::ChunkFault;
+use retrieval_query::Retrieved;
 
 /// What a connection is for.
 #[derive(Clone, Copy, Debug, PartialEq, Eq)]
@@ -47,7 +48,7 @@ pub enum Served<R: ReadAt> {
     Damaged { name: FileName, at: u64 },
     /// A read or a write of the link failed, which it has counted.
     PeerFault,
-    /// No act is left.
+    /// No act is left. Of a request, the whole reply that says so was written, or a front of the reply.
     Spent,
     /// Memory ran out.
     Memory,
@@ -84,20 +85,34 @@ impl<R: ReadAt> From<Fed> for Served<R> {
     }
 }
 
-impl<R: ReadAt> From<Replied<R>> for Served<R> {
-    ghost use Rattle.service.specs.Serving.{replied_as};
+impl<R: ReadAt> From<Retrieved<R>> for Served<R> {
+    ghost use Rattle.service.specs.Requests.{replied_by};
 
-    ghost from_gives = { λ end served. served ≡ replied_as end };
+    ghost from_gives = { λ end served. served ≡ replied_by end };
 
-    fn from(end: Replied<R>) -> Served<R> {
+    fn from(end: Retrieved<R>) -> Served<R> {
         match end {
-            Replied::Finished => Served::Finished,
-            Replied::Refused { why } => Served::Refused { why },
-            Replied::ReadFault { failed } => Served::ReadFault { failed },
-            Replied::Damaged { name, at } => Served::Damaged { name, at },
-            Replied::PeerFault => Served::PeerFault,
-            Replied::Spent => Served::Spent,
-            Replied::Memory => Served::Memory,
+            Retrieved::Finished { .. } => Served::Finished,
+            Retrieved::NoSuchVariable => Served::Finished,
+            Retrieved::ReadFault { failed } => Served::ReadFault { failed },
+            Retrieved::Damaged { name, at } => Served::Damaged { name, at },
+            Retrieved::SinkFault => Served::PeerFault,
+            Retrieved::Spent => Served::Spent,
+            Retrieved::Memory => Served::Memory,
+        }
+    }
+}
+
+impl<R: ReadAt> From<AdminErr> for Served<R> {
+    ghost use Rattle.service.specs.Requests.{stopped_by};
+
+    ghost from_gives = { λ err served. served ≡ stopped_by err };
+
+    fn from(err: AdminErr) -> Served<R> {
+        match err {
+            AdminErr::SinkFault => Served::PeerFault,
+            AdminErr::Spent => Served::Spent,
+            AdminErr::Memory => Served::Memory,
         }
     }
 }

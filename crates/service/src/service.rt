@@ -5,19 +5,19 @@ ghost use Rattle.turn_rooms.specs.Histories.{most_acts};
 ghost use Rattle.turn_rooms.specs.Passes.{IsLast, IsPassOf, known};
 ghost use Rattle.workers.specs.Left.{IsBack};
 ghost use Rattle.act_model.specs.Machine.{Machine};
-ghost use Rattle.act_model.specs.Reply.{reply_of};
 ghost use Rattle.archive_actors.specs.Seats.{StandsFor};
-ghost use Rattle.archive_actors.specs.Steps.{SharedStands, SharedStep};
-ghost use Rattle.service.specs.Doors.{IsTold};
-ghost use Rattle.service.specs.Seats.{ServesDoorSeated, seat_pass, seat_rooms};
+ghost use Rattle.archive_actors.specs.Steps.{SharedStands};
+ghost use Rattle.service.specs.Doors.{IsTold, ServesDoorAt};
+ghost use Rattle.service.specs.Seats.{seat, seat_pass, seat_rooms};
 ghost use Rattle.service.specs.Service.{CanWork, DoorEnds, NumbersSpent, ServesAll, ShiftEnds, TaskEnds, WorkDone};
 ghost use Rattle.service.specs.Service.{told_of, with_end};
-ghost use Rattle.serving.specs.Acting.{EndsInTurns, HasFlushFault};
+ghost use Rattle.serving.specs.Acting.{EndsInTurns, HasFlushFault, room_reply, room_steps};
 
-use act_model::Actor;
-use archive_actors::{Applies, Seated, Shared};
+use crate::door::DoorServed;
 use crate::gate::Gate;
 use crate::posts::{Ended, Post, Task, serve_post, tend};
+use act_model::Actor;
+use archive_actors::{Applies, Seated, Shared};
 use edge_io::{Clock, Door};
 use serving::{FlushEnd, MoverEnd};
 use std::alloc::Global;
@@ -46,7 +46,7 @@ fn with_end(told: AllServed, end: Ended) -> AllServed
 {
     match end {
         Ended::NotBegun => told,
-        Ended::Door { lacked, failed } => AllServed {
+        Ended::Door(DoorServed::Done { lacked, failed }) => AllServed {
             door_faults: told.door_faults + u64::from(failed),
             memory: told.memory || lacked,
             ..told
@@ -65,7 +65,7 @@ fn with_end(told: AllServed, end: Ended) -> AllServed
             ..told
         },
         Ended::Moved(_) => told,
-        Ended::Spent => AllServed {
+        Ended::Door(DoorServed::Spent) | Ended::Spent => AllServed {
             spent: true,
             ..told
         },
@@ -106,16 +106,12 @@ fn work_all<
 where
     X::Reader: Send,
     W::L: Send,
-    requires stand { All (CanWork (SharedStep X.stands X.leaves X.Reader.tells X.Reader.bytes X.Reader.faults)
-        (SharedStands X.stands) rooms.now) workers.old }
+    requires stand { All (CanWork (room_steps X.Applies X.Reader.ReadAt) (SharedStands X.stands) rooms.now)
+        workers.old }
     requires as_many { length workers.old ≡ length posts.old + 2 }
-    ensures { WorkDone
-        (ServesDoorSeated rt.now (SharedStep X.stands X.leaves X.Reader.tells X.Reader.bytes X.Reader.faults)
-        (SharedStands X.stands) (reply_of X.Reader.tells X.Reader.bytes X.Reader.faults) X.Reader.tells X.Reader.faults
-        W.L.Source.left W.L.Sink.written W.L.Source.read_faults W.L.Sink.write_faults W.is_closed W.door_faults W.ledger
-        (IsTold G.entered G.left gate.now))
-        seat_pass seat_rooms C.coming (SharedStep X.stands X.leaves X.Reader.tells X.Reader.bytes X.Reader.faults)
-        (reply_of X.Reader.tells X.Reader.bytes X.Reader.faults) rooms.now workers.old posts.old workers.new posts.new }
+    ensures { WorkDone (ServesDoorAt (seat rt.now X.Applies X.Reader.ReadAt) X.Reader.ReadAt W.L.Source W.L.Sink W.Door
+        (IsTold G.Gate gate.now)) seat_pass seat_rooms C.coming (room_steps X.Applies X.Reader.ReadAt)
+        (room_reply X.Reader.ReadAt) rooms.now workers.old posts.old workers.new posts.new }
 {
     let at_posts = posts.len();
     let (at_doors, beside) = workers.split_at_mut(at_posts);
@@ -124,10 +120,8 @@ where
         rt,
         &|worker: &mut Worker<Shared<X>, C, Ended>, task: &mut Task|
             requires { (m : Machine)
-                × StandsFor (SharedStep X.stands X.leaves X.Reader.tells X.Reader.bytes X.Reader.faults)
-                (SharedStands X.stands) rooms.now worker.now.pass m }
-            ensures { TaskEnds (SharedStep X.stands X.leaves X.Reader.tells X.Reader.bytes X.Reader.faults)
-                (reply_of X.Reader.tells X.Reader.bytes X.Reader.faults) rooms.entry.now
+                × StandsFor (room_steps X.Applies X.Reader.ReadAt) (SharedStands X.stands) rooms.now worker.now.pass m }
+            ensures { TaskEnds (room_steps X.Applies X.Reader.ReadAt) (room_reply X.Reader.ReadAt) rooms.entry.now
                 task.entry.now worker.entry.now.pass (C.coming worker.entry.now.clock)
                 worker.exit.now.end worker.exit.now.pass (C.coming worker.exit.now.clock) }
         { tend(rt, rooms, worker, task) },
@@ -135,17 +129,13 @@ where
         &mut tasks,
         &|worker: &mut Worker<Shared<X>, C, Ended>, post: &mut Post<W>|
             requires { (m : Machine)
-                × StandsFor (SharedStep X.stands X.leaves X.Reader.tells X.Reader.bytes X.Reader.faults)
-                (SharedStands X.stands) rooms.now worker.now.pass m }
-            ensures acts { ShiftEnds (SharedStep X.stands X.leaves X.Reader.tells X.Reader.bytes X.Reader.faults)
-                (reply_of X.Reader.tells X.Reader.bytes X.Reader.faults)
+                × StandsFor (room_steps X.Applies X.Reader.ReadAt) (SharedStands X.stands) rooms.now worker.now.pass m }
+            ensures acts { ShiftEnds (room_steps X.Applies X.Reader.ReadAt) (room_reply X.Reader.ReadAt)
                 rooms.entry.now worker.entry.now.pass worker.exit.now.end worker.exit.now.pass }
-            ensures door { DoorEnds (ServesDoorSeated rt.entry.now
-                (SharedStep X.stands X.leaves X.Reader.tells X.Reader.bytes X.Reader.faults) (SharedStands X.stands)
-                (reply_of X.Reader.tells X.Reader.bytes X.Reader.faults) X.Reader.tells X.Reader.faults W.L.Source.left
-                W.L.Sink.written W.L.Source.read_faults W.L.Sink.write_faults W.is_closed W.door_faults W.ledger
-                (IsTold G.entered G.left gate.entry.now)) seat_pass seat_rooms rooms.entry.now post.entry.now.kind
-                worker.entry.now.place worker.entry.now.pass (C.coming worker.entry.now.clock) post.entry.now.door
+            ensures door { DoorEnds (ServesDoorAt (seat rt.entry.now X.Applies X.Reader.ReadAt) X.Reader.ReadAt
+                W.L.Source W.L.Sink W.Door (IsTold G.Gate gate.entry.now)) seat_pass seat_rooms rooms.entry.now
+                post.entry.now.kind worker.entry.now.place worker.entry.now.pass
+                (C.coming worker.entry.now.clock) post.entry.now.door
                 worker.exit.now.end worker.exit.now.pass (C.coming worker.exit.now.clock) post.exit.now.door }
             ensures kind { post.exit.now.kind ≡ post.entry.now.kind }
         { serve_post(rt, alloc, rooms, gate, worker, post) },
@@ -182,34 +172,24 @@ where
     X::Reader: Send,
     W::L: Send,
     requires stands { (m : Machine)
-        × StandsFor (SharedStep X.stands X.leaves X.Reader.tells X.Reader.bytes X.Reader.faults)
-        (SharedStands X.stands) rooms.now pass.old m }
+        × StandsFor (room_steps X.Applies X.Reader.ReadAt) (SharedStands X.stands) rooms.now pass.old m }
     requires last { IsLast pass.old }
     requires few { length posts.old < 2 ^ 32 }
-    ensures rooms { IsPassOf
-        (SharedStep X.stands X.leaves X.Reader.tells X.Reader.bytes X.Reader.faults) rooms.now pass.new }
+    ensures rooms { IsPassOf (room_steps X.Applies X.Reader.ReadAt) rooms.now pass.new }
     ensures back { IsBack pass.old pass.new }
-    ensures served { ServesAll
-        (ServesDoorSeated rt.now (SharedStep X.stands X.leaves X.Reader.tells X.Reader.bytes X.Reader.faults)
-        (SharedStands X.stands) (reply_of X.Reader.tells X.Reader.bytes X.Reader.faults) X.Reader.tells X.Reader.faults
-        W.L.Source.left W.L.Sink.written W.L.Source.read_faults W.L.Sink.write_faults W.is_closed W.door_faults W.ledger
-        (IsTold G.entered G.left gate.now))
-        seat_pass seat_rooms C.coming (SharedStep X.stands X.leaves X.Reader.tells X.Reader.bytes X.Reader.faults)
-        (reply_of X.Reader.tells X.Reader.bytes X.Reader.faults) rooms.now result
-        pass.old pass.new posts.old posts.new }
+    ensures served { ServesAll (ServesDoorAt (seat rt.now X.Applies X.Reader.ReadAt) X.Reader.ReadAt W.L.Source W.L.Sink
+        W.Door (IsTold G.Gate gate.now)) seat_pass seat_rooms C.coming (room_steps X.Applies X.Reader.ReadAt)
+        (room_reply X.Reader.ReadAt) rooms.now result pass.old pass.new posts.old posts.new }
     ensures clock { Gives (C.coming clock.old) (C.coming clock.new) [] }
     ensures spent { result.spent ≡ true
         → (most_acts ≤ length (known pass.new)) ⊎ NumbersSpent pass.old pass.new (length posts.old + 2) }
-    ensures disk_fault { result.disk_fault ≡ true
-        → HasFlushFault (reply_of X.Reader.tells X.Reader.bytes X.Reader.faults) pass.old pass.new }
+    ensures disk_fault { result.disk_fault ≡ true → HasFlushFault (room_reply X.Reader.ReadAt) pass.old pass.new }
     ensures ends { (m : Machine)
-        → StandsFor (SharedStep X.stands X.leaves X.Reader.tells X.Reader.bytes X.Reader.faults)
-        (SharedStands X.stands) rooms.now pass.old m
+        → StandsFor (room_steps X.Applies X.Reader.ReadAt) (SharedStands X.stands) rooms.now pass.old m
         → m.doors ≡ length posts.old → result.spent ≡ false
         → result.memory ≡ false → result.disk_fault ≡ false
-        → (mover : ℕ) × EndsInTurns (SharedStep X.stands X.leaves X.Reader.tells X.Reader.bytes X.Reader.faults)
-        (SharedStands X.stands) (reply_of X.Reader.tells X.Reader.bytes X.Reader.faults) rooms.now
-        pass.old pass.new m mover }
+        → (mover : ℕ) × EndsInTurns (room_steps X.Applies X.Reader.ReadAt) (SharedStands X.stands)
+        (room_reply X.Reader.ReadAt) rooms.now pass.old pass.new m mover }
 {
     match draw_workers(
         rt,

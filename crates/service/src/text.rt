@@ -6,8 +6,8 @@ ghost use Rattle.retrieval_query.specs.Pinning.{AnswersPinned, IsHeld};
 ghost use Rattle.sample_bins.specs.Bins.{IsInRange};
 ghost use Rattle.service.specs.Data.{BreaksText, FinishesText, IsWide};
 
-use act_model::Actor;
 use crate::format::Format;
+use act_model::Actor;
 use edge_io::Sink;
 use json_out::JsonOut;
 use retrieval_query::{PinnedVariable, RawOut, Retrieved, read_pinned};

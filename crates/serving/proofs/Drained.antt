@@ -4,10 +4,11 @@ use Rattle.std.specs.Prelude.{◌==◌, nat_le, nat_lt, slice_get}
 use Rattle.std.specs.List.{AllByRecursion}
 use Rattle.std.specs.Ordering.{nat_cmp}
 use Rattle.std.specs.FinMap.{FinMap, get}
+use Rattle.series_model.specs.Limits.{intake_room}
 use Rattle.series_model.specs.declared.sample.Sample.{Sample}
 use Rattle.series_model.specs.Series.{over, since, end_of}
 use Rattle.series_model.specs.declared.admission.Reason.{Reason}
-use Rattle.series_model.specs.Admission.{admit_after}
+use Rattle.series_model.specs.Admission.{refused_by_time}
 use Rattle.act_model.specs.declared.acts.Act.{Act}
 use Rattle.act_model.specs.declared.acts.Act.TheVariants.{MoveBegin, MoveStep, Sweep, Doors}
 use Rattle.act_model.specs.declared.acts.Answer.TheVariants.{NoRow, Flushed, Memory}
@@ -20,7 +21,6 @@ use Rattle.act_model.specs.Changes.{made, changed, at, of_row, published, retire
 use Rattle.act_model.specs.Outcome.{Outcome, Acts, refused_at_once, refused, runs, faults_first, faults_between, faults_within, faults_removing, wants_memory, wants_memory_settled, all_go}
 use Rattle.act_model.specs.Flush.{FlushStep}
 use Rattle.act_model.specs.Tick.{TickStep, ticked, ticked_row, ticked_due}
-use Rattle.act_model.specs.Offer.{room}
 use Rattle.act_model.specs.MoveBegin.{Begins, begins, all_run, none_to_make}
 use Rattle.act_model.specs.MoveStep.{GoesOn, copies, has_copied, publishes, retires, again, damaged, no_move, change_of, ends_move}
 use Rattle.act_model.specs.Sweep.{Sweeps}
@@ -154,17 +154,17 @@ HasRow end = end.answer ≢ NoRow
 due_has_row : (m : Machine) (i : ℕ) (row : RowState) (period now : ℕ) → HasRow (ticked_due m i row period now)
 due_has_row m i row period now = by_held row.cell.held refl
   where
-    by_reason : (s : Sample) → row.cell.held ≡ Some s → (o : Option Reason) → admit_after row.next s.t now ≡ o → HasRow (ticked_due m i row period now)
+    by_reason : (s : Sample) → row.cell.held ≡ Some s → (o : Option Reason) → refused_by_time row.next s.t now ≡ o → HasRow (ticked_due m i row period now)
     by_reason s is (Some reason) why = rw (is, why) (λ bad. cc)
-    by_reason s is None why = by_room (nat_lt room (held_bytes m.rows + (length s.line + 1))) refl
+    by_reason s is None why = by_room (nat_lt intake_room (held_bytes m.rows + (length s.line + 1))) refl
       where
-        by_room : (b : Bool) → nat_lt room (held_bytes m.rows + (length s.line + 1)) ≡ b → HasRow (ticked_due m i row period now)
+        by_room : (b : Bool) → nat_lt intake_room (held_bytes m.rows + (length s.line + 1)) ≡ b → HasRow (ticked_due m i row period now)
         by_room true full = rw (is, why, full) (λ bad. cc)
         by_room false full = rw (is, why, full) (λ bad. cc)
 
     by_held : (o : Option Sample) → row.cell.held ≡ o → HasRow (ticked_due m i row period now)
     by_held None is = rw is (λ bad. cc)
-    by_held (Some s) is = by_reason s is (admit_after row.next s.t now) refl
+    by_held (Some s) is = by_reason s is (refused_by_time row.next s.t now) refl
 
 row_has_row : (m : Machine) (i : ℕ) (row : RowState) (now : ℕ) → HasRow (ticked_row m i row now)
 row_has_row m i row now = by_period (period_of row.about.method) refl

@@ -4,6 +4,7 @@ use Rattle.std.proofs.lemmas.List.{append-nil, length-append}
 use Rattle.edge_io.specs.Moments.{Moments, Gives}
 use Rattle.edge_io.proofs.Clocks.{gives_on}
 use Rattle.act_model.specs.declared.acts.Act.TheVariants.{Doors, Tick, Flush}
+use Rattle.act_model.specs.declared.actor.Actor.{Ghosts as OfActor}
 use Rattle.act_model.specs.History.{Entry, Done}
 use Rattle.act_model.proofs.Histories.{made_joined}
 use Rattle.serving.specs.declared.ends.FlushEnd.{FlushEnd}
@@ -13,19 +14,19 @@ use Rattle.serving.specs.Does.{Does, AreNone, AsksDoors}
 use Rattle.serving.specs.Flushes.{TicksRow, TicksAll, FlushesAll, FlushRoundAt, FlushCutAt, no_doors_asked, rows_ticked, IsRoundSo}
 use Rattle.serving.specs.Timed.{AreRoundsAt, DoesAt, RoundsAt, no_round_at, one_more_at}
 
-module _ {A : Type 0} (number : A → ℕ) (between : A → List Entry → A → Type 0)
-    (joined : (a b c : A) (xs ys : List Entry) → between a xs b → between b ys c → between a (xs ++ ys) c)
-    (stays : (a b : A) (entries : List Entry) → between a entries b → number b ≡ number a) where
-  pub join : (P Q R : List Done → Type 0) → ((xs ys : List Done) → P xs → Q ys → R (xs ++ ys)) → (a b c : A) → Does number between a P b → Does number between b Q c → Does number between a R c
-  join P Q R go a b c p q = (p.0 ++ q.0, made_joined number between joined stays a b c p.0 q.0 p.1 q.1, go p.0 q.0 p.2 q.2)
+module _ {A R : Type 0} (actor : OfActor A R)
+    (joined : (a b c : A) (xs ys : List Entry) → actor.between a xs b → actor.between b ys c → actor.between a (xs ++ ys) c)
+    (stays : (a b : A) (entries : List Entry) → actor.between a entries b → actor.number b ≡ actor.number a) where
+  pub join : (P Q Both : List Done → Type 0) → ((xs ys : List Done) → P xs → Q ys → Both (xs ++ ys)) → (a b c : A) → Does actor a P b → Does actor b Q c → Does actor a Both c
+  join P Q Both go a b c p q = (p.0 ++ q.0, made_joined actor.number actor.between joined stays a b c p.0 q.0 p.1 q.1, go p.0 q.0 p.2 q.2)
 
   -- no act after others
-  pub join_none : (P : List Done → Type 0) (a b c : A) → Does number between a P b → Does number between b AreNone c → Does number between a P c
+  pub join_none : (P : List Done → Type 0) (a b c : A) → Does actor a P b → Does actor b AreNone c → Does actor a P c
   join_none P a b c p q = join P AreNone P (λ xs ys r none. subst P (sym (ap (λ (w : List Done). xs ++ w) none ∙ append-nil xs)) r) a b c p q
 
   -- one round more, at the moment that was given for it
-  pub round_more : (Round : ℕ → List Done → Type 0) (a b c : A) (clock₁ clock₂ clock₃ : Option Moments) (now : ℕ) → DoesAt number between a clock₁ (AreRoundsAt Round) b clock₂ → Gives clock₂ clock₃ (now ∷ [])
-      → Does number between b (Round now) c → DoesAt number between a clock₁ (AreRoundsAt Round) c clock₃
+  pub round_more : (Round : ℕ → List Done → Type 0) (a b c : A) (clock₁ clock₂ clock₃ : Option Moments) (now : ℕ) → DoesAt actor a clock₁ (AreRoundsAt Round) b clock₂ → Gives clock₂ clock₃ (now ∷ [])
+      → Does actor b (Round now) c → DoesAt actor a clock₁ (AreRoundsAt Round) c clock₃
   round_more Round a b c clock₁ clock₂ clock₃ now p gives q = (
     p.0 ++ now ∷ [],
     gives_on clock₁ clock₂ clock₃ p.0 (now ∷ []) p.1 gives,
@@ -33,8 +34,8 @@ module _ {A : Type 0} (number : A → ℕ) (between : A → List Entry → A →
   )
 
   -- the last round
-  pub round_last : (Round Last : ℕ → List Done → Type 0) (a b c : A) (clock₁ clock₂ clock₃ : Option Moments) (now : ℕ) → DoesAt number between a clock₁ (AreRoundsAt Round) b clock₂ → Gives clock₂ clock₃ (now ∷ [])
-      → Does number between b (Last now) c → DoesAt number between a clock₁ (RoundsAt Round Last) c clock₃
+  pub round_last : (Round Last : ℕ → List Done → Type 0) (a b c : A) (clock₁ clock₂ clock₃ : Option Moments) (now : ℕ) → DoesAt actor a clock₁ (AreRoundsAt Round) b clock₂ → Gives clock₂ clock₃ (now ∷ [])
+      → Does actor b (Last now) c → DoesAt actor a clock₁ (RoundsAt Round Last) c clock₃
   round_last Round Last a b c clock₁ clock₂ clock₃ now p gives q = (
     p.0 ++ now ∷ [],
     gives_on clock₁ clock₂ clock₃ p.0 (now ∷ []) p.1 gives,
@@ -42,20 +43,20 @@ module _ {A : Type 0} (number : A → ℕ) (between : A → List Entry → A →
   )
 
 -- the same acts, said otherwise
-pub does_as : {A : Type 0} (number : A → ℕ) (between : A → List Entry → A → Type 0) (P Q : List Done → Type 0) → ((ds : List Done) → P ds → Q ds) → (a b : A) → Does number between a P b → Does number between a Q b
-does_as number between P Q go a b p = (p.0, p.1, go p.0 p.2)
+pub does_as : {A R : Type 0} (actor : OfActor A R) (P Q : List Done → Type 0) → ((ds : List Done) → P ds → Q ds) → (a b : A) → Does actor a P b → Does actor a Q b
+does_as actor P Q go a b p = (p.0, p.1, go p.0 p.2)
 
 -- nothing yet
-pub does_none : {A : Type 0} (number : A → ℕ) (between : A → List Entry → A → Type 0) → ((a : A) → between a [] a) → (P : List Done → Type 0) → P [] → (a : A) → Does number between a P a
-does_none number between nothing P p a = ([], record { entries = []; leads = nothing a; just_these = refl }, p)
+pub does_none : {A R : Type 0} (actor : OfActor A R) → ((a : A) → actor.between a [] a) → (P : List Done → Type 0) → P [] → (a : A) → Does actor a P a
+does_none actor nothing P p a = ([], record { entries = []; leads = nothing a; just_these = refl }, p)
 
 pub gives_none : (clock : Option Moments) → Gives clock clock []
 gives_none None = tt
 gives_none (Some coming) = (tt, λ k. ap coming (omega arith))
 
 -- no round yet, and no moment
-pub no_rounds : {A : Type 0} (number : A → ℕ) (between : A → List Entry → A → Type 0) → ((a : A) → between a [] a) → (Round : ℕ → List Done → Type 0) (a : A) (clock : Option Moments) → DoesAt number between a clock (AreRoundsAt Round) a clock
-no_rounds number between nothing Round a clock = ([], gives_none clock, does_none number between nothing (AreRoundsAt Round []) no_round_at a)
+pub no_rounds : {A R : Type 0} (actor : OfActor A R) → ((a : A) → actor.between a [] a) → (Round : ℕ → List Done → Type 0) (a : A) (clock : Option Moments) → DoesAt actor a clock (AreRoundsAt Round) a clock
+no_rounds actor nothing Round a clock = ([], gives_none clock, does_none actor nothing (AreRoundsAt Round []) no_round_at a)
 
 -- TICKS
 

@@ -1,4 +1,5 @@
 -- Moves, stores and rounds of the mover, put together of what was done in them.
+use Rattle.std.specs.Option.{option_or}
 use Rattle.std.proofs.Common.{◌≡◌, ◌≢◌, ℕ, ◌+◌, ◌-◌, ◌^◌, List, [], ◌∷◌, ◌++◌, Bool, true, false, Option, Some, None, Ok, Err, IfOk, OnErr, min, refl, ap, sym, ◌∙◌, arith, subst, inl, inr, append_assoc, append-nil}
 use Rattle.std.specs.Prelude.{◌⊎◌, Contains}
 use Rattle.std.proofs.lemmas.List.Sums.{sum_by-append}
@@ -6,6 +7,7 @@ use Rattle.std.proofs.lemmas.List.Elements.{All-push, All-head, All-tail, Contai
 use Rattle.act_model.specs.declared.acts.Act.TheVariants.{Doors, MoveBegin, MoveStep, Sweep}
 use Rattle.act_model.specs.declared.acts.Answer.TheVariants.{Nothing, DoorsLeft, Begun, Busy}
 use Rattle.act_model.specs.Reply.{Reply}
+use Rattle.act_model.specs.declared.actor.Actor.{Ghosts as OfActor}
 use Rattle.act_model.specs.History.{Entry, Done}
 use Rattle.serving.specs.declared.ends.MoverEnd.{MoverEnd}
 use Rattle.serving.specs.declared.ends.MoverEnd.TheVariants.{Rests, MeetsFault, MeetsNoMemory}
@@ -17,7 +19,7 @@ use Rattle.serving.specs.declared.moves.OneMove.TheVariants as one
 use Rattle.serving.specs.declared.moves.StoreMoved.{StoreMoved}
 use Rattle.serving.specs.Does.{Does, AreNone, AsksDoors}
 use Rattle.serving.proofs.Joins.{does_as}
-use Rattle.serving.specs.Moves.{parts_in, retired_by, shown, StoppedBy, IsStepOn, AreStepsOn, IsBegun, none_begun, one_begun, BeginsSo, StepsSo, MovesSo, OneMoveSo, StoreMovesSo, IsSwept, end_met, EndsStoreSo, StoreSo, SweptSo, SweepsSo, fault_of, first_of, met_in, end_of_round, AreSoFar, MoveRoundAt, IsMoverRoundSo, MovesCutAt, no_doors_asked, short_begun, medium_begun, sweep_ahead}
+use Rattle.serving.specs.Moves.{parts_in, retired_by, shown, StoppedBy, IsStepOn, AreStepsOn, IsBegun, none_begun, one_begun, BeginsSo, StepsSo, MovesSo, OneMoveSo, StoreMovesSo, IsSwept, end_met, EndsStoreSo, StoreSo, SweptSo, SweepsSo, fault_of, met_in, end_of_round, AreSoFar, MoveRoundAt, IsMoverRoundSo, MovesCutAt, no_doors_asked, short_begun, medium_begun, sweep_ahead}
 
 -- partitions that were retired by acts and then by others
 retired-append : (xs ys : List Done) → retired_by (xs ++ ys) ≡ retired_by xs + retired_by ys
@@ -173,25 +175,25 @@ rests_so store now moved ds none p = store_as (λ reply. reply ≡ Nothing moved
 pub waits_so : (store now : ℕ) (moved : StoreMoved) (ds : List Done) → moved.doors ≢ 0 → StoreMovesSo store now (Ok moved) ds → StoreSo store now None ds
 waits_so store now moved ds some p = store_as (λ reply. reply ≡ Nothing moved.doors) (EndsStoreSo None) (λ reply is. (moved.doors, is, some)) store now ds p.0
 
-module _ {A : Type 0} (number : A → ℕ) (between : A → List Entry → A → Type 0) (old new : A) where
-  pub store_met : (why : MoveErr) (store now : ℕ) → Does number between old (StoreMovesSo store now (Err why)) new → IfOk (end_met why) (λ end. Does number between old (StoreSo store now end) new)
-  store_met err.DiskFault store now p = does_as number between (StoreMovesSo store now (Err err.DiskFault)) (StoreSo store now (Some MeetsFault)) (store_as (StoppedBy err.DiskFault) IsFault (λ reply is. inl is) store now) old new p
+module _ {A R : Type 0} (actor : OfActor A R) (old new : A) where
+  pub store_met : (why : MoveErr) (store now : ℕ) → Does actor old (StoreMovesSo store now (Err why)) new → IfOk (end_met why) (λ end. Does actor old (StoreSo store now end) new)
+  store_met err.DiskFault store now p = does_as actor (StoreMovesSo store now (Err err.DiskFault)) (StoreSo store now (Some MeetsFault)) (store_as (StoppedBy err.DiskFault) IsFault (λ reply is. inl is) store now) old new p
   store_met (err.Damaged name at) store now p =
-      does_as number between (StoreMovesSo store now (Err (err.Damaged name at))) (StoreSo store now (Some MeetsFault)) (store_as (StoppedBy (err.Damaged name at)) IsFault (λ reply is. inr (name, at, is)) store now) old new p
+      does_as actor (StoreMovesSo store now (Err (err.Damaged name at))) (StoreSo store now (Some MeetsFault)) (store_as (StoppedBy (err.Damaged name at)) IsFault (λ reply is. inr (name, at, is)) store now) old new p
   store_met err.Spent store now p = tt
-  store_met err.Memory store now p = does_as number between (StoreMovesSo store now (Err err.Memory)) (StoreSo store now (Some MeetsNoMemory)) (store_as (StoppedBy err.Memory) IsMemory (λ reply is. is) store now) old new p
+  store_met err.Memory store now p = does_as actor (StoreMovesSo store now (Err err.Memory)) (StoreSo store now (Some MeetsNoMemory)) (store_as (StoppedBy err.Memory) IsMemory (λ reply is. is) store now) old new p
 
-  pub sweep_met : (why : MoveErr) → Does number between old (IsSwept (Err why)) new → IfOk (end_met why) (λ end. Does number between old (SweepsSo end) new)
-  sweep_met err.DiskFault p = does_as number between (IsSwept (Err err.DiskFault)) (SweepsSo (Some MeetsFault)) (λ ds q. (q.0, q.1, q.2, inl q.3)) old new p
-  sweep_met (err.Damaged name at) p = does_as number between (IsSwept (Err (err.Damaged name at))) (SweepsSo (Some MeetsFault)) (λ ds q. (q.0, q.1, q.2, inr (name, at, q.3))) old new p
+  pub sweep_met : (why : MoveErr) → Does actor old (IsSwept (Err why)) new → IfOk (end_met why) (λ end. Does actor old (SweepsSo end) new)
+  sweep_met err.DiskFault p = does_as actor (IsSwept (Err err.DiskFault)) (SweepsSo (Some MeetsFault)) (λ ds q. (q.0, q.1, q.2, inl q.3)) old new p
+  sweep_met (err.Damaged name at) p = does_as actor (IsSwept (Err (err.Damaged name at))) (SweepsSo (Some MeetsFault)) (λ ds q. (q.0, q.1, q.2, inr (name, at, q.3))) old new p
   sweep_met err.Spent p = tt
-  sweep_met err.Memory p = does_as number between (IsSwept (Err err.Memory)) (SweepsSo (Some MeetsNoMemory)) (λ ds q. q) old new p
+  sweep_met err.Memory p = does_as actor (IsSwept (Err err.Memory)) (SweepsSo (Some MeetsNoMemory)) (λ ds q. q) old new p
 
-  pub spent_met : (is_spent : A → Type 0) (P Q : List Done → Type 0) (why : MoveErr) → (why ≡ err.Spent → is_spent new) → (why ≡ err.Spent → (ds : List Done) → P ds → Q ds) → Does number between old P new
-      → OnErr (end_met why) (Does number between old Q new × is_spent new)
+  pub spent_met : (is_spent : A → Type 0) (P Q : List Done → Type 0) (why : MoveErr) → (why ≡ err.Spent → is_spent new) → (why ≡ err.Spent → (ds : List Done) → P ds → Q ds) → Does actor old P new
+      → OnErr (end_met why) (Does actor old Q new × is_spent new)
   spent_met is_spent P Q err.DiskFault spent go p = tt
   spent_met is_spent P Q (err.Damaged name at) spent go p = tt
-  spent_met is_spent P Q err.Spent spent go p = (does_as number between P Q (go refl) old new p, spent refl)
+  spent_met is_spent P Q err.Spent spent go p = (does_as actor P Q (go refl) old new p, spent refl)
   spent_met is_spent P Q err.Memory spent go p = tt
 
 -- ROUNDS
@@ -329,7 +331,7 @@ sweep_told (Some Rests) d rest there so = so
 sweep_told (Some MeetsFault) d rest there so = (d, there, so)
 sweep_told (Some MeetsNoMemory) d rest there so = (d, there, so)
 
-first_met : (one other : Option MoverEnd) (rest : List Done) → MetIs one rest → MetIs other rest → MetIs (first_of one other) rest
+first_met : (one other : Option MoverEnd) (rest : List Done) → MetIs one rest → MetIs other rest → MetIs (option_or one other) rest
 first_met None other rest p q = q
 first_met (Some end) other rest p q = p
 
@@ -363,8 +365,8 @@ module _ (now : ℕ) (shut : Bool) (short medium swept : Option MoverEnd) (ds : 
   met_ends : (b : Bool) → shut ≡ b → EndsRoundSo (met_in b short medium swept) ds
   met_ends false is = tt
   met_ends true is =
-      ends_met (first_of (fault_of short) (first_of (fault_of medium) swept)) p.first rest ds p.is (p.shut_is is)
-      (first_met (fault_of short) (first_of (fault_of medium) swept) rest (store_told short 1 now p.one rest in_one p.of_short)
+      ends_met (option_or (fault_of short) (option_or (fault_of medium) swept)) p.first rest ds p.is (p.shut_is is)
+      (first_met (fault_of short) (option_or (fault_of medium) swept) rest (store_told short 1 now p.one rest in_one p.of_short)
       (first_met (fault_of medium) swept rest (store_told medium 2 now p.two rest in_two p.of_medium) (sweep_told swept p.sweep rest at_sweep p.swept_is)))
 
   rests : short ≡ Some Rests → medium ≡ Some Rests → EndsRoundSo (Some Rests) ds

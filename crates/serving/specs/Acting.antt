@@ -1,5 +1,6 @@
 -- What one who acts by a pass did, and how the history of all ends.
 use Rattle.std.specs.Prelude.{◌≡◌, ℕ, List, [], ◌∷◌, ◌++◌}
+use Rattle.disk_model.specs.declared.disk.ReadAt.{Ghosts as OfFile}
 use Rattle.turn_rooms.specs.declared.room.Entry.{Entry as RoomEntry}
 use Rattle.turn_rooms.specs.declared.rooms.Pass.{Pass}
 use Rattle.turn_rooms.specs.declared.rooms.Rooms.{Rooms}
@@ -7,13 +8,24 @@ use Rattle.turn_rooms.specs.Histories.{by}
 use Rattle.turn_rooms.specs.Passes.{Goes, known}
 use Rattle.act_model.specs.declared.acts.Act.{Act}
 use Rattle.act_model.specs.declared.acts.Act.TheVariants.{Flush}
+use Rattle.act_model.specs.declared.acts.Answer.{Answer}
 use Rattle.act_model.specs.declared.acts.Answer.TheVariants.{DiskFault}
 use Rattle.act_model.specs.History.{Done, Runs, mine}
 use Rattle.act_model.specs.Machine.{Machine}
-use Rattle.act_model.specs.Reply.{Reply}
+use Rattle.act_model.specs.Reply.{Reply, reply_of}
+use Rattle.archive_actors.specs.declared.applies.Applies.{Ghosts as OfApplies}
+use Rattle.archive_actors.specs.declared.shared.Shared.{Shared}
 use Rattle.archive_actors.specs.Seats.{StandsFor}
-use Rattle.archive_actors.specs.Steps.{all_kept}
+use Rattle.archive_actors.specs.Steps.{SharedStep, all_kept}
 use Rattle.serving.specs.End.{EndsWell}
+
+-- the acts on a shared archive of this type, whose files have these meanings
+abbrev pub room_steps : {X Y : Type 0} → OfApplies X Y → OfFile Y → Shared X Y → ℕ → ℕ → Act → Answer Y → Shared X Y → Type 0
+room_steps archive file = SharedStep archive.stands archive.leaves file.tells file.bytes file.faults
+
+-- what a history keeps of an answer to one
+abbrev pub room_reply : {Y : Type 0} → OfFile Y → Answer Y → Reply
+room_reply file = reply_of file.tells file.bytes file.faults
 
 module _ {S B : Type 0} (steps : S → ℕ → ℕ → Act → B → S → Type 0) where
   -- Between two moments of a pass by turns of its own, the acts made under its number were such.

@@ -1,5 +1,6 @@
 -- What the flusher did, by how it ended.
 use Rattle.std.specs.Prelude.{◌≡◌, ◌⊎◌, ℕ, ◌≤◌, List, [], ◌∷◌, length, Bool, true, Option, Some, None, Result, Ok, Err}
+use Rattle.series_model.specs.Limits.{intake_room, most_rows}
 use Rattle.act_model.specs.declared.acts.Act.TheVariants.{Doors, Tick, Flush}
 use Rattle.act_model.specs.declared.acts.Answer.TheVariants.{NoRow}
 use Rattle.act_model.specs.declared.actor.Spent.{Spent}
@@ -15,7 +16,7 @@ TicksRow now row none ds = (reply : Reply) × (ds ≡ record { act = Tick row no
 
 -- Ticks of all rows
 abbrev pub TicksAll : ℕ → List Done → Type 0
-TicksAll now ds = AreTicks now 0 ds × (EndsAtNoRow ds ⊎ (65536 ≤ length ds))
+TicksAll now ds = AreTicks now 0 ds × (EndsAtNoRow ds ⊎ (most_rows ≤ length ds))
 
 -- where an end is told, the flush was answered so
 abbrev pub EndsFlush : Option FlushEnd → Reply → Type 0
@@ -24,7 +25,7 @@ EndsFlush (Some end) reply = FlushedSo end reply
 
 -- the one Flush, and how it ended
 abbrev pub FlushesAll : Option FlushEnd → List Done → Type 0
-FlushesAll end ds = (reply : Reply) × (ds ≡ record { act = Flush 67108864; answer = reply } ∷ []) × EndsFlush end reply
+FlushesAll end ds = (reply : Reply) × (ds ≡ record { act = Flush intake_room; answer = reply } ∷ []) × EndsFlush end reply
 
 -- a round, whose ticks are at this moment
 abbrev pub FlushRoundAt : ℕ → List Done → Type 0

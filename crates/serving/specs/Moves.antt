@@ -1,4 +1,5 @@
 -- What the mover did, by how it ended. First moves of a store, which are made to their ends; then the rounds of the mover.
+use Rattle.std.specs.Option.{option_or}
 use Rattle.std.specs.Prelude.{◌≡◌, ◌≢◌, ℕ, ◌-◌, ◌^◌, List, [], ◌∷◌, ◌++◌, All, Bool, true, false, Option, Some, None, Result, Ok, Err, min}
 use Rattle.std.specs.List.{sum_by}
 use Rattle.act_model.specs.declared.acts.Act.TheVariants.{Doors, MoveBegin, MoveStep, Sweep}
@@ -165,24 +166,15 @@ fault_of (Some Rests) = None
 fault_of (Some MeetsFault) = Some MeetsFault
 fault_of (Some MeetsNoMemory) = Some MeetsNoMemory
 
-abbrev pub first_of : Option MoverEnd → Option MoverEnd → Option MoverEnd
-first_of None other = other
-first_of (Some end) other = Some end
-
 -- at a round that began with no doors, the first fault or want of memory is its end
 abbrev pub met_in : Bool → Option MoverEnd → Option MoverEnd → Option MoverEnd → Option MoverEnd
 met_in false short medium swept = None
-met_in true short medium swept = first_of (fault_of short) (first_of (fault_of medium) swept)
+met_in true short medium swept = option_or (fault_of short) (option_or (fault_of medium) swept)
 
 -- how a round ended, if it is the last
 abbrev pub end_of_round : Bool → Option MoverEnd → Option MoverEnd → Option MoverEnd → Option MoverEnd
 end_of_round shut (Some Rests) (Some Rests) swept = Some Rests
-end_of_round shut (Some Rests) None swept = met_in shut (Some Rests) None swept
-end_of_round shut (Some Rests) (Some MeetsFault) swept = met_in shut (Some Rests) (Some MeetsFault) swept
-end_of_round shut (Some Rests) (Some MeetsNoMemory) swept = met_in shut (Some Rests) (Some MeetsNoMemory) swept
-end_of_round shut None medium swept = met_in shut None medium swept
-end_of_round shut (Some MeetsFault) medium swept = met_in shut (Some MeetsFault) medium swept
-end_of_round shut (Some MeetsNoMemory) medium swept = met_in shut (Some MeetsNoMemory) medium swept
+end_of_round shut short medium swept = met_in shut short medium swept
 
 -- a round, all at this moment
 abbrev pub MoveRoundAt : ℕ → List Done → Type 0

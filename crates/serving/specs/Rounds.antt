@@ -1,5 +1,6 @@
 -- What workers, the flusher and the mover do, each as the list of its own acts with their answers.
 use Rattle.std.specs.Prelude.{◌≡◌, ◌⊎◌, ℕ, ◌+◌, ◌≤◌, List, [], ◌∷◌, ◌++◌, length, All, Contains}
+use Rattle.series_model.specs.Limits.{intake_room, most_rows}
 use Rattle.disk_model.specs.declared.name.FileName.{FileName}
 use Rattle.act_model.specs.declared.acts.Act.{Act}
 use Rattle.act_model.specs.declared.acts.Act.TheVariants.{Tick, Flush, MoveBegin, MoveStep, Sweep, Doors, DoorDone}
@@ -56,8 +57,8 @@ pub record IsFlushRound (ds : List Done) : Type 0 where
   pub is : ds ≡ first ∷ (ticks ++ flush ∷ [])
   pub asks : first.act ≡ Doors
   pub are : AreTicks now 0 ticks
-  pub all : EndsAtNoRow ticks ⊎ (65536 ≤ length ticks)
-  pub flushes : flush.act ≡ Flush 67108864
+  pub all : EndsAtNoRow ticks ⊎ (most_rows ≤ length ticks)
+  pub flushes : flush.act ≡ Flush intake_room
 
 -- the flush of the last round was answered so
 abbrev pub FlushedSo : FlushEnd → Reply → Type 0

@@ -1,12 +1,13 @@
 -- Rounds, each at one moment of a clock.
 use Rattle.std.specs.Prelude.{◌≡◌, ℕ, List, [], ◌∷◌, ◌++◌, Option}
 use Rattle.edge_io.specs.Moments.{Moments, Gives}
-use Rattle.act_model.specs.History.{Entry, Done}
+use Rattle.act_model.specs.declared.actor.Actor.{Ghosts as OfActor}
+use Rattle.act_model.specs.History.{Done}
 use Rattle.serving.specs.Does.{Does}
 
 -- just such acts were made, at the moments that the clock gave, and it gave no others
-abbrev pub DoesAt : {A : Type 0} → (A → ℕ) → (A → List Entry → A → Type 0) → A → Option Moments → (List ℕ → List Done → Type 0) → A → Option Moments → Type 0
-DoesAt number between old clock Such new clock' = (moments : List ℕ) × Gives clock clock' moments × Does number between old (Such moments) new
+abbrev pub DoesAt : {A R : Type 0} → OfActor A R → A → Option Moments → (List ℕ → List Done → Type 0) → A → Option Moments → Type 0
+DoesAt actor old clock Such new clock' = (moments : List ℕ) × Gives clock clock' moments × Does actor old (Such moments) new
 
 -- rounds one after another, each at the moment at its place
 pub data AreRoundsAt (Round : ℕ → List Done → Type 0) : List ℕ → List Done → Type 0 where

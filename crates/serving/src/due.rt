@@ -24,7 +24,7 @@ pub struct DueMoved {
 /// no act is left. It waits for nothing, but may go on for as long as others give it work.
 pub fn move_all_due<A: Actor>(rt: &impl Wait, actor: &mut A, now: u64) -> Result<DueMoved, MoveErr>
     requires stands { (m : Machine) × A.stands actor.old m }
-    ensures moves { Does A.number A.between actor.old (MovesDue now result) actor.new }
+    ensures moves { Does A.Actor actor.old (MovesDue now result) actor.new }
     ensures spent { IsErrOf result MoveErr.Spent → A.is_spent actor.new }
     ensures stands { (n : Machine) × A.stands actor.new n }
 {

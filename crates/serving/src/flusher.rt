@@ -9,13 +9,8 @@ ghost use Rattle.serving.specs.Timed.{DoesAt};
 use crate::ends::FlushEnd;
 use act_model::{Actor, Flushed as FlushAnswer, Spent, Ticked, ask_doors, ask_flush, ask_tick};
 use edge_io::Clock;
+use series_model::limits::{INTAKE_ROOM, MOST_ROWS};
 use std::sync::Wait;
-
-// As many rows as an archive has at most.
-const ROWS: u32 = 65_536;
-
-// As many bytes as the intake holds at most, so that one flush leaves nothing of what was there.
-const ALL: u64 = 67_108_864;
 
 /// How long the flusher rests between two rounds, in nanoseconds.
 pub const FLUSHER_RESTS: u64 = 100_000_000;
@@ -23,8 +18,8 @@ pub const FLUSHER_RESTS: u64 = 100_000_000;
 // Whether no doors are left.
 pub(crate) fn are_doors_shut<A: Actor>(actor: &mut A) -> Result<bool, Spent>
     requires stands { (m : Machine) × A.stands actor.old m }
-    ensures asks { IfOk result (λ none. Does A.number A.between actor.old (AsksDoors none) actor.new) }
-    ensures spent { OnErr result (Does A.number A.between actor.old AreNone actor.new × A.is_spent actor.new) }
+    ensures asks { IfOk result (λ none. Does A.Actor actor.old (AsksDoors none) actor.new) }
+    ensures spent { OnErr result (Does A.Actor actor.old AreNone actor.new × A.is_spent actor.new) }
     ensures stands { (n : Machine) × A.stands actor.new n }
 {
     match ask_doors(actor) {
@@ -36,8 +31,8 @@ pub(crate) fn are_doors_shut<A: Actor>(actor: &mut A) -> Result<bool, Spent>
 // Ticks a row, and tells whether there is none.
 fn tick_row<A: Actor>(actor: &mut A, row: u32, now: u64) -> Result<bool, Spent>
     requires stands { (m : Machine) × A.stands actor.old m }
-    ensures ticks { IfOk result (λ none. Does A.number A.between actor.old (TicksRow now row none) actor.new) }
-    ensures spent { OnErr result (Does A.number A.between actor.old AreNone actor.new × A.is_spent actor.new) }
+    ensures ticks { IfOk result (λ none. Does A.Actor actor.old (TicksRow now row none) actor.new) }
+    ensures spent { OnErr result (Does A.Actor actor.old AreNone actor.new × A.is_spent actor.new) }
     ensures stands { (n : Machine) × A.stands actor.new n }
 {
     match ask_tick(actor, row, now) {
@@ -50,11 +45,11 @@ fn tick_row<A: Actor>(actor: &mut A, row: u32, now: u64) -> Result<bool, Spent>
 // Ticks each row at this moment.
 fn tick_all<A: Actor>(actor: &mut A, now: u64) -> Result<(), Spent>
     requires stands { (m : Machine) × A.stands actor.old m }
-    ensures ticks { IfOk result (λ done. Does A.number A.between actor.old (TicksAll now) actor.new) }
-    ensures spent { OnErr result (Does A.number A.between actor.old (AreTicks now 0) actor.new × A.is_spent actor.new) }
+    ensures ticks { IfOk result (λ done. Does A.Actor actor.old (TicksAll now) actor.new) }
+    ensures spent { OnErr result (Does A.Actor actor.old (AreTicks now 0) actor.new × A.is_spent actor.new) }
     ensures stands { (n : Machine) × A.stands actor.new n }
 {
-    for row in 0..ROWS {
+    for row in 0..MOST_ROWS as u32 {
         match tick_row(actor, row, now) {
             Ok(true) => return Ok(()),
             Ok(false) => {}
@@ -64,14 +59,15 @@ fn tick_all<A: Actor>(actor: &mut A, now: u64) -> Result<(), Spent>
     Ok(())
 }
 
-// Flushes all. It tells nothing where something is left.
+// Flushes as much as the intake holds at most, so that nothing of what was there is left. It tells nothing where
+// something is left.
 fn flush_all<A: Actor>(actor: &mut A) -> Result<Option<FlushEnd>, Spent>
     requires stands { (m : Machine) × A.stands actor.old m }
-    ensures flushes { IfOk result (λ end. Does A.number A.between actor.old (FlushesAll end) actor.new) }
-    ensures spent { OnErr result (Does A.number A.between actor.old AreNone actor.new × A.is_spent actor.new) }
+    ensures flushes { IfOk result (λ end. Does A.Actor actor.old (FlushesAll end) actor.new) }
+    ensures spent { OnErr result (Does A.Actor actor.old AreNone actor.new × A.is_spent actor.new) }
     ensures stands { (n : Machine) × A.stands actor.new n }
 {
-    match ask_flush(actor, ALL) {
+    match ask_flush(actor, INTAKE_ROOM) {
         Ok(FlushAnswer::Flushed { left: 0, .. }) => return Ok(Some(FlushEnd::LeavesNone)),
         Ok(FlushAnswer::Flushed { .. }) => return Ok(None),
         Ok(FlushAnswer::DiskFault) => return Ok(Some(FlushEnd::FailsToWrite)),
@@ -83,8 +79,8 @@ fn flush_all<A: Actor>(actor: &mut A) -> Result<Option<FlushEnd>, Spent>
 // Ticks each row and flushes all. It tells how that ended where no doors were left before it.
 fn flush_round<A: Actor>(actor: &mut A, now: u64) -> Result<Option<FlushEnd>, Spent>
     requires stands { (m : Machine) × A.stands actor.old m }
-    ensures round { IfOk result (λ end. Does A.number A.between actor.old (IsRoundSo now end) actor.new) }
-    ensures spent { OnErr result (Does A.number A.between actor.old (FlushCutAt now) actor.new × A.is_spent actor.new) }
+    ensures round { IfOk result (λ end. Does A.Actor actor.old (IsRoundSo now end) actor.new) }
+    ensures spent { OnErr result (Does A.Actor actor.old (FlushCutAt now) actor.new × A.is_spent actor.new) }
     ensures stands { (n : Machine) × A.stands actor.new n }
 {
     let shut = match are_doors_shut(actor) {
@@ -115,7 +111,7 @@ pub fn flush_to_end<A: Actor, C: Clock>(
     clock: &mut C,
 ) -> Result<FlushEnd, Spent>
     requires stands { (m : Machine) × A.stands actor.old m }
-    ensures flushes { DoesAt A.number A.between actor.old (C.coming clock.old)
+    ensures flushes { DoesAt A.Actor actor.old (C.coming clock.old)
         (FlushesTo result) actor.new (C.coming clock.new) }
     ensures spent { IsErr result → A.is_spent actor.new }
     ensures stands { (n : Machine) × A.stands actor.new n }

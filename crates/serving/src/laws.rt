@@ -11,13 +11,12 @@ ghost use Rattle.turn_rooms.specs.declared.rooms.Pass.{Pass};
 ghost use Rattle.turn_rooms.specs.declared.rooms.Rooms.{Rooms};
 ghost use Rattle.act_model.specs.declared.acts.Act.{Act};
 ghost use Rattle.act_model.specs.declared.acts.Answer.{Answer};
-ghost use Rattle.act_model.specs.Reply.{reply_of};
 ghost use Rattle.archive_actors.specs.declared.shared.Shared.{Shared};
 ghost use Rattle.archive_actors.specs.Seats.{StandsFor};
-ghost use Rattle.archive_actors.specs.Steps.{SharedStands, SharedStep};
+ghost use Rattle.archive_actors.specs.Steps.{SharedStands};
 ghost use Rattle.serving.specs.Rounds.{IsFlushing, IsMoving, IsShift};
 ghost use Rattle.workers.specs.Left.{Drawn, Met};
-ghost use Rattle.serving.specs.Acting.{Acts, EndsInTurns};
+ghost use Rattle.serving.specs.Acting.{Acts, EndsInTurns, room_reply, room_steps};
 
 use archive_actors::Applies;
 
@@ -39,20 +38,16 @@ pub fn the_end_of_a_service<X: Applies>()
     ensures { (rooms : Rooms (Shared X X.Reader) Act (Answer X.Reader))
         (old drawn new flusher flusher' mover mover' : Pass (Shared X X.Reader) Act (Answer X.Reader))
         (workers workers' : List (Pass (Shared X X.Reader) Act (Answer X.Reader))) (moved : MoverEnd) (m : Machine)
-        → StandsFor (SharedStep X.stands X.leaves X.Reader.tells X.Reader.bytes X.Reader.faults)
-        (SharedStands X.stands) rooms old m
+        → StandsFor (room_steps X.Applies X.Reader.ReadAt) (SharedStands X.stands) rooms old m
         → m.doors ≡ length workers
-        → Drawn (SharedStep X.stands X.leaves X.Reader.tells X.Reader.bytes X.Reader.faults) rooms old drawn
-        (workers ++ flusher ∷ mover ∷ [])
-        → AllZip (λ n n'. Acts (SharedStep X.stands X.leaves X.Reader.tells X.Reader.bytes X.Reader.faults)
-        (reply_of X.Reader.tells X.Reader.bytes X.Reader.faults) rooms n IsShift n') workers workers'
-        → Acts (SharedStep X.stands X.leaves X.Reader.tells X.Reader.bytes X.Reader.faults)
-        (reply_of X.Reader.tells X.Reader.bytes X.Reader.faults) rooms flusher (IsFlushing LeavesNone) flusher'
-        → Acts (SharedStep X.stands X.leaves X.Reader.tells X.Reader.bytes X.Reader.faults)
-        (reply_of X.Reader.tells X.Reader.bytes X.Reader.faults) rooms mover (IsMoving moved) mover'
+        → Drawn (room_steps X.Applies X.Reader.ReadAt) rooms old drawn (workers ++ flusher ∷ mover ∷ [])
+        → AllZip (λ n n'. Acts (room_steps X.Applies X.Reader.ReadAt) (room_reply X.Reader.ReadAt) rooms n IsShift n')
+        workers workers'
+        → Acts (room_steps X.Applies X.Reader.ReadAt) (room_reply X.Reader.ReadAt) rooms flusher
+        (IsFlushing LeavesNone) flusher'
+        → Acts (room_steps X.Applies X.Reader.ReadAt) (room_reply X.Reader.ReadAt) rooms mover (IsMoving moved) mover'
         → moved ≢ MeetsNoMemory
-        → Met (SharedStep X.stands X.leaves X.Reader.tells X.Reader.bytes X.Reader.faults) rooms drawn new
-        (workers' ++ flusher' ∷ mover' ∷ [])
-        → EndsInTurns (SharedStep X.stands X.leaves X.Reader.tells X.Reader.bytes X.Reader.faults)
-        (SharedStands X.stands) (reply_of X.Reader.tells X.Reader.bytes X.Reader.faults) rooms old new m mover.number }
+        → Met (room_steps X.Applies X.Reader.ReadAt) rooms drawn new (workers' ++ flusher' ∷ mover' ∷ [])
+        → EndsInTurns (room_steps X.Applies X.Reader.ReadAt) (SharedStands X.stands)
+        (room_reply X.Reader.ReadAt) rooms old new m mover.number }
 {}

@@ -2,7 +2,7 @@
 ghost use Rattle.std.specs.Prelude.{◌≡◌, ◌≤◌, ℕ, List, IfOk, IsErr, OnErr, Option};
 ghost use Rattle.act_model.specs.Machine.{Machine};
 ghost use Rattle.serving.specs.Does.{Does, AreNone};
-ghost use Rattle.serving.specs.Moves.{AreSoFar, StoreSo, SweepsSo, end_met, fault_of, first_of, end_of_round};
+ghost use Rattle.serving.specs.Moves.{AreSoFar, StoreSo, SweepsSo, end_met, fault_of, end_of_round};
 ghost use Rattle.serving.specs.Moves.{IsMoverRoundSo, MovesCutAt, MovesTo};
 ghost use Rattle.serving.specs.Timed.{DoesAt};
 
@@ -39,9 +39,9 @@ fn move_in_round<A: Actor>(
     requires stands { (m : Machine) × A.stands actor.old m }
     requires low { 1 ≤ store }
     requires high { store ≤ 2 }
-    ensures moves { IfOk result (λ end. Does A.number A.between actor.old (StoreSo store now end) actor.new) }
+    ensures moves { IfOk result (λ end. Does A.Actor actor.old (StoreSo store now end) actor.new) }
     ensures spent { OnErr result
-        (Does A.number A.between actor.old (AreSoFar store now) actor.new × A.is_spent actor.new) }
+        (Does A.Actor actor.old (AreSoFar store now) actor.new × A.is_spent actor.new) }
     ensures stands { (n : Machine) × A.stands actor.new n }
 {
     match move_store(rt, actor, store, now) {
@@ -58,8 +58,8 @@ fn move_in_round<A: Actor>(
 // The sweep of a round. It tells where that met a fault or lacked memory.
 fn sweep_in_round<A: Actor>(actor: &mut A) -> Result<Option<MoverEnd>, Spent>
     requires stands { (m : Machine) × A.stands actor.old m }
-    ensures sweeps { IfOk result (λ end. Does A.number A.between actor.old (SweepsSo end) actor.new) }
-    ensures spent { OnErr result (Does A.number A.between actor.old AreNone actor.new × A.is_spent actor.new) }
+    ensures sweeps { IfOk result (λ end. Does A.Actor actor.old (SweepsSo end) actor.new) }
+    ensures spent { OnErr result (Does A.Actor actor.old AreNone actor.new × A.is_spent actor.new) }
     ensures stands { (n : Machine) × A.stands actor.new n }
 {
     match sweep(actor) {
@@ -80,16 +80,6 @@ fn fault_in(end: Option<MoverEnd>) -> Option<MoverEnd>
     }
 }
 
-// The first of two ends that is told.
-fn first_told(one: Option<MoverEnd>, other: Option<MoverEnd>) -> Option<MoverEnd>
-    ensures { result ≡ first_of one other }
-{
-    match one {
-        Some(end) => Some(end),
-        None => other,
-    }
-}
-
 // How a round ended, if it is the last: both stores had nothing to move and no doors were left, or the round began with
 // no doors and met a fault or lacked memory.
 fn round_end(
@@ -107,14 +97,14 @@ fn round_end(
     if !shut {
         return None;
     }
-    first_told(fault_in(short), first_told(fault_in(medium), swept))
+    fault_in(short).or(fault_in(medium).or(swept))
 }
 
 // Moves what is ripe in both stores, and sweeps. It tells how that ended, if it is the last round.
 fn move_round<A: Actor>(rt: &impl Wait, actor: &mut A, now: u64) -> Result<Option<MoverEnd>, Spent>
     requires stands { (m : Machine) × A.stands actor.old m }
-    ensures round { IfOk result (λ end. Does A.number A.between actor.old (IsMoverRoundSo now end) actor.new) }
-    ensures spent { OnErr result (Does A.number A.between actor.old (MovesCutAt now) actor.new × A.is_spent actor.new) }
+    ensures round { IfOk result (λ end. Does A.Actor actor.old (IsMoverRoundSo now end) actor.new) }
+    ensures spent { OnErr result (Does A.Actor actor.old (MovesCutAt now) actor.new × A.is_spent actor.new) }
     ensures stands { (n : Machine) × A.stands actor.new n }
 {
     let shut = match are_doors_shut(actor) {
@@ -145,7 +135,7 @@ pub fn move_to_end<A: Actor, C: Clock>(
     clock: &mut C,
 ) -> Result<MoverEnd, Spent>
     requires stands { (m : Machine) × A.stands actor.old m }
-    ensures moves { DoesAt A.number A.between actor.old (C.coming clock.old)
+    ensures moves { DoesAt A.Actor actor.old (C.coming clock.old)
         (MovesTo result) actor.new (C.coming clock.new) }
     ensures spent { IsErr result → A.is_spent actor.new }
     ensures stands { (n : Machine) × A.stands actor.new n }

@@ -55,7 +55,7 @@ fn begin_move<A: Actor>(actor: &mut A, store: u8, now: u64) -> Result<Begun, Mov
     requires stands { (m : Machine) × A.stands actor.old m }
     requires low { 1 ≤ store }
     requires high { store ≤ 2 }
-    ensures begins { Does A.number A.between actor.old (BeginsSo store now result) actor.new }
+    ensures begins { Does A.Actor actor.old (BeginsSo store now result) actor.new }
     ensures spent { IsErrOf result MoveErr.Spent → A.is_spent actor.new }
     ensures stands { (n : Machine) × A.stands actor.new n }
 {
@@ -72,7 +72,7 @@ fn begin_move<A: Actor>(actor: &mut A, store: u8, now: u64) -> Result<Begun, Mov
 // One step of a move. Where the move is over it tells how many partitions that retired.
 fn step_move<A: Actor>(actor: &mut A, m: u32) -> Result<Option<u64>, MoveErr>
     requires stands { (m : Machine) × A.stands actor.old m }
-    ensures steps { Does A.number A.between actor.old (StepsSo m result) actor.new }
+    ensures steps { Does A.Actor actor.old (StepsSo m result) actor.new }
     ensures spent { IsErrOf result MoveErr.Spent → A.is_spent actor.new }
     ensures stands { (n : Machine) × A.stands actor.new n }
 {
@@ -93,7 +93,7 @@ fn step_move<A: Actor>(actor: &mut A, m: u32) -> Result<Option<u64>, MoveErr>
 // A move to its end. It tells how many partitions that retired.
 fn move_through<A: Actor>(rt: &impl Wait, actor: &mut A, m: u32) -> Result<u64, MoveErr>
     requires stands { (m : Machine) × A.stands actor.old m }
-    ensures moves { Does A.number A.between actor.old (MovesSo m result) actor.new }
+    ensures moves { Does A.Actor actor.old (MovesSo m result) actor.new }
     ensures spent { IsErrOf result MoveErr.Spent → A.is_spent actor.new }
     ensures stands { (n : Machine) × A.stands actor.new n }
 {
@@ -117,7 +117,7 @@ fn move_once<A: Actor>(
     requires stands { (m : Machine) × A.stands actor.old m }
     requires low { 1 ≤ store }
     requires high { store ≤ 2 }
-    ensures moves { Does A.number A.between actor.old (OneMoveSo store now result) actor.new }
+    ensures moves { Does A.Actor actor.old (OneMoveSo store now result) actor.new }
     ensures spent { IsErrOf result MoveErr.Spent → A.is_spent actor.new }
     ensures stands { (n : Machine) × A.stands actor.new n }
 {
@@ -141,7 +141,7 @@ pub(crate) fn move_store<A: Actor>(
     requires stands { (m : Machine) × A.stands actor.old m }
     requires low { 1 ≤ store }
     requires high { store ≤ 2 }
-    ensures moves { Does A.number A.between actor.old (StoreMovesSo store now result) actor.new }
+    ensures moves { Does A.Actor actor.old (StoreMovesSo store now result) actor.new }
     ensures spent { IsErrOf result MoveErr.Spent → A.is_spent actor.new }
     ensures stands { (n : Machine) × A.stands actor.new n }
 {
@@ -159,7 +159,7 @@ pub(crate) fn move_store<A: Actor>(
 /// Sweeps.
 pub(crate) fn sweep<A: Actor>(actor: &mut A) -> Result<(), MoveErr>
     requires stands { (m : Machine) × A.stands actor.old m }
-    ensures sweeps { Does A.number A.between actor.old (IsSwept result) actor.new }
+    ensures sweeps { Does A.Actor actor.old (IsSwept result) actor.new }
     ensures spent { IsErrOf result MoveErr.Spent → A.is_spent actor.new }
     ensures stands { (n : Machine) × A.stands actor.new n }
 {

@@ -7,7 +7,7 @@ returns-in-Ok-clause-acts g c =
     let A = g.A.Actor in
     let R = g.A.Reader.ReadAt in
     let written = g.K.Sink.written in
-    acts_of A.number A.between A.is_spent A.stands R.tells R.faults _ c.args.actor.now c.pin_variable.new.actor c.reply_pinned.new.actor (written c.args.link.now) (written c.reply_pinned.new.link) c.args.format c.args.version c.args.name.now c.args.query c.reply_pinned.result
+    acts_of A R _ c.args.actor.now c.pin_variable.new.actor c.reply_pinned.new.actor (written c.args.link.now) (written c.reply_pinned.new.link) c.args.format c.args.version c.args.name.now c.args.query c.reply_pinned.result
     c.in-Ok.variable c.in-Ok.ensures.pins c.reply_pinned.ensures.replies
 
 pub returns-in-Ok-clause-whole : goal.returns-in-Ok-clause-whole
@@ -15,7 +15,7 @@ returns-in-Ok-clause-whole g c telling m is told headers =
     let A = g.A.Actor in
     let R = g.A.Reader.ReadAt in
     let written = g.K.Sink.written in
-    whole_of A.number A.between A.is_spent A.stands R.tells R.faults _ c.args.actor.now c.pin_variable.new.actor c.reply_pinned.new.actor (written c.args.link.now) (written c.reply_pinned.new.link) c.args.format c.args.version c.args.name.now c.args.query c.reply_pinned.result
+    whole_of A R _ c.args.actor.now c.pin_variable.new.actor c.reply_pinned.new.actor (written c.args.link.now) (written c.reply_pinned.new.link) c.args.format c.args.version c.args.name.now c.args.query c.reply_pinned.result
     g.met.A.Actor.legal g.met.A.Actor.sound g.met.A.Actor.joined g.met.A.Actor.number_stays m is told headers telling c.in-Ok.variable c.in-Ok.ensures.pins c.reply_pinned.ensures.replies
 
 pub returns-in-Err-clause-acts : goal.returns-in-Err-clause-acts

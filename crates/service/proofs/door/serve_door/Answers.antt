@@ -7,7 +7,7 @@ pub returns-in-Ok-clause-serves : goal.returns-in-Ok-clause-serves
 returns-in-Ok-clause-serves g c =
     let A = g.A.Actor in
     record {
-      shift = shift_made A.number A.between g.met.A.Actor.joined g.met.A.Actor.number_stays c.args.actor.now c.serve_links.new.actor c.ask_door_done.new.actor _ c.serve_links.ensures.acts c.in-Ok.ensures.asked.done;
+      shift = shift_made A g.met.A.Actor.joined g.met.A.Actor.number_stays c.args.actor.now c.serve_links.new.actor c.ask_door_done.new.actor _ c.serve_links.ensures.acts c.in-Ok.ensures.asked.done;
       mid = c.serve_links.new.actor;
       asked = c.in-Done.ensures.asked;
       counted = (_, c.in-Ok.ensures.asked.done);
@@ -19,12 +19,12 @@ returns-in-Err-clause-serves g c =
     let A = g.A.Actor in
     let none = c.in-Err.ensures.asked.spent in
     record {
-      shift = makes_more A.number A.between g.met.A.Actor.joined g.met.A.Actor.number_stays c.args.actor.now c.serve_links.new.actor c.ask_door_done.new.actor c.serve_links.ensures.acts
-          (makes A.number A.between c.serve_links.new.actor c.ask_door_done.new.actor _ none.0 tt);
+      shift = makes_more A g.met.A.Actor.joined g.met.A.Actor.number_stays c.args.actor.now c.serve_links.new.actor c.ask_door_done.new.actor c.serve_links.ensures.acts
+          (makes A c.serve_links.new.actor c.ask_door_done.new.actor _ none.0 tt);
       mid = c.serve_links.new.actor;
       asked = c.in-Done.ensures.asked.0.left;
       counted = none.0;
-      spent = λ is. now_spent A.between A.is_spent g.met.A.Actor.nothing c.ask_door_done.new.actor none.1;
+      spent = λ is. now_spent A g.met.A.Actor.nothing c.ask_door_done.new.actor none.1;
     }
 
 pub returns-in-Spent-clause-serves : goal.returns-in-Spent-clause-serves

@@ -12,9 +12,9 @@ loop-init g c =
       tt,
       tt,
       c.requires.stands,
-      makes A.number A.between c.args.actor.now c.args.actor.now _ (made_nothing A.number A.between g.met.A.Actor.nothing c.args.actor.now) tt,
-      leaves_none g.W.Door.door_faults g.W.Door.ledger (IsFresh L.Sink.written L.Source.read_faults L.Sink.write_faults) (IsServed c.args.kind L.Sink.written L.Source.read_faults L.Sink.write_faults)
-          (ServesLinkTold A.number A.between A.is_spent A.stands g.A.Reader.ReadAt.tells g.A.Reader.ReadAt.faults L.Source.left L.Sink.written L.Sink.write_faults (IsTold g.G.Gate.entered g.G.Gate.left c.args.gate.now c.args.post) c.args.kind)
+      makes A c.args.actor.now c.args.actor.now _ (made_nothing A.number A.between g.met.A.Actor.nothing c.args.actor.now) tt,
+      leaves_none g.W.Door (IsFresh L.Sink.written L.Source.read_faults L.Sink.write_faults) (IsServed c.args.kind L.Sink.written L.Source.read_faults L.Sink.write_faults)
+          (ServesLinkTold A g.A.Reader.ReadAt L.Source L.Sink (IsTold g.G.Gate c.args.hook.now.gate.now c.args.hook.now.post) c.args.kind)
           c.args.actor.now (g.C.Clock.coming c.args.clock.now) c.args.door.now,
     )
 
@@ -27,15 +27,15 @@ loop-preserved g c =
       tt,
       tt,
       c.serve_next.ensures.stands,
-      makes_more A.number A.between g.met.A.Actor.joined g.met.A.Actor.number_stays c.args.actor.now c.loop.actor c.serve_next.new.actor c.loop.invariant.3 c.serve_next.ensures.acts,
-      told_more g.W.Door.door_faults g.W.Door.ledger (IsFresh L.Sink.written L.Source.read_faults L.Sink.write_faults) (IsServed c.args.kind L.Sink.written L.Source.read_faults L.Sink.write_faults)
-          (ServesLinkTold A.number A.between A.is_spent A.stands g.A.Reader.ReadAt.tells g.A.Reader.ReadAt.faults L.Source.left L.Sink.written L.Sink.write_faults (IsTold g.G.Gate.entered g.G.Gate.left c.args.gate.now c.args.post) c.args.kind)
+      makes_more A g.met.A.Actor.joined g.met.A.Actor.number_stays c.args.actor.now c.loop.actor c.serve_next.new.actor c.loop.invariant.3 c.serve_next.ensures.acts,
+      told_more g.W.Door (IsFresh L.Sink.written L.Source.read_faults L.Sink.write_faults) (IsServed c.args.kind L.Sink.written L.Source.read_faults L.Sink.write_faults)
+          (ServesLinkTold A g.A.Reader.ReadAt L.Source L.Sink (IsTold g.G.Gate c.args.hook.now.gate.now c.args.hook.now.post) c.args.kind)
           c.args.actor.now c.loop.actor c.serve_next.new.actor (C.coming c.args.clock.now) (C.coming c.loop.clock) (C.coming c.serve_next.new.clock) c.args.door.now c.loop.door c.serve_next.new.door
           c.loop.lacked c.in-Link.now c.loop.invariant.4 one.0 one.1 one.2,
     )
 
 pub returns-in-End-clause-acts : goal.returns-in-End-clause-acts
-returns-in-End-clause-acts g c = makes_more g.A.Actor.number g.A.Actor.between g.met.A.Actor.joined g.met.A.Actor.number_stays c.args.actor.now c.loop.actor c.serve_next.new.actor c.loop.invariant.3 c.serve_next.ensures.acts
+returns-in-End-clause-acts g c = makes_more g.A.Actor g.met.A.Actor.joined g.met.A.Actor.number_stays c.args.actor.now c.loop.actor c.serve_next.new.actor c.loop.invariant.3 c.serve_next.ensures.acts
 
 pub returns-in-End-clause-asked : goal.returns-in-End-clause-asked
 returns-in-End-clause-asked g c =
@@ -44,23 +44,23 @@ returns-in-End-clause-asked g c =
     let C = g.C.Clock in
     let end = c.in-End.ensures.asked in
     let same = c.serve_next.ensures.stays c.in-End.failed c.in-End.is in (
-      told_end g.W.Door.door_faults g.W.Door.ledger (IsFresh L.Sink.written L.Source.read_faults L.Sink.write_faults) (IsServed c.args.kind L.Sink.written L.Source.read_faults L.Sink.write_faults)
-          (ServesLinkTold A.number A.between A.is_spent A.stands g.A.Reader.ReadAt.tells g.A.Reader.ReadAt.faults L.Source.left L.Sink.written L.Sink.write_faults (IsTold g.G.Gate.entered g.G.Gate.left c.args.gate.now c.args.post) c.args.kind)
+      told_end g.W.Door (IsFresh L.Sink.written L.Source.read_faults L.Sink.write_faults) (IsServed c.args.kind L.Sink.written L.Source.read_faults L.Sink.write_faults)
+          (ServesLinkTold A g.A.Reader.ReadAt L.Source L.Sink (IsTold g.G.Gate c.args.hook.now.gate.now c.args.hook.now.post) c.args.kind)
           c.args.actor.now c.loop.actor c.serve_next.new.actor (C.coming c.args.clock.now) (C.coming c.loop.clock) (C.coming c.serve_next.new.clock) c.args.door.now c.loop.door c.serve_next.new.door
           c.loop.lacked c.loop.invariant.4 same.0 same.1 end.0 end.1,
       end_later g.W.Door.is_closed g.W.Door.door_faults c.args.door.now c.loop.door c.serve_next.new.door c.in-End.failed c.loop.invariant.4.left.faults_rise end.2,
     )
 
 pub returns-in-Spent-clause-acts : goal.returns-in-Spent-clause-acts
-returns-in-Spent-clause-acts g c = makes_more g.A.Actor.number g.A.Actor.between g.met.A.Actor.joined g.met.A.Actor.number_stays c.args.actor.now c.loop.actor c.serve_next.new.actor c.loop.invariant.3 c.serve_next.ensures.acts
+returns-in-Spent-clause-acts g c = makes_more g.A.Actor g.met.A.Actor.joined g.met.A.Actor.number_stays c.args.actor.now c.loop.actor c.serve_next.new.actor c.loop.invariant.3 c.serve_next.ensures.acts
 
 pub returns-in-Spent-clause-asked : goal.returns-in-Spent-clause-asked
 returns-in-Spent-clause-asked g c =
     let A = g.A.Actor in
     let L = g.W.L in
     let C = g.C.Clock in
-    leaves_more g.W.Door.door_faults g.W.Door.ledger (IsFresh L.Sink.written L.Source.read_faults L.Sink.write_faults) (IsServed c.args.kind L.Sink.written L.Source.read_faults L.Sink.write_faults)
-    (ServesLinkTold A.number A.between A.is_spent A.stands g.A.Reader.ReadAt.tells g.A.Reader.ReadAt.faults L.Source.left L.Sink.written L.Sink.write_faults (IsTold g.G.Gate.entered g.G.Gate.left c.args.gate.now c.args.post) c.args.kind)
+    leaves_more g.W.Door (IsFresh L.Sink.written L.Source.read_faults L.Sink.write_faults) (IsServed c.args.kind L.Sink.written L.Source.read_faults L.Sink.write_faults)
+    (ServesLinkTold A g.A.Reader.ReadAt L.Source L.Sink (IsTold g.G.Gate c.args.hook.now.gate.now c.args.hook.now.post) c.args.kind)
     c.args.actor.now c.loop.actor c.serve_next.new.actor (C.coming c.args.clock.now) (C.coming c.loop.clock) (C.coming c.serve_next.new.clock) c.args.door.now c.loop.door c.serve_next.new.door
     c.loop.invariant.4.left c.in-Spent.ensures.asked
 

@@ -14,7 +14,7 @@ invariant-loop g l =
     let C = g.C.Clock in
     (goal.iterator-loop g).can_next l.iterator' × (goal.iterator-loop g).is_finite l.iterator'
     × ((m : Machine) × A.stands l.actor m)
-    × MakesOnly A.number A.between is_of_link l.fn.actor l.actor
-    × LeavesTold W.door_faults W.ledger (IsServed l.kind L.Sink.written L.Source.read_faults L.Sink.write_faults)
-    (λ links results. InTurn (IsFresh L.Sink.written L.Source.read_faults L.Sink.write_faults) (ServesLinkTold A.number A.between A.is_spent A.stands R.tells R.faults L.Source.left L.Sink.written L.Sink.write_faults (IsTold g.G.Gate.entered g.G.Gate.left l.gate l.post) l.kind) l.fn.actor (C.coming l.fn.clock) links results l.actor (C.coming l.clock))
+    × MakesOnly A is_of_link l.fn.actor l.actor
+    × LeavesTold W (IsServed l.kind L.Sink.written L.Source.read_faults L.Sink.write_faults)
+    (λ links results. InTurn (IsFresh L.Sink.written L.Source.read_faults L.Sink.write_faults) (ServesLinkTold A R L.Source L.Sink (IsTold g.G.Gate l.hook.gate.now l.hook.post) l.kind) l.fn.actor (C.coming l.fn.clock) links results l.actor (C.coming l.clock))
     l.fn.door l.lacked l.door

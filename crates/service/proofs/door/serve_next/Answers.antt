@@ -17,7 +17,7 @@ returns-in-Spent-clause-asked g c =
       link = c.serve_link-served.new.link;
       result = c.serve_link-served.result;
       fresh = gives.3;
-      serves = (c.serve_link-served.ensures.serves, (c.enter.ensures.told, c.tell_served.ensures.told));
+      serves = (c.serve_link-served.ensures.serves, (c.enter.ensures.told, c.leave.ensures.told));
       returned = c.back.ensures.back.2 ∙ (ap (λ o. option_map (one_back c.serve_link-served.new.link) o) gives.2 ∙ back_one c.serve_link-served.new.link (g.W.Door.ledger c.args.door.now));
       faults_rise = rw c.back.ensures.back.1 c.in-Link.ensures.faults;
     }
@@ -33,7 +33,7 @@ returns-in-Memory-clause-asked g c =
         link = c.serve_link-served.new.link;
         result = c.serve_link-served.result;
         fresh = gives.3;
-        serves = (c.serve_link-served.ensures.serves, (c.enter.ensures.told, c.tell_served.ensures.told));
+        serves = (c.serve_link-served.ensures.serves, (c.enter.ensures.told, c.leave.ensures.told));
         returned = c.back.ensures.back.2 ∙ (ap (λ o. option_map (one_back c.serve_link-served.new.link) o) gives.2 ∙ back_one c.serve_link-served.new.link (g.W.Door.ledger c.args.door.now));
         faults_rise = rw c.back.ensures.back.1 c.in-Link.ensures.faults;
       },
@@ -50,7 +50,7 @@ returns-in_default-clause-asked g c =
         link = c.serve_link-served.new.link;
         result = c.serve_link-served.result;
         fresh = gives.3;
-        serves = (c.serve_link-served.ensures.serves, (c.enter.ensures.told, c.tell_served.ensures.told));
+        serves = (c.serve_link-served.ensures.serves, (c.enter.ensures.told, c.leave.ensures.told));
         returned = c.back.ensures.back.2 ∙ (ap (λ o. option_map (one_back c.serve_link-served.new.link) o) gives.2 ∙ back_one c.serve_link-served.new.link (g.W.Door.ledger c.args.door.now));
         faults_rise = rw c.back.ensures.back.1 c.in-Link.ensures.faults;
       },
@@ -59,7 +59,7 @@ returns-in_default-clause-asked g c =
     )
 
 pub returns-in-Closed-clause-acts : goal.returns-in-Closed-clause-acts
-returns-in-Closed-clause-acts g c = makes g.A.Actor.number g.A.Actor.between c.args.actor.now c.args.actor.now _ (made_nothing g.A.Actor.number g.A.Actor.between g.met.A.Actor.nothing c.args.actor.now) tt
+returns-in-Closed-clause-acts g c = makes g.A.Actor c.args.actor.now c.args.actor.now _ (made_nothing g.A.Actor.number g.A.Actor.between g.met.A.Actor.nothing c.args.actor.now) tt
 
 pub returns-in-Closed-clause-asked : goal.returns-in-Closed-clause-asked
 returns-in-Closed-clause-asked g c = (c.in-Closed.ensures.gives.1, c.in-Closed.ensures.faults, c.in-Closed.ensures.gives.0)
@@ -68,7 +68,7 @@ pub returns-in-Closed-clause-stays : goal.returns-in-Closed-clause-stays
 returns-in-Closed-clause-stays g c failed end = (refl, refl)
 
 pub returns-in-Failed-clause-acts : goal.returns-in-Failed-clause-acts
-returns-in-Failed-clause-acts g c = makes g.A.Actor.number g.A.Actor.between c.args.actor.now c.args.actor.now _ (made_nothing g.A.Actor.number g.A.Actor.between g.met.A.Actor.nothing c.args.actor.now) tt
+returns-in-Failed-clause-acts g c = makes g.A.Actor c.args.actor.now c.args.actor.now _ (made_nothing g.A.Actor.number g.A.Actor.between g.met.A.Actor.nothing c.args.actor.now) tt
 
 pub returns-in-Failed-clause-asked : goal.returns-in-Failed-clause-asked
 returns-in-Failed-clause-asked g c = (c.in-Failed.ensures.gives.2, c.in-Failed.ensures.faults, c.in-Failed.ensures.gives.3)

@@ -1,6 +1,6 @@
 use Rattle.std.proofs.Common.{◌⊎◌, inl, inr, refl}
 use Rattle.service.proofs.Completeness.{feed_completes, request_completes}
-use Rattle.service.proofs.Ends.{fed_by_peer, fed_spent, fed_why, replied_by_peer, replied_spent, request_begun, request_why}
+use Rattle.service.proofs.Ends.{fed_by_peer, fed_spent, fed_why, request_why}
 use Rattle.service.proofs.FeedActs.{feed_makes}
 use Rattle.service.proofs.LastLines.{feed_begun}
 use Rattle.service.proofs.Replying.{replies_acts}
@@ -17,7 +17,7 @@ pub returns-in-Feed-clause-serves : goal.returns-in-Feed-clause-serves
 returns-in-Feed-clause-serves g c = rw c.in-Feed.is (c.feed.result, c.from.ensures, c.feed.ensures.feeds)
 
 pub returns-in-Feed-clause-acts : goal.returns-in-Feed-clause-acts
-returns-in-Feed-clause-acts g c = feed_makes g.A.Actor.number g.A.Actor.between c.feed.result c.args.actor.now c.feed.new.actor _ _ _ _ _ c.feed.ensures.feeds
+returns-in-Feed-clause-acts g c = feed_makes g.A.Actor c.feed.result c.args.actor.now c.feed.new.actor _ _ _ _ _ c.feed.ensures.feeds
 
 pub returns-in-Feed-clause-begun : goal.returns-in-Feed-clause-begun
 returns-in-Feed-clause-begun g c = rw (c.in-Feed.is, c.from.ensures) (feed_begun g.row.A-Reader.Denot c.feed.ensures.feeds.end c.feed.result c.feed.ensures.feeds.taken _ _ c.feed.ensures.feeds.replies)
@@ -31,7 +31,7 @@ returns-in-Feed-clause-peer_fault g c peer = c.feed.ensures.peer_fault (fed_by_p
 pub returns-in-Feed-clause-spent : goal.returns-in-Feed-clause-spent
 returns-in-Feed-clause-spent g c spent =
     let A = g.A.Actor in
-    now_spent A.between A.is_spent g.met.A.Actor.nothing c.feed.new.actor (c.feed.ensures.spent (fed_spent c.from.result c.feed.result c.from.ensures spent))
+    now_spent A g.met.A.Actor.nothing c.feed.new.actor (c.feed.ensures.spent (fed_spent c.from.result c.feed.result c.from.ensures spent))
 
 pub returns-in-Feed-clause-complete : goal.returns-in-Feed-clause-complete
 returns-in-Feed-clause-complete g c m is quiet =
@@ -40,36 +40,33 @@ returns-in-Feed-clause-complete g c m is quiet =
     let result = c.feed.result in
     let none = neither quiet.reads quiet.writes in
     rw (c.in-Feed.is, c.from.ensures) (
-    feed_completes c.soundness_stays.ensures.answers A.number A.between A.is_spent A.stands met.legal met.sound met.joined met.number_stays met.nothing c.args.actor.now c.feed.new.actor m is quiet.disk quiet.acts g.row.A-Reader.Denot result _ _ _ _ _ c.feed.ensures.feeds
-    (λ peer. none (c.feed.ensures.peer_fault peer)) (λ spent. quiet.acts (now_spent A.between A.is_spent met.nothing c.feed.new.actor (c.feed.ensures.spent spent))))
+    feed_completes c.soundness_stays.ensures.answers A met.legal met.sound met.joined met.number_stays met.nothing c.args.actor.now c.feed.new.actor m is quiet.disk quiet.acts result _ _ _ _ _ c.feed.ensures.feeds
+    (λ peer. none (c.feed.ensures.peer_fault peer)) (λ spent. quiet.acts (now_spent A met.nothing c.feed.new.actor (c.feed.ensures.spent spent))))
 
 pub returns-in-Http-clause-serves : goal.returns-in-Http-clause-serves
-returns-in-Http-clause-serves g c = rw c.in-Http.is ((c.reply_to_request.result, c.from-in-Http.ensures, c.reply_to_request.ensures.replies), refl)
+returns-in-Http-clause-serves g c = rw c.in-Http.is (c.reply_to_request.ensures.replies, refl)
 
 pub returns-in-Http-clause-acts : goal.returns-in-Http-clause-acts
 returns-in-Http-clause-acts g c =
     let A = g.A.Actor in
     let R = g.A.Reader.ReadAt in
-    let acts = replies_acts A.number A.between A.is_spent A.stands R.tells R.faults _ c.args.actor.now c.reply_to_request.new.actor _ _ _ c.reply_to_request.result c.reply_to_request.ensures.replies in
-    request_makes A.number A.between A.is_spent g.met.A.Actor.joined g.met.A.Actor.number_stays R.tells R.faults _ c.args.actor.now c.reply_to_request.new.actor _ _ _ c.reply_to_request.result acts
+    let acts = replies_acts A R _ c.args.actor.now c.reply_to_request.new.actor _ _ _ c.reply_to_request.result c.reply_to_request.ensures.replies in
+    request_makes A g.met.A.Actor.joined g.met.A.Actor.number_stays R _ c.args.actor.now c.reply_to_request.new.actor _ _ _ c.reply_to_request.result acts
 
 pub returns-in-Http-clause-begun : goal.returns-in-Http-clause-begun
-returns-in-Http-clause-begun g c = rw (c.in-Http.is, c.from-in-Http.ensures) (request_begun c.reply_to_request.result _ _ c.reply_to_request.ensures.begun)
+returns-in-Http-clause-begun g c = rw c.in-Http.is c.reply_to_request.ensures.begun
 
 pub returns-in-Http-clause-refused : goal.returns-in-Http-clause-refused
 returns-in-Http-clause-refused g c =
     let A = g.A.Actor in
-    rw c.from-in-Http.ensures (request_why A.number A.between A.is_spent _ _ c.args.actor.now c.reply_to_request.new.actor _ _ _ c.reply_to_request.result c.reply_to_request.ensures.replies)
-
-pub returns-in-Http-clause-peer_fault : goal.returns-in-Http-clause-peer_fault
-returns-in-Http-clause-peer_fault g c peer = c.reply_to_request.ensures.peer_fault (replied_by_peer c.from-in-Http.result c.reply_to_request.result c.from-in-Http.ensures peer)
+    request_why A _ _ c.args.actor.now c.reply_to_request.new.actor _ _ _ c.reply_to_request.result c.reply_to_request.ensures.replies
 
 pub returns-in-Http-clause-spent : goal.returns-in-Http-clause-spent
 returns-in-Http-clause-spent g c spent =
     let A = g.A.Actor in
     let R = g.A.Reader.ReadAt in
-    let acts = replies_acts A.number A.between A.is_spent A.stands R.tells R.faults _ c.args.actor.now c.reply_to_request.new.actor _ _ _ c.reply_to_request.result c.reply_to_request.ensures.replies in
-    request_spent A.number A.between A.is_spent g.met.A.Actor.nothing R.tells R.faults _ c.args.actor.now c.reply_to_request.new.actor _ _ _ c.reply_to_request.result acts (replied_spent c.from-in-Http.result c.reply_to_request.result c.from-in-Http.ensures spent)
+    let acts = replies_acts A R _ c.args.actor.now c.reply_to_request.new.actor _ _ _ c.reply_to_request.result c.reply_to_request.ensures.replies in
+    request_spent A g.met.A.Actor.nothing R _ c.args.actor.now c.reply_to_request.new.actor _ _ _ c.reply_to_request.result acts spent
 
 pub returns-in-Http-clause-complete : goal.returns-in-Http-clause-complete
 returns-in-Http-clause-complete g c m is quiet =
@@ -79,5 +76,5 @@ returns-in-Http-clause-complete g c m is quiet =
     let reply = c.reply_to_request in
     let none = neither quiet.reads quiet.writes in
     rw c.in-Http.is (
-    request_completes c.soundness_stays.ensures.answers A.number A.between A.is_spent A.stands met.legal met.sound met.joined met.number_stays met.nothing c.args.actor.now reply.new.actor m is quiet.disk quiet.acts R.tells R.faults _ _ _ c.from-in-Http.result quiet.writes
-    (λ peer. none (reply.ensures.peer_fault (replied_by_peer c.from-in-Http.result reply.result c.from-in-Http.ensures peer))) quiet.files _ reply.result c.from-in-Http.ensures reply.ensures.replies)
+    request_completes c.soundness_stays.ensures.answers A met.legal met.sound met.joined met.number_stays met.nothing c.args.actor.now reply.new.actor m is quiet.disk quiet.acts R _ _ _ reply.result quiet.writes
+    (λ peer. none (reply.ensures.peer_fault peer)) quiet.files _ reply.ensures.replies)

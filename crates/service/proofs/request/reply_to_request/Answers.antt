@@ -18,8 +18,8 @@ returns-in-Ok-clause-begun g c =
     let L = g.L in
     let mid = c.read_request.new.source in
     let kept = stays L.Source.beside L.Sink.written L.Sink.write_faults g.met.L.Link.written_stays c.args.link.now mid c.read_request.ensures.beside in
-    let acts = call_acts A.number A.between A.is_spent A.stands R.tells R.faults _ c.in-Ok.request.version c.args.actor.now c.serve.new.actor c.in-Ok.request.call (L.Sink.written mid) (L.Sink.written c.serve.new.link) c.serve.result c.serve.ensures.replies in
-    rw kept.0 at (call_begins A.number A.between A.is_spent R.tells R.faults _ c.in-Ok.request.version c.args.actor.now c.serve.new.actor c.in-Ok.request.call (L.Sink.written mid) (L.Sink.written c.serve.new.link) c.serve.result acts)
+    let acts = call_acts A R _ c.in-Ok.request.version c.args.actor.now c.serve.new.actor c.in-Ok.request.call (L.Sink.written mid) (L.Sink.written c.serve.new.link) c.serve.result c.serve.ensures.replies in
+    rw kept.0 at (call_begins A R _ c.in-Ok.request.version c.args.actor.now c.serve.new.actor c.in-Ok.request.call (L.Sink.written mid) (L.Sink.written c.serve.new.link) c.serve.result acts)
 
 pub returns-in-Err-clause-replies : goal.returns-in-Err-clause-replies
 returns-in-Err-clause-replies g c =

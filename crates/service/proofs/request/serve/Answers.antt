@@ -1,7 +1,7 @@
 use Rattle.std.proofs.Common.{refl}
 use Rattle.edge_io.specs.Stream.{Rose}
 use Rattle.service.specs.Data.{AnswersData}
-use Rattle.service.specs.declared.replied.Replied.TheVariants.{Finished}
+use Rattle.service.specs.declared.served.Served.TheVariants.{Finished}
 use Rattle.service.proofs.Replying.{is_managed, manages}
 use Rattle.service.proofs.request.serve.Goals as goal
 
@@ -35,7 +35,7 @@ returns-in-Ok-clause-replies g c =
     let K = g.K.Sink in
     let old = c.args.link.now in
     let new = c.admin.new.sink in
-    manages A.number A.between A.is_spent (AnswersData A.number A.between A.is_spent A.stands R.tells R.faults (Rose (K.write_faults old) (K.write_faults new)) c.args.actor.now (K.written old) c.admin.new.actor (K.written new))
+    manages A (AnswersData A R (Rose (K.write_faults old) (K.write_faults new)) c.args.actor.now (K.written old) c.admin.new.actor (K.written new))
     c.args.request.now.version c.args.actor.now c.admin.new.actor c.args.request.now.call (K.written old) (K.written new) Finished c.admin.result (is_managed c.args.request.now.call c.in_default.not-Raw c.in_default.not-Json) (rw c.in-Ok.is refl) c.admin.ensures.serves
 
 pub reply_with_data-requires-clause-wide : goal.reply_with_data-requires-clause-wide

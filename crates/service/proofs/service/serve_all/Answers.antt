@@ -1,16 +1,17 @@
 use Rattle.std.proofs.Common.{rules, ◌≡◌, ◌∙◌, ◌+◌, ◌<◌, inl, inr, length, ap, refl}
 use Rattle.turn_rooms.specs.Histories.{most_numbers}
 use Rattle.turn_rooms.specs.Passes.{drained, known, stands}
-use Rattle.archive_actors.specs.Steps.{SharedStands, SharedStep}
+use Rattle.archive_actors.specs.Steps.{SharedStands}
 use Rattle.service.proofs.Servicing.{all_end, all_fault, all_full, all_worked, done_length, drawn_can, left_all, met_all, told_as}
 use Rattle.service.proofs.Tending.{placed, written_back}
+use Rattle.serving.specs.Acting.{room_steps}
 use Rattle.service.proofs.service.serve_all.Goals as goal
 
 pub work_all-requires-clause-stand : goal.work_all-requires-clause-stand
 work_all-requires-clause-stand g c κs within =
     let R = g.X.Reader.ReadAt in
     rw c.as_mut_slice.ensures.value
-    (drawn_can _ (SharedStep g.X.Applies.stands g.X.Applies.leaves R.tells R.bytes R.faults) c.args.rooms.now (SharedStands g.X.Applies.stands) c.args.pass.now c.draw_workers.new.pass c.in-Ok.workers.items c.in-Ok.ensures.drawn c.requires.stands)
+    (drawn_can _ (room_steps g.X.Applies R) c.args.rooms.now (SharedStands g.X.Applies.stands) c.args.pass.now c.draw_workers.new.pass c.in-Ok.workers.items c.in-Ok.ensures.drawn c.requires.stands)
 
 pub work_all-requires-clause-as_many : goal.work_all-requires-clause-as_many
 work_all-requires-clause-as_many g c κs within = ap length c.as_mut_slice.ensures.value ∙ placed (λ w. w.place) c.in-Ok.workers.items (length c.args.posts.now + 2) c.in-Ok.ensures.places

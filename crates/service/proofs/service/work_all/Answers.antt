@@ -1,16 +1,16 @@
 use Rattle.std.proofs.Common.{rules, ◌≡◌, ◌++◌, ◌∷◌, [], length, ap, ◌∙◌}
-use Rattle.act_model.specs.Reply.{reply_of}
-use Rattle.archive_actors.specs.Steps.{SharedStands, SharedStep}
+use Rattle.archive_actors.specs.Steps.{SharedStands}
 use Rattle.workers.proofs.Halves.{give_map}
 use Rattle.service.specs.declared.posts.Task.TheVariants.{Flush, Move}
 use Rattle.service.specs.Service.{CanWork, TaskEnds}
 use Rattle.service.proofs.Tending.{all_parts, are_two, became_two, can_all}
+use Rattle.serving.specs.Acting.{room_reply, room_steps}
 use Rattle.service.proofs.service.work_all.Goals as goal
 
 pub run_with-requires-clause-first : goal.run_with-requires-clause-first
 run_with-requires-clause-first g c κs within =
     let R = g.X.Reader.ReadAt in
-    let Can = CanWork (SharedStep g.X.Applies.stands g.X.Applies.leaves R.tells R.bytes R.faults) (SharedStands g.X.Applies.stands) c.args.rooms.now in
+    let Can = CanWork (room_steps g.X.Applies R) (SharedStands g.X.Applies.stands) c.args.rooms.now in
     let front = c.split_at_mut-at_doors.result.0.now in
     let back = c.split_at_mut-at_doors.result.1.now in
     let both = all_parts Can front back (rw (← c.split_at_mut-at_doors.ensures.value) c.requires.stand) in
@@ -19,7 +19,7 @@ run_with-requires-clause-first g c κs within =
 pub run_with-requires-clause-second : goal.run_with-requires-clause-second
 run_with-requires-clause-second g c κs within =
     let R = g.X.Reader.ReadAt in
-    let Can = CanWork (SharedStep g.X.Applies.stands g.X.Applies.leaves R.tells R.bytes R.faults) (SharedStands g.X.Applies.stands) c.args.rooms.now in
+    let Can = CanWork (room_steps g.X.Applies R) (SharedStands g.X.Applies.stands) c.args.rooms.now in
     let front = c.split_at_mut-at_doors.result.0.now in
     let back = c.split_at_mut-at_doors.result.1.now in
     let both = all_parts Can front back (rw (← c.split_at_mut-at_doors.ensures.value) c.requires.stand) in
@@ -29,8 +29,8 @@ pub returns : goal.returns
 returns g c =
     let R = g.X.Reader.ReadAt in
     let coming = g.C.Clock.coming in
-    let steps = SharedStep g.X.Applies.stands g.X.Applies.leaves R.tells R.bytes R.faults in
-    let reply = reply_of R.tells R.bytes R.faults in
+    let steps = room_steps g.X.Applies R in
+    let reply = room_reply R in
     let rooms = c.args.rooms.now in
     let front = c.split_at_mut-at_doors.result.0.now in
     let back = c.split_at_mut-at_doors.result.1.now in

@@ -6,4 +6,4 @@ use Rattle.serving.proofs.flusher.tick_all.Given as goal
 abbrev pub invariant-loop-row : goal.invariant-loop-row
 invariant-loop-row g l =
     ((m : Machine) × g.A.Actor.stands l.actor m)
-    × Does g.A.Actor.number g.A.Actor.between l.fn.actor (TicksTo l.now l.row) l.actor
+    × Does g.A.Actor l.fn.actor (TicksTo l.now l.row) l.actor

@@ -8,24 +8,21 @@ use Rattle.serving.proofs.mover.sweep_in_round.Goals as goal
 
 pub returns-in-Ok-clause-sweeps : goal.returns-in-Ok-clause-sweeps
 returns-in-Ok-clause-sweeps g c =
-    let number = g.A.Actor.number in
-    let between = g.A.Actor.between in
-    does_as number between (IsSwept (Ok tt)) (SweepsSo None) (λ ds p. p) c.args.actor.now c.sweep.new.actor
-    (subst (λ e. Does number between c.args.actor.now (IsSwept e) c.sweep.new.actor) c.in-Ok.is c.sweep.ensures.sweeps)
+    let A = g.A.Actor in
+    does_as A (IsSwept (Ok tt)) (SweepsSo None) (λ ds p. p) c.args.actor.now c.sweep.new.actor
+    (subst (λ e. Does A c.args.actor.now (IsSwept e) c.sweep.new.actor) c.in-Ok.is c.sweep.ensures.sweeps)
 
 pub returns-in-Err-clause-sweeps : goal.returns-in-Err-clause-sweeps
 returns-in-Err-clause-sweeps g c =
-    let number = g.A.Actor.number in
-    let between = g.A.Actor.between in
-    subst (λ r. IfOk r (λ end. Does number between c.args.actor.now (SweepsSo end) c.sweep.new.actor)) (sym c.end_met.ensures)
-    (sweep_met number between c.args.actor.now c.sweep.new.actor c.in-Err.err
-    (subst (λ e. Does number between c.args.actor.now (IsSwept e) c.sweep.new.actor) c.in-Err.is c.sweep.ensures.sweeps))
+    let A = g.A.Actor in
+    subst (λ r. IfOk r (λ end. Does A c.args.actor.now (SweepsSo end) c.sweep.new.actor)) (sym c.end_met.ensures)
+    (sweep_met A c.args.actor.now c.sweep.new.actor c.in-Err.err
+    (subst (λ e. Does A c.args.actor.now (IsSwept e) c.sweep.new.actor) c.in-Err.is c.sweep.ensures.sweeps))
 
 pub returns-in-Err-clause-spent : goal.returns-in-Err-clause-spent
 returns-in-Err-clause-spent g c =
-    let number = g.A.Actor.number in
-    let between = g.A.Actor.between in
-    subst (λ r. OnErr r (Does number between c.args.actor.now AreNone c.sweep.new.actor × g.A.Actor.is_spent c.sweep.new.actor)) (sym c.end_met.ensures)
-    (spent_met number between c.args.actor.now c.sweep.new.actor g.A.Actor.is_spent (IsSwept (Err c.in-Err.err)) AreNone c.in-Err.err (λ is. c.sweep.ensures.spent (c.in-Err.is ∙ ap Err is))
+    let A = g.A.Actor in
+    subst (λ r. OnErr r (Does A c.args.actor.now AreNone c.sweep.new.actor × g.A.Actor.is_spent c.sweep.new.actor)) (sym c.end_met.ensures)
+    (spent_met A c.args.actor.now c.sweep.new.actor g.A.Actor.is_spent (IsSwept (Err c.in-Err.err)) AreNone c.in-Err.err (λ is. c.sweep.ensures.spent (c.in-Err.is ∙ ap Err is))
     (λ is ds p. subst (λ e. IsSwept (Err e) ds) is p)
-    (subst (λ e. Does number between c.args.actor.now (IsSwept e) c.sweep.new.actor) c.in-Err.is c.sweep.ensures.sweeps))
+    (subst (λ e. Does A c.args.actor.now (IsSwept e) c.sweep.new.actor) c.in-Err.is c.sweep.ensures.sweeps))

@@ -8,12 +8,11 @@ use Rattle.serving.proofs.Moving.{MovesTo, none_yet, store_more, store_ends, sto
 use Rattle.serving.proofs.moves.move_store.Goals as goal
 
 pub loop-init : goal.loop-init
-loop-init g c = (tt, tt, c.requires.stands, does_none g.A.Actor.number g.A.Actor.between g.met.A.Actor.nothing (MovesTo c.args.store c.args.now 0) (none_yet c.args.store c.args.now) c.args.actor.now)
+loop-init g c = (tt, tt, c.requires.stands, does_none g.A.Actor g.met.A.Actor.nothing (MovesTo c.args.store c.args.now 0) (none_yet c.args.store c.args.now) c.args.actor.now)
 
 pub loop-preserved : goal.loop-preserved
 loop-preserved g c =
-    let number = g.A.Actor.number in
-    let between = g.A.Actor.between in
+    let A = g.A.Actor in
     let store = c.args.store in
     let now = c.args.now in
     let parts = c.in-Ok-Over.parts in
@@ -21,29 +20,27 @@ loop-preserved g c =
       tt,
       tt,
       c.move_once.ensures.stands,
-      subst (λ r. Does number between c.args.actor.now (MovesTo store now r) c.move_once.new.actor) (sym c.saturating_add-retired.ensures)
-          (join number between g.met.A.Actor.joined g.met.A.Actor.number_stays (MovesTo store now retired) (OneMoveSo store now (Ok (one.Over parts))) (MovesTo store now (min (retired + parts) (2 ^ 64 - 1))) (store_more store now retired parts) c.args.actor.now c.loop.actor c.move_once.new.actor c.loop.invariant.3
-          (subst (λ e. Does number between c.loop.actor (OneMoveSo store now e) c.move_once.new.actor) (c.in-Ok-Over.is ∙ ap Ok c.in-Ok-Over.field-0-is) c.move_once.ensures.moves)),
+      subst (λ r. Does A c.args.actor.now (MovesTo store now r) c.move_once.new.actor) (sym c.saturating_add-retired.ensures)
+          (join A g.met.A.Actor.joined g.met.A.Actor.number_stays (MovesTo store now retired) (OneMoveSo store now (Ok (one.Over parts))) (MovesTo store now (min (retired + parts) (2 ^ 64 - 1))) (store_more store now retired parts) c.args.actor.now c.loop.actor c.move_once.new.actor c.loop.invariant.3
+          (subst (λ e. Does A c.loop.actor (OneMoveSo store now e) c.move_once.new.actor) (c.in-Ok-Over.is ∙ ap Ok c.in-Ok-Over.field-0-is) c.move_once.ensures.moves)),
     )
 
 pub returns-in-Ok-Nothing-clause-moves : goal.returns-in-Ok-Nothing-clause-moves
 returns-in-Ok-Nothing-clause-moves g c =
-    let number = g.A.Actor.number in
-    let between = g.A.Actor.between in
+    let A = g.A.Actor in
     let store = c.args.store in
     let now = c.args.now in
     let doors = c.in-Ok-Nothing.doors in
     let retired = c.loop.retired in
-    join number between g.met.A.Actor.joined g.met.A.Actor.number_stays (MovesTo store now retired) (OneMoveSo store now (Ok (one.Nothing doors))) (StoreMovesSo store now (Ok (record { retired = retired; doors = doors }))) (store_ends store now retired doors) c.args.actor.now c.loop.actor c.move_once.new.actor c.loop.invariant.3
-    (subst (λ e. Does number between c.loop.actor (OneMoveSo store now e) c.move_once.new.actor) (c.in-Ok-Nothing.is ∙ ap Ok c.in-Ok-Nothing.field-0-is) c.move_once.ensures.moves)
+    join A g.met.A.Actor.joined g.met.A.Actor.number_stays (MovesTo store now retired) (OneMoveSo store now (Ok (one.Nothing doors))) (StoreMovesSo store now (Ok (record { retired = retired; doors = doors }))) (store_ends store now retired doors) c.args.actor.now c.loop.actor c.move_once.new.actor c.loop.invariant.3
+    (subst (λ e. Does A c.loop.actor (OneMoveSo store now e) c.move_once.new.actor) (c.in-Ok-Nothing.is ∙ ap Ok c.in-Ok-Nothing.field-0-is) c.move_once.ensures.moves)
 
 pub returns-in-Err-clause-moves : goal.returns-in-Err-clause-moves
 returns-in-Err-clause-moves g c =
-    let number = g.A.Actor.number in
-    let between = g.A.Actor.between in
+    let A = g.A.Actor in
     let store = c.args.store in
     let now = c.args.now in
     let why = c.in-Err.err in
     let retired = c.loop.retired in
-    join number between g.met.A.Actor.joined g.met.A.Actor.number_stays (MovesTo store now retired) (OneMoveSo store now (Err why)) (StoreMovesSo store now (Err why)) (store_stops why store now retired) c.args.actor.now c.loop.actor c.move_once.new.actor c.loop.invariant.3
-    (subst (λ e. Does number between c.loop.actor (OneMoveSo store now e) c.move_once.new.actor) c.in-Err.is c.move_once.ensures.moves)
+    join A g.met.A.Actor.joined g.met.A.Actor.number_stays (MovesTo store now retired) (OneMoveSo store now (Err why)) (StoreMovesSo store now (Err why)) (store_stops why store now retired) c.args.actor.now c.loop.actor c.move_once.new.actor c.loop.invariant.3
+    (subst (λ e. Does A c.loop.actor (OneMoveSo store now e) c.move_once.new.actor) c.in-Err.is c.move_once.ensures.moves)

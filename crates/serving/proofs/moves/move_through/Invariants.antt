@@ -7,4 +7,4 @@ abbrev pub invariant-loop : goal.invariant-loop
 invariant-loop g l =
     (goal.iterator-loop g).can_next l.iterator' × (goal.iterator-loop g).is_finite l.iterator'
     × ((m : Machine) × g.A.Actor.stands l.actor m)
-    × Does g.A.Actor.number g.A.Actor.between l.fn.actor (AreStepsOn l.m) l.actor
+    × Does g.A.Actor l.fn.actor (AreStepsOn l.m) l.actor
