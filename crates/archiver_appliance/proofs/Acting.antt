@@ -13,7 +13,7 @@ use Rattle.tier_store.specs.Seen.{Seen, seen, granularities}
 use Rattle.tier_store.specs.Stores.{Stores}
 use Rattle.tier_store.specs.declared.store.TierStore.{TierStore}
 use Rattle.store_reopen.specs.Reopen.{IsUnopened, OpensEither, stores_of}
-use Rattle.store_reopen.proofs.HandedBack.{has_opens, doubt_opens, open_unopened}
+use Rattle.store_reopen.proofs.Swept.{has_opens, doubt_opens, open_unopened}
 use Rattle.act_model.specs.Alone.{Alone, Chain}
 use Rattle.act_model.specs.Growth.{Onward}
 use Rattle.act_model.specs.History.{Done, Entry, mine, own}
@@ -29,7 +29,7 @@ use Rattle.archive_core.specs.Parts.{parts}
 use Rattle.archive_core.specs.Running.{HoldsBetween, RunsOn}
 use Rattle.archive_core.specs.Stands.{InDoubt, Stands, TellsHeaders}
 use Rattle.archive_core.specs.declared.archive.Archive.{Archive}
-use Rattle.archive_core.proofs.RunOfActs.{chain_runs_on}
+use Rattle.archive_core.proofs.Acting.{chain_runs_on}
 use Rattle.archiver_appliance.specs.Acting.{ActsAlone, ActsFrom, IsFresh, IsOpenedOn, OpensAgain, header_by, rule_of}
 use Rattle.archiver_appliance.specs.Outside.{HasNotFallen}
 use Rattle.service.proofs.Counting.{runs_counts, runs_rose}

@@ -18,12 +18,12 @@ use Rattle.series_model.specs.declared.sample.Sample.{Sample}
 use Rattle.store_manifest.specs.declared.entry.Entry.{Entry}
 use Rattle.durable_write.specs.Held.{KeepsListed}
 use Rattle.durable_write.specs.Writing.{LeavesListed}
-use Rattle.durable_write.proofs.KeptBytes.{keeps_outside}
+use Rattle.durable_write.proofs.Staying.{keeps_outside}
 use Rattle.tier_store.specs.Seen.{granularities, seen}
 use Rattle.tier_store.specs.Stored.{HoldsAll}
 use Rattle.tier_store.specs.Stores.{Stores, samples_in}
 use Rattle.tier_store.specs.declared.store.TierStore.{TierStore}
-use Rattle.tier_store.proofs.Left.{has_left}
+use Rattle.tier_store.proofs.Holding.{has_left}
 use Rattle.store_reopen.specs.Adoption.{Adopts, AdoptsFrom, HasAdopted, IsAdoption, adopt_disk_in}
 use Rattle.store_reopen.specs.Reopen.{HoldsEither, OpensEither, SameStores, disk_in, stores_of}
 use Rattle.store_reopen.specs.Steps.{Step, NewRow, Lists, made_by, stage}
@@ -34,7 +34,7 @@ use Rattle.store_reopen.specs.declared.adopted.AdoptErr.{AdoptErr}
 use Rattle.store_reopen.specs.declared.adopted.AdoptErr.TheVariants as adopting
 use Rattle.store_reopen.specs.declared.error.ReopenErr.{ReopenErr}
 use Rattle.store_reopen.specs.declared.error.ReopenErr.TheVariants as reopening
-use Rattle.store_reopen.proofs.Adoptions.{adoption_extends}
+use Rattle.store_reopen.proofs.TakenFiles.{adoption_extends}
 use Rattle.command_words.specs.declared.command.Command.TheVariants.{OverStore}
 use Rattle.command_words.specs.declared.command.StoreCommand.TheVariants as command
 use Rattle.command_words.specs.declared.status.Status.{Status}

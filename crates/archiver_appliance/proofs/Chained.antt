@@ -17,8 +17,8 @@ use Rattle.durable_write.specs.Writing.{LeavesListed}
 use Rattle.tier_store.specs.Change.{Has}
 use Rattle.tier_store.specs.Pinned.{IsThereTo, LeavesFronts}
 use Rattle.tier_store.specs.Stores.{Stores}
-use Rattle.tier_store.proofs.LeavingFronts.{fronts_on, nothing_fronts}
-use Rattle.tier_store.proofs.OpenedBeside.{listed_to}
+use Rattle.tier_store.proofs.Frames.{fronts_on, nothing_fronts}
+use Rattle.tier_store.proofs.ReadCalls.{listed_to}
 use Rattle.act_model.specs.Alone.{Chain}
 use Rattle.act_model.specs.History.{Done, Entry, done_of, mine, own}
 use Rattle.act_model.specs.Machine.{Machine}
@@ -28,10 +28,9 @@ use Rattle.act_model.specs.declared.acts.Act.TheVariants.{Register, Offer, Flush
 use Rattle.act_model.specs.declared.acts.Answer.TheVariants.{IntakeFull}
 use Rattle.archive_core.specs.Leaving.{Leaves, LeavesFiles, ReadsAlone, files_of}
 use Rattle.archive_core.specs.Parts.{Parts}
-use Rattle.archive_core.proofs.ReadingAlone.{reads_none, reads_then}
-use Rattle.feed_session.specs.Asks.{AsksFor, AsksRow, AreMade, asked_again}
+use Rattle.archive_core.proofs.Opened.{reads_none, reads_then}
+use Rattle.feed_session.specs.Asks.{AsksFor, AsksRow, AreMade, asked_again, chunk_behind}
 use Rattle.feed_session.specs.Session.{AreTaken, AsksLast, Session, Taken, acts_of, chunk_after}
-use Rattle.feed_session.specs.Asks.{chunk_behind}
 use Rattle.feed_session.specs.declared.end.Fed.{Fed}
 use Rattle.retrieval_query.specs.Openings.{PieceTold, openings}
 use Rattle.retrieval_query.specs.Retrieving.{given_up}

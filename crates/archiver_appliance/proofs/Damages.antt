@@ -28,7 +28,7 @@ use Rattle.tier_store.specs.Change.{Has, IsListedIn}
 use Rattle.tier_store.specs.Seen.{Seen, IsSettled}
 use Rattle.tier_store.specs.Stores.{Stores, list_at}
 use Rattle.tier_store.proofs.Showing.{low_of}
-use Rattle.tier_store.proofs.There.{Listed, front_there, listed_file}
+use Rattle.tier_store.proofs.Places.{Listed, front_there, listed_file}
 use Rattle.store_reopen.specs.Reopen.{entries_in, lists_of}
 use Rattle.act_model.specs.Alone.{Chain}
 use Rattle.act_model.specs.History.{Done, Entry, done_of}

@@ -62,6 +62,11 @@ module _ (rows : List Row) (short medium long : List Entry) (a b : Option (List 
   rows_undamaged DoorFault t = tt
   rows_undamaged Spent t = tt
 
+  pub rows_opened : (status : Status) → TellsListed rows short medium long a b status → IsOfOpened status
+  rows_opened Usage t = absurd t
+  rows_opened (GranularityDiffers kept asked) t = absurd t
+  rows_opened status t = tt
+
   rows_told : (status : Status) → TellsListed rows short medium long a b status → ((name : Name) (at : ℕ) → status ≡ Damaged name at → ⊥) × ((kept asked : Granularity) → status ≡ GranularityDiffers kept asked → ⊥)
   rows_told status t = (λ name at is. subst (λ (s : Status). TellsListed rows short medium long a b s) is t, λ kept asked is. subst (λ (s : Status). TellsListed rows short medium long a b s) is t)
 

@@ -29,7 +29,7 @@ use Rattle.archive_core.specs.Leaving.{Leaves}
 use Rattle.archive_core.specs.Parts.{parts}
 use Rattle.archive_core.specs.Stands.{Stands}
 use Rattle.archive_core.specs.declared.archive.Archive.{Archive}
-use Rattle.archive_core.proofs.RunOfActs.{chain_runs_on}
+use Rattle.archive_core.proofs.Acting.{chain_runs_on}
 use Rattle.retrieval_query.specs.Retrieving.{IsPinned, NotPinned, ReadsHeaders, WritesAnswer}
 use Rattle.retrieval_query.specs.declared.retrieved.Retrieved.{Retrieved}
 use Rattle.retrieval_query.specs.declared.retrieved.Retrieved.TheVariants as got

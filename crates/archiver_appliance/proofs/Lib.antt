@@ -15,6 +15,7 @@ pub mod Ingests
 pub mod Judgements
 pub mod LeftFiles
 pub mod MovedParts
+pub mod Obeying
 pub mod Opening
 pub mod Outcomes
 pub mod PinSteps

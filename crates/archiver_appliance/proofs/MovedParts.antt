@@ -15,7 +15,7 @@ use Rattle.tier_store.specs.Change.{Has}
 use Rattle.tier_store.specs.Seen.{granularities}
 use Rattle.tier_store.specs.Stored.{HoldsAll}
 use Rattle.tier_store.specs.Stores.{Stores, list_at}
-use Rattle.tier_store.proofs.Left.{has_left}
+use Rattle.tier_store.proofs.Holding.{has_left}
 use Rattle.tier_store.proofs.Places.{manifest_at}
 use Rattle.tier_store.proofs.Showing.{low_of}
 use Rattle.store_reopen.specs.Verdict.{HasRow, IsThere, IsWhole}

@@ -14,15 +14,14 @@ use Rattle.store_manifest.proofs.Committing.{one_listing}
 use Rattle.durable_write.specs.Held.{KeepsListed, file_of}
 use Rattle.store_files.specs.Fronts.{Keeps}
 use Rattle.durable_write.specs.Writing.{LeavesListed}
-use Rattle.durable_write.proofs.KeptBytes.{keeps_outside, leaves_on}
+use Rattle.durable_write.proofs.Staying.{keeps_outside, leaves_on}
 use Rattle.store_reopen.specs.Reopen.{KeepsSite, LeavesSite, SameStores, AllIn, ChangesOne, HoldsEither, OpensEither, Reopens, StillHolds, Sweeps}
 use Rattle.store_reopen.specs.Strays.{IsStray, SweptStores}
-use Rattle.store_reopen.proofs.OneJournal.{one_list_of_rows}
+use Rattle.store_reopen.proofs.Having.{one_list_of_rows, granularity_here}
 use Rattle.tier_store.specs.Change.{IsEither}
 use Rattle.tier_store.specs.Stored.{HoldsAll}
 use Rattle.tier_store.specs.Stores.{Stores}
 use Rattle.store_reopen.specs.Verdict.{AreSaid, IsWhole, Listings}
-use Rattle.store_reopen.proofs.Having.{granularity_here}
 use Rattle.archiver_appliance.specs.Run.{IsReading, IsReport, OnlyOpens, OnlyReads}
 use Rattle.command_words.specs.declared.command.StoreCommand.{StoreCommand}
 use Rattle.command_words.specs.declared.command.StoreCommand.TheVariants as command

@@ -28,8 +28,7 @@ use Rattle.act_model.specs.Step.{Step}
 use Rattle.act_model.specs.Whole.{whole}
 use Rattle.archive_core.specs.Parts.{Parts}
 use Rattle.archive_core.specs.Stands.{Stands}
-use Rattle.archive_core.proofs.Making.{kept_to}
-use Rattle.archive_core.proofs.Wholes.{accepted_held}
+use Rattle.archive_core.proofs.Windows.{kept_to, accepted_held}
 use Rattle.archive_core.proofs.KeptRows.{Placed, placed, place_none, place_some, row_there}
 use Rattle.archiver_appliance.specs.Acting.{IsOpenedOn}
 use Rattle.archiver_appliance.specs.Retrieving.{HasNone}

@@ -9,6 +9,10 @@ use Rattle.std.proofs.lemmas.List.Elements.{All-cons, All-head, All-nil, All-tai
 use Rattle.edge_io.specs.Doors.{Ledger}
 use Rattle.edge_io.specs.Moments.{Moments}
 use Rattle.edge_io.specs.Stream.{Rose}
+use Rattle.edge_io.specs.declared.link.Door.{Ghosts as OfDoor}
+use Rattle.edge_io.specs.declared.stream.Source.{Ghosts as OfSource}
+use Rattle.edge_io.specs.declared.stream.Sink.{Ghosts as OfSink}
+use Rattle.disk_model.specs.declared.disk.ReadAt.{Ghosts as OfFile}
 use Rattle.store_reopen.specs.declared.error.ReopenErr.{ReopenErr}
 use Rattle.store_reopen.specs.declared.error.ReopenErr.TheVariants as reopening
 use Rattle.turn_rooms.specs.declared.rooms.Pass.{Pass}
@@ -16,6 +20,7 @@ use Rattle.turn_rooms.specs.declared.rooms.Rooms.{Rooms}
 use Rattle.turn_rooms.specs.Histories.{most_acts, most_numbers}
 use Rattle.turn_rooms.specs.Passes.{known, stands}
 use Rattle.act_model.specs.declared.acts.Act.{Act}
+use Rattle.act_model.specs.declared.actor.Actor.{Ghosts as OfActor}
 use Rattle.act_model.specs.declared.actor.Spent.{Spent as NoAct}
 use Rattle.act_model.specs.History.{Entry}
 use Rattle.act_model.specs.Machine.{Machine}
@@ -23,7 +28,7 @@ use Rattle.act_model.specs.Reply.{Reply}
 use Rattle.serving.specs.declared.ends.FlushEnd.{FlushEnd}
 use Rattle.serving.specs.declared.ends.MoverEnd.{MoverEnd}
 use Rattle.service.specs.declared.door.DoorServed.{DoorServed}
-use Rattle.service.specs.declared.door.DoorServed.TheVariants as door
+use Rattle.service.specs.declared.door.DoorServed.TheVariants as ended
 use Rattle.service.specs.declared.posts.Post.{Post}
 use Rattle.service.specs.declared.served.Kind.{Kind}
 use Rattle.service.specs.declared.service.AllServed.{AllServed}
@@ -45,18 +50,17 @@ use Rattle.command_words.specs.declared.status.Status.TheVariants.{Done, DoorFau
 -- HOW EACH DOOR WAS LEFT
 
 -- what is left of a door's service where its links' sessions are left out
-module _ {A D L R : Type 0} (number : A → ℕ) (between : A → List Entry → A → Type 0) (is_spent : A → Type 0) (stands : A → Machine → Type 0) (tells : Bool) (reader_faults : R → ℕ) (left written : L → Option (List ℕ)) (read_faults write_faults : L → ℕ)
-    (is_closed : D → Bool) (faults : D → ℕ) (ledger : D → Option (Ledger L)) (Told : ℕ → Type 0) where
+module _ {A D L R : Type 0} (actor : OfActor A R) (file : OfFile R) (source : OfSource L) (sink : OfSink L) (door : OfDoor D L) (Told : ℕ → Type 0) where
   pub door_left : (kind : Kind) (place : ℕ) (a : A) (clock : Option Moments) (was : D) (served : DoorServed) (b : A) (clock' : Option Moments) (now : D)
-      → ServesDoorAt number between is_spent stands tells reader_faults left written read_faults write_faults is_closed faults ledger Told kind place a clock was served b clock' now
-      → DoorLeft is_closed faults ledger (λ kind l. IsServed kind written read_faults write_faults l) kind was served now
-  door_left kind place a clock was (door.Done lacked failed) b clock' now s =
+      → ServesDoorAt actor file source sink door Told kind place a clock was served b clock' now
+      → DoorLeft door.is_closed door.door_faults door.ledger (λ kind l. IsServed kind sink.written source.read_faults sink.write_faults l) kind was served now
+  door_left kind place a clock was (ended.Done lacked failed) b clock' now s =
       (record { links = s.asked.0.left.links; returned = s.asked.0.left.returned; are = s.asked.0.are; faults_rise = s.asked.0.left.faults_rise }, s.asked.1)
-  door_left kind place a clock was door.Spent b clock' now s = record { links = s.asked.links; returned = s.asked.returned; are = λ no. absurd (false≢true (sym no)); faults_rise = s.asked.faults_rise }
+  door_left kind place a clock was ended.Spent b clock' now s = record { links = s.asked.links; returned = s.asked.returned; are = λ no. absurd (false≢true (sym no)); faults_rise = s.asked.faults_rise }
 
 module _ {A S B C D L : Type 0} (Serves : Kind → ℕ → A → Option Moments → D → DoorServed → A → Option Moments → D → Type 0) (pass_of : A → Pass S Act B) (rooms_of : A → Rooms S Act B) (coming : C → Option Moments) (is_closed : D → Bool) (faults : D → ℕ) (ledger : D → Option (Ledger L)) (Is : Kind → L → Type 0)
     (leaves : (kind : Kind) (place : ℕ) (a : A) (clock : Option Moments) (was : D) (served : DoorServed) (b : A) (clock' : Option Moments) (now : D) → Serves kind place a clock was served b clock' now → DoorLeft is_closed faults ledger Is kind was served now)
-    (full : (kind : Kind) (place : ℕ) (a : A) (clock : Option Moments) (was : D) (b : A) (clock' : Option Moments) (now : D) → Serves kind place a clock was door.Spent b clock' now → most_acts ≤ length (known (pass_of b))) (rooms : Rooms S Act B) where
+    (full : (kind : Kind) (place : ℕ) (a : A) (clock : Option Moments) (was : D) (b : A) (clock' : Option Moments) (now : D) → Serves kind place a clock was ended.Spent b clock' now → most_acts ≤ length (known (pass_of b))) (rooms : Rooms S Act B) where
   abbrev W : Type 0
   W = PostWork A C D
 
@@ -150,20 +154,20 @@ module _ {D L : Type 0} (is_closed : D → Bool) (faults : D → ℕ) (ledger : 
     abbrev spent_of : List DoorServed → Bool
     spent_of served = list_any finds_none (map at_door served ++ at_flushes flushed ∷ at_moves moved ∷ [])
 
-    one_more : (lacked : Bool) (ss : List DoorServed) → failed_of (door.Done lacked true ∷ ss) ≡ 1 + failed_of ss
-    one_more lacked ss = sum_by-append (λ x. cond (fails x) 1 0) (at_door (door.Done lacked true) ∷ []) (map at_door ss ++ at_flushes flushed ∷ at_moves moved ∷ [])
+    one_more : (lacked : Bool) (ss : List DoorServed) → failed_of (ended.Done lacked true ∷ ss) ≡ 1 + failed_of ss
+    one_more lacked ss = sum_by-append (λ x. cond (fails x) 1 0) (at_door (ended.Done lacked true) ∷ []) (map at_door ss ++ at_flushes flushed ∷ at_moves moved ∷ [])
 
-    no_more : (lacked : Bool) (ss : List DoorServed) → failed_of (door.Done lacked false ∷ ss) ≡ failed_of ss
+    no_more : (lacked : Bool) (ss : List DoorServed) → failed_of (ended.Done lacked false ∷ ss) ≡ failed_of ss
     no_more lacked ss = refl
 
-    none_spent : (ss : List DoorServed) → failed_of (door.Spent ∷ ss) ≡ failed_of ss
+    none_spent : (ss : List DoorServed) → failed_of (ended.Spent ∷ ss) ≡ failed_of ss
     none_spent ss = refl
 
     all_closed : (served : List DoorServed) (olds news : List (Post D)) → EachOf (PostServed is_closed faults ledger Is) served olds news → failed_of served ≡ 0 → spent_of served ≡ false → All Closed news
     all_closed [] [] [] each none left = All-nil Closed
-    all_closed (door.Done lacked true ∷ ss) (o ∷ os) (n ∷ ns) each none left = absurd (omega (arith, one_more lacked ss, none))
-    all_closed (door.Done lacked false ∷ ss) (o ∷ os) (n ∷ ns) each none left = All-cons Closed n ns each.0.door.1 (all_closed ss os ns each.1 (sym (no_more lacked ss) ∙ none) left)
-    all_closed (door.Spent ∷ ss) (o ∷ os) (n ∷ ns) each none left = absurd (false≢true (sym left))
+    all_closed (ended.Done lacked true ∷ ss) (o ∷ os) (n ∷ ns) each none left = absurd (omega (arith, one_more lacked ss, none))
+    all_closed (ended.Done lacked false ∷ ss) (o ∷ os) (n ∷ ns) each none left = All-cons Closed n ns each.0.door.1 (all_closed ss os ns each.1 (sym (no_more lacked ss) ∙ none) left)
+    all_closed (ended.Spent ∷ ss) (o ∷ os) (n ∷ ns) each none left = absurd (false≢true (sym left))
     all_closed ss os ns each none left = absurd each
 
     behind : (o n : Post D) (os ns : List (Post D)) → HasFailed faults os ns → HasFailed faults (o ∷ os) (n ∷ ns)
@@ -171,9 +175,9 @@ module _ {D L : Type 0} (is_closed : D → Bool) (faults : D → ℕ) (ledger : 
 
     one_failed : (served : List DoorServed) (olds news : List (Post D)) → EachOf (PostServed is_closed faults ledger Is) served olds news → 0 < failed_of served → HasFailed faults olds news
     one_failed [] [] [] each some = absurd (omega (arith, no_more_fail flushed moved, some))
-    one_failed (door.Done lacked true ∷ ss) (o ∷ os) (n ∷ ns) each some = record { place = 0; old = o; new = n; was = refl; now = refl; rose = each.0.door.1 }
-    one_failed (door.Done lacked false ∷ ss) (o ∷ os) (n ∷ ns) each some = behind o n os ns (one_failed ss os ns each.1 (subst (λ (k : ℕ). 0 < k) (no_more lacked ss) some))
-    one_failed (door.Spent ∷ ss) (o ∷ os) (n ∷ ns) each some = behind o n os ns (one_failed ss os ns each.1 (subst (λ (k : ℕ). 0 < k) (none_spent ss) some))
+    one_failed (ended.Done lacked true ∷ ss) (o ∷ os) (n ∷ ns) each some = record { place = 0; old = o; new = n; was = refl; now = refl; rose = each.0.door.1 }
+    one_failed (ended.Done lacked false ∷ ss) (o ∷ os) (n ∷ ns) each some = behind o n os ns (one_failed ss os ns each.1 (subst (λ (k : ℕ). 0 < k) (no_more lacked ss) some))
+    one_failed (ended.Spent ∷ ss) (o ∷ os) (n ∷ ns) each some = behind o n os ns (one_failed ss os ns each.1 (subst (λ (k : ℕ). 0 < k) (none_spent ss) some))
     one_failed ss os ns each some = absurd each
 
   module _ (Unopened : Type 0) (Made : Bool → AllServed → Type 0) (told : AllServed) (olds news : List (Post D)) where

@@ -9,7 +9,8 @@ use Rattle.pb_messages.specs.declared.about.Method.TheVariants.{Monitor, Scan}
 use Rattle.pb_messages.specs.declared.info.PayloadInfo.{PayloadInfo}
 use Rattle.pb_wire.specs.declared.payload.PayloadType.{PayloadType}
 use Rattle.pb_lines.specs.Stream.{Item, header, sample, chunk_end}
-use Rattle.series_model.specs.Admission.{admit_after, admit_before}
+use Rattle.series_model.specs.Limits.{intake_room}
+use Rattle.series_model.specs.Admission.{refused_by_time, refused_by_row}
 use Rattle.series_model.specs.declared.admission.Reason.{Reason}
 use Rattle.series_model.specs.declared.sample.Sample.{Sample}
 use Rattle.act_model.specs.declared.acts.Act.{Act}
@@ -18,7 +19,7 @@ use Rattle.act_model.specs.declared.acts.Answer.TheVariants as answer
 use Rattle.act_model.specs.Flush.{FlushStep}
 use Rattle.act_model.specs.History.{Done, Entry, Runs, mine, own}
 use Rattle.act_model.specs.Machine.{Machine, find_row, held_bytes}
-use Rattle.act_model.specs.Offer.{OfferStep, offered, offered_to, room, tried}
+use Rattle.act_model.specs.Offer.{OfferStep, offered, offered_to, tried}
 use Rattle.act_model.specs.Outcome.{Outcome, refused_at_once, refused, runs, faults_first, faults_between, faults_within, faults_removing, wants_memory, wants_memory_settled}
 use Rattle.act_model.specs.Reply.{Reply}
 use Rattle.act_model.specs.Rows.{RowState, number_of, standing}
@@ -38,29 +39,29 @@ use Rattle.archiver_appliance.proofs.PinSteps.{first_own}
 abbrev Finds : Outcome → Type 0
 Finds o = (held : ℕ) → o.answer ≡ answer.IntakeFull held → ⊥
 
-tried_finds : (m : Machine) (row : RowState) (s : Sample) (now : ℕ) (kept : Outcome) → held_bytes m.rows + (length s.line + 1) ≤ room → Finds kept → Finds (tried m row s now kept)
-tried_finds m row s now kept fits good = by_reason (admit_after row.next s.t now) refl
+tried_finds : (m : Machine) (row : RowState) (s : Sample) (now : ℕ) (kept : Outcome) → held_bytes m.rows + (length s.line + 1) ≤ intake_room → Finds kept → Finds (tried m row s now kept)
+tried_finds m row s now kept fits good = by_reason (refused_by_time row.next s.t now) refl
   where
-    by_room : (b : Bool) → nat_lt room (held_bytes m.rows + (length s.line + 1)) ≡ b → Finds (if b then record { answer = answer.IntakeFull (held_bytes m.rows); after = m } else kept)
-    by_room true is = let over : room < held_bytes m.rows + (length s.line + 1) = grind (arith, nat_tests) in absurd (omega (arith, over, fits))
+    by_room : (b : Bool) → nat_lt intake_room (held_bytes m.rows + (length s.line + 1)) ≡ b → Finds (if b then record { answer = answer.IntakeFull (held_bytes m.rows); after = m } else kept)
+    by_room true is = let over : intake_room < held_bytes m.rows + (length s.line + 1) = grind (arith, nat_tests) in absurd (omega (arith, over, fits))
     by_room false is = good
 
-    by_reason : (o : Option Reason) → admit_after row.next s.t now ≡ o → Finds (tried m row s now kept)
+    by_reason : (o : Option Reason) → refused_by_time row.next s.t now ≡ o → Finds (tried m row s now kept)
     by_reason (Some reason) is = rw is (λ held full. absurd cc)
-    by_reason None is = rw is (by_room (nat_lt room (held_bytes m.rows + (length s.line + 1))) refl)
+    by_reason None is = rw is (by_room (nat_lt intake_room (held_bytes m.rows + (length s.line + 1))) refl)
 
-offered_to_finds : (m : Machine) (i : ℕ) (row : RowState) (ty : PayloadType) (s : Sample) (now : ℕ) → held_bytes m.rows + (length s.line + 1) ≤ room → Finds (offered_to m i row ty s now)
-offered_to_finds m i row ty s now fits = by_reason (admit_before (Some (standing row)) (number_of ty)) refl
+offered_to_finds : (m : Machine) (i : ℕ) (row : RowState) (ty : PayloadType) (s : Sample) (now : ℕ) → held_bytes m.rows + (length s.line + 1) ≤ intake_room → Finds (offered_to m i row ty s now)
+offered_to_finds m i row ty s now fits = by_reason (refused_by_row (Some (standing row)) (number_of ty)) refl
   where
-    by_method : (d : Method) → row.about.method ≡ d → admit_before (Some (standing row)) (number_of ty) ≡ None → Finds (offered_to m i row ty s now)
+    by_method : (d : Method) → row.about.method ≡ d → refused_by_row (Some (standing row)) (number_of ty) ≡ None → Finds (offered_to m i row ty s now)
     by_method Monitor is none = rw (none, is) (tried_finds m row s now _ fits (λ held full. absurd cc))
     by_method (Scan period) is none = rw (none, is) (λ held full. absurd cc)
 
-    by_reason : (o : Option Reason) → admit_before (Some (standing row)) (number_of ty) ≡ o → Finds (offered_to m i row ty s now)
+    by_reason : (o : Option Reason) → refused_by_row (Some (standing row)) (number_of ty) ≡ o → Finds (offered_to m i row ty s now)
     by_reason (Some reason) is = rw is (λ held full. absurd cc)
     by_reason None is = by_method row.about.method refl is
 
-offered_finds : (m : Machine) (name : List ℕ) (ty : PayloadType) (s : Sample) (now : ℕ) → held_bytes m.rows + (length s.line + 1) ≤ room → Finds (offered m name ty s now)
+offered_finds : (m : Machine) (name : List ℕ) (ty : PayloadType) (s : Sample) (now : ℕ) → held_bytes m.rows + (length s.line + 1) ≤ intake_room → Finds (offered m name ty s now)
 offered_finds m name ty s now fits = by_name (find_row m name) refl
   where
     by_row : (i : ℕ) → (o : Option RowState) → slice_get m.rows i ≡ o → find_row m name ≡ Some i → Finds (offered m name ty s now)
@@ -71,7 +72,7 @@ offered_finds m name ty s now fits = by_name (find_row m name) refl
     by_name None is = rw is (λ held full. absurd cc)
     by_name (Some i) is = by_row i (slice_get m.rows i) refl is
 
-offer_finds : (name : List ℕ) (ty : PayloadType) (s : Sample) (now held : ℕ) (old new : Machine) (reply : Reply) → held_bytes old.rows ≡ 0 → length s.line + 1 ≤ room → OfferStep name ty s now old reply new → reply ≡ answer.IntakeFull held → ⊥
+offer_finds : (name : List ℕ) (ty : PayloadType) (s : Sample) (now held : ℕ) (old new : Machine) (reply : Reply) → held_bytes old.rows ≡ 0 → length s.line + 1 ≤ intake_room → OfferStep name ty s now old reply new → reply ≡ answer.IntakeFull held → ⊥
 offer_finds name ty s now held old new reply none fits (inl made) full = offered_finds old name ty s now (omega (arith, none, fits)) held (sym made.0 ∙ full)
 offer_finds name ty s now held old new reply none fits (inr lacks) full = let bad : answer.Memory ≡ answer.IntakeFull held = sym lacks.0 ∙ full in absurd cc
 
@@ -123,7 +124,7 @@ none_in_front who [] ys all none = refl
 none_in_front who (x ∷ xs) ys all none = let is = first_own who x (xs ++ ys) all in absurd (cc (rw is at none))
 
 module _ (entries : List Entry) (start end : Machine) (sound : IsSound start) (run : Runs start entries end) (all : own 0 entries ≡ entries) (done : List Done) (just : mine 0 entries ≡ done) where
-  finds_room : (front : List Done) (f o : Done) (back : List Done) (name : List ℕ) (ty : PayloadType) (t : ℕ) (line : List ℕ) (now held : ℕ) → done ≡ front ++ f ∷ o ∷ back → f.act ≡ flush_all → is_failure f.answer ≡ false → o.act ≡ Offer name ty t line now → length line + 1 ≤ room
+  finds_room : (front : List Done) (f o : Done) (back : List Done) (name : List ℕ) (ty : PayloadType) (t : ℕ) (line : List ℕ) (now held : ℕ) → done ≡ front ++ f ∷ o ∷ back → f.act ≡ flush_all → is_failure f.answer ≡ false → o.act ≡ Offer name ty t line now → length line + 1 ≤ intake_room
       → o.answer ≡ answer.IntakeFull held → ⊥
   finds_room front f o back name ty t line now held is flushes well offers fits full =
       let cut = cut_at 0 entries front (o ∷ back) f (just ∙ is) in
@@ -150,7 +151,7 @@ module _ (entries : List Entry) (start end : Machine) (sound : IsSound start) (r
       flush_finds held flush (ap (λ (x : Done). x.answer) cut.done ∙ full)
 
   -- the acts that an offer made: one, or one, a flush and one more
-  three : (front ds back : List Done) (info : PayloadInfo) (x : Sample) (now : ℕ) → done ≡ front ++ (ds ++ back) → AreMade (offer_of info x now ∷ []) ds [] → NoneFails ds → length x.line + 1 ≤ room → length ds ≤ 3
+  three : (front ds back : List Done) (info : PayloadInfo) (x : Sample) (now : ℕ) → done ≡ front ++ (ds ++ back) → AreMade (offer_of info x now ∷ []) ds [] → NoneFails ds → length x.line + 1 ≤ intake_room → length ds ≤ 3
   three front [] back info x now is made well fits = omega arith
   three front (d ∷ ds) back info x now is made well fits = by_first d.answer made.1
     where

@@ -39,7 +39,7 @@ use Rattle.archive_actors.specs.SeatLaws.{kept_append}
 use Rattle.archive_actors.specs.Steps.{SharedStands, all_kept, kept}
 use Rattle.archive_actors.specs.declared.shared.Shared.{Shared}
 use Rattle.archive_core.specs.Opening.{OpensAs}
-use Rattle.archive_core.proofs.RunOfActs.{room_runs_on}
+use Rattle.archive_core.proofs.Acting.{room_runs_on}
 use Rattle.archive_core.specs.Parts.{parts}
 use Rattle.archive_core.specs.Running.{HoldsBetween, RunsOn}
 use Rattle.archive_core.specs.Stands.{Stands}

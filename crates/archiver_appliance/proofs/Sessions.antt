@@ -4,8 +4,12 @@ use Rattle.std.specs.Prelude.{All, Contains}
 use Rattle.std.proofs.lemmas.List.{length-map}
 use Rattle.std.proofs.lemmas.List.Elements.{All-cons, All-head, All-nil, All-tail}
 use mathlib.Core.List.{IsPrefix}
-use Rattle.edge_io.specs.Doors.{IsFresh, Ledger}
+use Rattle.edge_io.specs.Doors.{IsFresh}
 use Rattle.edge_io.specs.Moments.{Moments}
+use Rattle.edge_io.specs.declared.link.Door.{Ghosts as OfDoor}
+use Rattle.edge_io.specs.declared.stream.Source.{Ghosts as OfSource}
+use Rattle.edge_io.specs.declared.stream.Sink.{Ghosts as OfSink}
+use Rattle.disk_model.specs.declared.disk.ReadAt.{Ghosts as OfFile}
 use Rattle.turn_rooms.specs.declared.room.Entry.{Entry as RoomEntry}
 use Rattle.turn_rooms.specs.declared.rooms.Pass.{Pass}
 use Rattle.turn_rooms.specs.declared.rooms.Rooms.{Rooms}
@@ -18,6 +22,7 @@ use Rattle.act_model.specs.declared.acts.Act.{Act}
 use Rattle.act_model.specs.declared.acts.Act.TheVariants.{DoorDone}
 use Rattle.act_model.specs.declared.acts.Answer.{Answer}
 use Rattle.act_model.specs.declared.acts.Answer.TheVariants.{Flushed}
+use Rattle.act_model.specs.declared.actor.Actor.{Ghosts as OfActor}
 use Rattle.act_model.specs.declared.actor.Spent.{Spent as NoAct}
 use Rattle.act_model.specs.Growth.{Onward}
 use Rattle.act_model.specs.History.{Done, Entry, Goes, Runs, done_of, mine, own}
@@ -39,18 +44,18 @@ use Rattle.feed_session.specs.declared.end.Fed.TheVariants as fed
 use Rattle.feed_session.proofs.Durable.{kept_durable}
 use Rattle.serving.proofs.Works.{nothing_since, own_map}
 use Rattle.service.specs.declared.door.DoorServed.{DoorServed}
-use Rattle.service.specs.declared.door.DoorServed.TheVariants as door
+use Rattle.service.specs.declared.door.DoorServed.TheVariants as ended
 use Rattle.service.specs.declared.posts.Post.{Post}
 use Rattle.service.specs.declared.served.Kind.{Kind}
 use Rattle.service.specs.declared.served.Kind.TheVariants.{Feed, Http}
 use Rattle.service.specs.declared.served.Served.{Served}
 use Rattle.service.specs.declared.service.AllServed.{AllServed}
-use Rattle.service.specs.Doors.{AsksToEnd, CountsOff, InTurn, IsServed, ServesDoor, ServesLinkTold, Shift, no_link, one_more_link}
-use Rattle.service.specs.Seats.{SeatBetween, SeatSpent, SeatStands, ServesDoorSeated, seat_number, seat_pass, seat_rooms}
+use Rattle.service.specs.Doors.{AsksToEnd, CountsOff, InTurn, IsServed, ServesDoor, ServesDoorAt, ServesLinkTold, Shift, no_link, one_more_link}
+use Rattle.service.specs.Seats.{seat_by, seat_pass, seat_rooms}
 use Rattle.service.specs.Service.{AllWorked, PostWork, ServesPost, Tends, at_door, at_flushes, at_moves, told_of}
 use Rattle.service.specs.Serving.{ServesLink}
 use Rattle.archiver_appliance.specs.Serving.{EachOf}
-use Rattle.archiver_appliance.specs.Sessions.{Given, KeepsAll, Knower, KnowsMost, Learns, PostGiven, ServesFrom, ServesIn, Tended, acts_under}
+use Rattle.archiver_appliance.specs.Sessions.{Given, KeepsAll, Knower, KnowsMost, Learns, PostGiven, ServesFrom, ServesIn, Tended, knower}
 use Rattle.archiver_appliance.proofs.Histories.{link_known, link_leads, made_known, spent_known}
 
 -- A FEED THAT TELLS WHAT IS DURABLE
@@ -64,8 +69,8 @@ flushed_last fed.DiskFault begun last says ends = absurd says
 flushed_last fed.Spent begun last says ends = absurd says
 flushed_last fed.Memory begun last says ends = absurd says
 
-module _ {L R : Type 0} (start : Machine) (tells : Bool) (faults : R → ℕ) (left written : L → Option (List ℕ)) (write_faults : L → ℕ) (at : Machine) (sound : IsSound at) where
-  keeps_all : (kind : Kind) (old : Knower) (clock : Option Moments) (was : L) (result : Served R) (new : Knower) (clock' : Option Moments) (l : L) → (s : ServesFrom start tells faults left written write_faults at kind old clock was result new clock' l) → KeepsAll start tells faults left written write_faults at kind old clock was result new clock' l s
+module _ {L R : Type 0} (start : Machine) (file : OfFile R) (source : OfSource L) (sink : OfSink L) (at : Machine) (sound : IsSound at) where
+  keeps_all : (kind : Kind) (old : Knower) (clock : Option Moments) (was : L) (result : Served R) (new : Knower) (clock' : Option Moments) (l : L) → (s : ServesFrom start file source sink at kind old clock was result new clock' l) → KeepsAll start file source sink at kind old clock was result new clock' l s
   keeps_all Feed old clock was result new clock' l s = λ says told after run.
       let session = s.2.ended.session in
       let made = s.2.ended.made in
@@ -76,17 +81,17 @@ module _ {L R : Type 0} (start : Machine) (tells : Bool) (faults : R → ℕ) (l
 
 -- A DOOR, BY ONE WHO KNOWS A FRONT OF A HISTORY
 
-module _ {A : Type 0} (number : A → ℕ) (between : A → List Entry → A → Type 0) (is_spent : A → Type 0) (stands_for : A → Machine → Type 0) (knows : A → Knower) (same : (a : A) → (knows a).number ≡ number a)
-    (learns : (a b : A) (es : List Entry) → between a es b → Learns (knows a) es (knows b)) (full : (a : A) → is_spent a → KnowsMost (knows a)) (joined : (a b c : A) (xs ys : List Entry) → between a xs b → between b ys c → between a (xs ++ ys) c)
-    (legal : (a b : A) (es : List Entry) (m : Machine) → between a es b → stands_for a m → Goes (stands_for b) m es) (start : Machine) (sound : IsSound start) where
+module _ {A R : Type 0} (actor : OfActor A R) (knows : A → Knower) (same : (a : A) → (knows a).number ≡ actor.number a)
+    (learns : (a b : A) (es : List Entry) → actor.between a es b → Learns (knows a) es (knows b)) (full : (a : A) → actor.is_spent a → KnowsMost (knows a)) (joined : (a b c : A) (xs ys : List Entry) → actor.between a xs b → actor.between b ys c → actor.between a (xs ++ ys) c)
+    (legal : (a b : A) (es : List Entry) (m : Machine) → actor.between a es b → actor.stands a m → Goes (actor.stands b) m es) (start : Machine) (sound : IsSound start) where
   abbrev pub LeadsTo : A → A → Type 0
-  LeadsTo a b = (es : List Entry) × between a es b
+  LeadsTo a b = (es : List Entry) × actor.between a es b
 
   -- what it knows runs from the start to a state that it stands for
   pub record IsAt (a : A) : Type 0 where
     pub at : Machine
     pub to : Runs start (knows a).known at
-    pub here : stands_for a at
+    pub here : actor.stands a at
 
   at_later : (a b : A) → IsAt a → LeadsTo a b → IsAt b
   at_later a b p l =
@@ -97,28 +102,28 @@ module _ {A : Type 0} (number : A → ℕ) (between : A → List Entry → A →
         here = goes.stands_for;
       }
 
-  module _ {L R : Type 0} (tells : Bool) (reader_faults : R → ℕ) (left written : L → Option (List ℕ)) (read_faults write_faults : L → ℕ) (Told : Type 0) (kind : Kind) where
+  module _ {L : Type 0} (file : OfFile R) (source : OfSource L) (sink : OfSink L) (Told : Type 0) (kind : Kind) where
     abbrev Fresh : L → Type 0
-    Fresh l = IsFresh written read_faults write_faults l
+    Fresh l = IsFresh sink.written source.read_faults sink.write_faults l
 
     abbrev ByLink : A → Option Moments → L → Served R → A → Option Moments → L → Type 0
-    ByLink old clock was result new clock' l = ServesLinkTold number between is_spent stands_for tells reader_faults left written write_faults Told kind old clock was result new clock' l
+    ByLink old clock was result new clock' l = ServesLinkTold actor file source sink Told kind old clock was result new clock' l
 
     abbrev InHistory : Knower → Option Moments → L → Served R → Knower → Option Moments → L → Type 0
-    InHistory old clock was result new clock' l = ServesIn start tells reader_faults left written write_faults kind old clock was result new clock' l
+    InHistory old clock was result new clock' l = ServesIn start file source sink kind old clock was result new clock' l
 
-    serves_in : (a : A) (clock : Option Moments) (was : L) (result : Served R) (b : A) (clock' : Option Moments) (l : L) → IsAt a → ServesLink number between is_spent stands_for tells reader_faults left written write_faults kind a clock was result b clock' l
+    serves_in : (a : A) (clock : Option Moments) (was : L) (result : Served R) (b : A) (clock' : Option Moments) (l : L) → IsAt a → ServesLink actor file source sink kind a clock was result b clock' l
         → InHistory (knows a) clock was result (knows b) clock' l
     serves_in a clock was result b clock' l p s =
         let on : Onward start p.at = runs_onward (knows a).known start p.at sound p.to in
-        let serves = link_known number between is_spent knows same learns full stands_for tells reader_faults left written write_faults kind a clock was result b clock' l p.at p.here s in
+        let serves = link_known actor knows same learns full file source sink kind a clock was result b clock' l p.at p.here s in
         record {
           at = p.at;
           to = p.to;
           told = on.told;
           rule = on.rule;
           serves = serves;
-          keeps = keeps_all start tells reader_faults left written write_faults p.at (runs_sound (knows a).known start p.at sound p.to) kind (knows a) clock was result (knows b) clock' l serves;
+          keeps = keeps_all start file source sink p.at (runs_sound (knows a).known start p.at sound p.to) kind (knows a) clock was result (knows b) clock' l serves;
         }
 
     turns_in : (old : A) (clock : Option Moments) (links : List L) (results : List (Served R)) (new : A) (clock' : Option Moments) → IsAt old → InTurn Fresh ByLink old clock links results new clock'
@@ -127,24 +132,24 @@ module _ {A : Type 0} (number : A → ℕ) (between : A → List Entry → A →
     turns_in old clock links results new clock' p (one_more_link {links = ls} {results = rs} {mid = mid} {moments = ms} was l result b later before fresh s) =
         let rest = turns_in old clock ls rs mid ms p before in (
           one_more_link was l result (knows b) later rest.0 fresh (serves_in mid ms was result b later l rest.1 s.0),
-          at_later mid b rest.1 (link_leads number between is_spent joined stands_for tells reader_faults left written write_faults kind mid ms was result b later l s.0),
+          at_later mid b rest.1 (link_leads actor joined file source sink kind mid ms was result b later l s.0),
         )
 
-    module _ {D : Type 0} (is_closed : D → Bool) (faults : D → ℕ) (ledger : D → Option (Ledger L)) where
+    module _ {D : Type 0} (door : OfDoor D L) where
       abbrev Is : L → Type 0
-      Is l = IsServed kind written read_faults write_faults l
+      Is l = IsServed kind sink.written source.read_faults sink.write_faults l
 
-      shift_known : (a : A) (served : DoorServed) (b : A) → Shift number between a served b → Shift acts_under Learns (knows a) served (knows b)
-      shift_known a (door.Done lacked failed) b s = (s.0, made_known number between is_spent knows same learns full a b s.0 s.1, s.2)
-      shift_known a door.Spent b s = (s.0, made_known number between is_spent knows same learns full a b s.0 s.1, s.2)
+      shift_known : (a : A) (served : DoorServed) (b : A) → Shift actor a served b → Shift {R = R} (knower start) (knows a) served (knows b)
+      shift_known a (ended.Done lacked failed) b s = (s.0, made_known actor knows same learns full a b s.0 s.1, s.2)
+      shift_known a ended.Spent b s = (s.0, made_known actor knows same learns full a b s.0 s.1, s.2)
 
-      shift_leads : (a : A) (served : DoorServed) (b : A) → Shift number between a served b → LeadsTo a b
-      shift_leads a (door.Done lacked failed) b s = (s.1.entries, s.1.leads)
-      shift_leads a door.Spent b s = (s.1.entries, s.1.leads)
+      shift_leads : (a : A) (served : DoorServed) (b : A) → Shift actor a served b → LeadsTo a b
+      shift_leads a (ended.Done lacked failed) b s = (s.1.entries, s.1.leads)
+      shift_leads a ended.Spent b s = (s.1.entries, s.1.leads)
 
-      asked_known : (a : A) (clock : Option Moments) (was : D) (served : DoorServed) (mid : A) (clock' : Option Moments) (now : D) → IsAt a → AsksToEnd is_closed faults ledger Is (λ links results. InTurn Fresh ByLink a clock links results mid clock') was served now
-          → AsksToEnd is_closed faults ledger Is (λ links results. InTurn Fresh InHistory (knows a) clock links results (knows mid) clock') was served now
-      asked_known a clock was (door.Done lacked failed) mid clock' now p s =
+      asked_known : (a : A) (clock : Option Moments) (was : D) (served : DoorServed) (mid : A) (clock' : Option Moments) (now : D) → IsAt a → AsksToEnd door Is (λ links results. InTurn Fresh ByLink a clock links results mid clock') was served now
+          → AsksToEnd door Is (λ links results. InTurn Fresh InHistory (knows a) clock links results (knows mid) clock') was served now
+      asked_known a clock was (ended.Done lacked failed) mid clock' now p s =
           let l = s.0.left in (
             record {
               left = record { links = l.links; results = l.results; were = (turns_in a clock l.links l.results mid clock' p l.were).0; returned = l.returned; faults_rise = l.faults_rise };
@@ -153,24 +158,24 @@ module _ {A : Type 0} (number : A → ℕ) (between : A → List Entry → A →
             },
             s.1,
           )
-      asked_known a clock was door.Spent mid clock' now p s =
+      asked_known a clock was ended.Spent mid clock' now p s =
           record { links = s.links; results = s.results; were = (turns_in a clock s.links s.results mid clock' p s.were).0; returned = s.returned; faults_rise = s.faults_rise }
 
-      counted_known : (mid : A) (served : DoorServed) (b : A) → CountsOff number between mid served b → CountsOff acts_under Learns (knows mid) served (knows b)
-      counted_known mid (door.Done lacked failed) b s = (s.0, made_known number between is_spent knows same learns full mid b (record { act = DoorDone; answer = s.0 } ∷ []) s.1)
-      counted_known mid door.Spent b s = made_known number between is_spent knows same learns full mid b [] s
+      counted_known : (mid : A) (served : DoorServed) (b : A) → CountsOff actor mid served b → CountsOff {R = R} (knower start) (knows mid) served (knows b)
+      counted_known mid (ended.Done lacked failed) b s = (s.0, made_known actor knows same learns full mid b (record { act = DoorDone; answer = s.0 } ∷ []) s.1)
+      counted_known mid ended.Spent b s = made_known actor knows same learns full mid b [] s
 
-      pub door_known : (a : A) (clock : Option Moments) (was : D) (served : DoorServed) (b : A) (clock' : Option Moments) (now : D) → IsAt a → ServesDoor number between is_spent Fresh Is ByLink is_closed faults ledger a clock was served b clock' now
-          → ServesDoor acts_under Learns KnowsMost Fresh Is InHistory is_closed faults ledger (knows a) clock was served (knows b) clock' now
+      pub door_known : (a : A) (clock : Option Moments) (was : D) (served : DoorServed) (b : A) (clock' : Option Moments) (now : D) → IsAt a → ServesDoor actor door Fresh Is ByLink a clock was served b clock' now
+          → ServesDoor (knower start) door Fresh Is InHistory (knows a) clock was served (knows b) clock' now
       door_known a clock was served b clock' now p s = record {
         shift = shift_known a served b s.shift;
         mid = knows s.mid;
         asked = asked_known a clock was served s.mid clock' now p s.asked;
         counted = counted_known s.mid served b s.counted;
-        spent = λ is. spent_known number between is_spent knows same learns full b (s.spent is);
+        spent = λ is. spent_known actor knows same learns full start b (s.spent is);
       }
 
-      pub door_leads : (a : A) (clock : Option Moments) (was : D) (served : DoorServed) (b : A) (clock' : Option Moments) (now : D) → ServesDoor number between is_spent Fresh Is ByLink is_closed faults ledger a clock was served b clock' now → LeadsTo a b
+      pub door_leads : (a : A) (clock : Option Moments) (was : D) (served : DoorServed) (b : A) (clock' : Option Moments) (now : D) → ServesDoor actor door Fresh Is ByLink a clock was served b clock' now → LeadsTo a b
       door_leads a clock was served b clock' now s = shift_leads a served b s.shift
 
 -- ONE WHO IS SEATED
@@ -199,24 +204,28 @@ module _ (T : Type 0) {X Y : Type 0} (steps : Shared X Y → ℕ → ℕ → Act
   abbrev seat_knows : Seat → Knower
   seat_knows a = knower_by reply (seat_pass a)
 
-  seat_learns : (a b : Seat) (es : List Entry) → SeatBetween steps reply a es b → Learns (seat_knows a) es (seat_knows b)
+  -- what an actor tells, of such a seat
+  abbrev seated : OfActor Seat Y
+  seated = seat_by steps Stood reply
+
+  seat_learns : (a b : Seat) (es : List Entry) → seated.between a es b → Learns (seat_knows a) es (seat_knows b)
   seat_learns a b es h =
       let before = all_kept reply (known (seat_pass a)) in
       (h.1.same_number, ap (λ (l : List (RoomEntry (Shared X Y) Act (Answer Y))). all_kept reply l) h.1.goes_on ∙ (kept_append reply (known (seat_pass a)) h.1.acts ∙ ap (λ (l : List Entry). before ++ l) (sym h.1.are)))
 
-  seat_full : (a : Seat) → SeatSpent a → KnowsMost (seat_knows a)
+  seat_full : (a : Seat) → seated.is_spent a → KnowsMost (seat_knows a)
   seat_full a is =
       let long = length-map (known (seat_pass a)) (λ (e : RoomEntry (Shared X Y) Act (Answer Y)). kept reply e.who e.act e.answer) in
       let all : length (known (seat_pass a)) ≡ 9223372036854775807 = is in
       omega (arith, long, all)
 
-  seats_joined : (a b c : Seat) (xs ys : List Entry) → SeatBetween steps reply a xs b → SeatBetween steps reply b ys c → SeatBetween steps reply a (xs ++ ys) c
+  seats_joined : (a b c : Seat) (xs ys : List Entry) → seated.between a xs b → seated.between b ys c → seated.between a (xs ++ ys) c
   seats_joined a b c xs ys p q = (q.0 ∙ p.0, seat_joined steps reply (seat_rooms a) (seat_pass a) xs (seat_rooms b) (seat_pass b) ys (seat_rooms c) (seat_pass c) p.1 q.1)
 
-  seats_legal : (a b : Seat) (es : List Entry) (m : Machine) → SeatBetween steps reply a es b → SeatStands steps Stood a m → Goes (SeatStands steps Stood b) m es
+  seats_legal : (a b : Seat) (es : List Entry) (m : Machine) → seated.between a es b → seated.stands a m → Goes (seated.stands b) m es
   seats_legal a b es m h s = seat_legal steps Stood reply stepped (seat_rooms a) (seat_pass a) es (seat_rooms b) (seat_pass b) m h.1 s
 
-  module _ {C D L : Type 0} (rt : T) (tells : Bool) (reader_faults : Y → ℕ) (left written : L → Option (List ℕ)) (read_faults write_faults : L → ℕ) (is_closed : D → Bool) (faults : D → ℕ) (ledger : D → Option (Ledger L)) (Told : ℕ → Type 0) (coming : C → Option Moments)
+  module _ {C D L : Type 0} (file : OfFile Y) (source : OfSource L) (sink : OfSink L) (door : OfDoor D L) (Told : ℕ → Type 0) (coming : C → Option Moments)
       (rooms : Rooms (Shared X Y) Act (Answer Y)) (old new : Pass (Shared X Y) Act (Answer Y)) (opens : Opens steps rooms (opened rooms) old) (start : Machine) (sound : IsSound start) (stood : Stood (opened rooms) start) where
     abbrev P : Type 0
     P = Pass (Shared X Y) Act (Answer Y)
@@ -228,7 +237,7 @@ module _ (T : Type 0) {X Y : Type 0} (steps : Shared X Y → ℕ → ℕ → Act
     History = all_kept reply (known new)
 
     abbrev Serving : W → Type 0
-    Serving w = ServesPost (ServesDoorSeated rt steps Stood reply tells reader_faults left written read_faults write_faults is_closed faults ledger Told) seat_pass seat_rooms coming rooms w
+    Serving w = ServesPost (ServesDoorAt seated file source sink door Told) seat_pass seat_rooms coming rooms w
 
     abbrev IsKnown : P → Type 0
     IsKnown n = IsPrefix (known n) (known new)
@@ -246,7 +255,7 @@ module _ (T : Type 0) {X Y : Type 0} (steps : Shared X Y → ℕ → ℕ → Act
     }
 
     abbrev At : Seat → Type 0
-    At a = IsAt seat_number (SeatBetween steps reply) SeatSpent (SeatStands steps Stood) seat_knows (λ a. refl) seat_learns seat_full seats_joined seats_legal start sound a
+    At a = IsAt seated seat_knows (λ a. refl) seat_learns seat_full seats_joined seats_legal start sound a
 
     seat_begins : (a : Seat) → seat_rooms a ≡ rooms → IsPassOf steps rooms (seat_pass a) → known (seat_pass a) ≡ [] → At a
     seat_begins a same is none = record {
@@ -261,22 +270,22 @@ module _ (T : Type 0) {X Y : Type 0} (steps : Shared X Y → ℕ → ℕ → Act
         nothing_since q (all_kept reply (known n)) (all_kept reply p.0)
         (ap (λ (es : List Entry). own q es) (sym (front_kept reply (known n) (known new) p)) ∙ own_same reply q (known new) (known n) (all.acts q has))
 
-    abbrev knower : ℕ → List Entry → Knower
-    knower n es = record { number = n; known = es }
+    abbrev who_knows : ℕ → List Entry → Knower
+    who_knows n es = record { number = n; known = es }
 
     abbrev InDoor : W → Knower → Knower → Type 0
-    InDoor w k later = ServesDoor acts_under Learns KnowsMost (IsFresh written read_faults write_faults) (IsServed w.post.kind written read_faults write_faults) (ServesIn start tells reader_faults left written write_faults w.post.kind) is_closed faults ledger
+    InDoor w k later = ServesDoor (knower start) door (IsFresh sink.written source.read_faults sink.write_faults) (IsServed w.post.kind sink.written source.read_faults sink.write_faults) (ServesIn start file source sink w.post.kind)
         k (coming w.clock) w.post.door w.served later (coming w.clock') w.post'.door
 
     by_knowers : (w : W) (k later k' later' : Knower) → k ≡ k' → later ≡ later' → InDoor w k later → InDoor w k' later'
     by_knowers w k later k' later' is is' d = subst (λ (x : Knower). InDoor w k' x) is' (subst (λ (x : Knower). InDoor w x later) is d)
 
     post_given : (w : W) → Serving w → IsNew old (seat_pass w.seat) → IsPassOf steps rooms (seat_pass w.seat) → KnowsAllOf (seat_pass w.seat') new → IsKnown (seat_pass w.seat')
-        → PostGiven start tells reader_faults left written write_faults History read_faults is_closed faults ledger ((seat_pass w.seat).number, w.served) w.post w.post'
+        → PostGiven start file source sink History door ((seat_pass w.seat).number, w.served) w.post w.post'
     post_given w s fresh pass all p =
         let none = knows_none (seat_pass w.seat) fresh in
         let at = seat_begins w.seat s.rooms_are pass none in
-        let leads = door_leads seat_number (SeatBetween steps reply) SeatSpent (SeatStands steps Stood) seat_knows (λ a. refl) seat_learns seat_full seats_joined seats_legal start sound tells reader_faults left written read_faults write_faults (Told w.place) w.post.kind is_closed faults ledger
+        let leads = door_leads seated seat_knows (λ a. refl) seat_learns seat_full seats_joined seats_legal start sound file source sink (Told w.place) w.post.kind door
         w.seat (coming w.clock) w.post.door w.served w.seat' (coming w.clock') w.post'.door s.serves in
         let goes = (seats_legal w.seat w.seat' leads.0 at.at leads.1 at.here).stands_for.is_pass in
         let number : (seat_pass w.seat').number ≡ (seat_pass w.seat).number = leads.1.1.same_number in
@@ -288,14 +297,14 @@ module _ (T : Type 0) {X Y : Type 0} (steps : Shared X Y → ℕ → ℕ → Act
           no_more = no_more_acts (seat_pass w.seat') (seat_pass w.seat).number (subst (λ (q : ℕ). Contains (stands (seat_pass w.seat')) q) number last) all p;
           clock = coming w.clock;
           clock' = coming w.clock';
-          serves = by_knowers w (seat_knows w.seat) (seat_knows w.seat') _ _ (ap (λ (h : List (RoomEntry (Shared X Y) Act (Answer Y))). knower (seat_pass w.seat).number (all_kept reply h)) none)
-              (ap (λ (q : ℕ). knower q (all_kept reply (known (seat_pass w.seat')))) number)
-              (door_known seat_number (SeatBetween steps reply) SeatSpent (SeatStands steps Stood) seat_knows (λ a. refl) seat_learns seat_full seats_joined seats_legal start sound tells reader_faults left written read_faults write_faults (Told w.place) w.post.kind is_closed faults ledger
+          serves = by_knowers w (seat_knows w.seat) (seat_knows w.seat') _ _ (ap (λ (h : List (RoomEntry (Shared X Y) Act (Answer Y))). who_knows (seat_pass w.seat).number (all_kept reply h)) none)
+              (ap (λ (q : ℕ). who_knows q (all_kept reply (known (seat_pass w.seat')))) number)
+              (door_known seated seat_knows (λ a. refl) seat_learns seat_full seats_joined seats_legal start sound file source sink (Told w.place) w.post.kind door
               w.seat (coming w.clock) w.post.door w.served w.seat' (coming w.clock') w.post'.door at s.serves);
         }
 
     tended : {E : Type 0} (Such : Result E NoAct → List ℕ → List Done → Type 0) (n n' : P) (clock clock' : Option Moments) (end : Result E NoAct) → IsNew old n → KnowsAllOf n' new → IsKnown n' → Tends steps reply rooms Such n clock end n' clock'
-        → Tended start tells reader_faults left written write_faults History read_faults is_closed faults ledger Such end
+        → Tended start file source sink History door Such end
     tended Such n n' clock clock' end fresh all p t =
         let none = knows_none n fresh in
         let goes = t.acts.goes in
@@ -307,7 +316,7 @@ module _ (T : Type 0) {X Y : Type 0} (steps : Shared X Y → ℕ → ℕ → Act
         record { number = n.number; clock = clock; clock' = clock'; moments = t.moments; at = t.at; acts = subst (λ (ds : List Done). Such end t.moments ds) mine_all t.acts.such }
 
     abbrev GivenAt : ℕ × DoorServed → Post D → Post D → Type 0
-    GivenAt by_it was now = PostGiven start tells reader_faults left written write_faults History read_faults is_closed faults ledger by_it was now
+    GivenAt by_it was now = PostGiven start file source sink History door by_it was now
 
     -- under which number each post's door was served, and how
     abbrev served_by : W → ℕ × DoorServed
@@ -345,7 +354,7 @@ module _ (T : Type 0) {X Y : Type 0} (steps : Shared X Y → ℕ → ℕ → Act
 
     beside_one : (w : W) (q : ℕ) → Serving w → IsNew old (seat_pass w.seat) → IsPassOf steps rooms (seat_pass w.seat) → (q ≡ (seat_pass w.seat).number → ⊥) → Contains (stands (seat_pass w.seat')) q → ⊥
     beside_one w q s fresh pass other has =
-        let leads = door_leads seat_number (SeatBetween steps reply) SeatSpent (SeatStands steps Stood) seat_knows (λ a. refl) seat_learns seat_full seats_joined seats_legal start sound tells reader_faults left written read_faults write_faults (Told w.place) w.post.kind is_closed faults ledger
+        let leads = door_leads seated seat_knows (λ a. refl) seat_learns seat_full seats_joined seats_legal start sound file source sink (Told w.place) w.post.kind door
         w.seat (coming w.clock) w.post.door w.served w.seat' (coming w.clock') w.post'.door s.serves in
         let goes = leads.1.1.goes (subst (λ (r : Rooms (Shared X Y) Act (Answer Y)). IsPassOf steps r (seat_pass w.seat)) (sym s.rooms_are) pass) in
         stands_for_one (seat_pass w.seat) (seat_pass w.seat') q fresh goes.same_standing other has
@@ -368,8 +377,8 @@ module _ (T : Type 0) {X Y : Type 0} (steps : Shared X Y → ℕ → ℕ → Act
     one_or_more [] f m = omega arith
     one_or_more (p ∷ ps) f m = omega arith
 
-    pub all_given : (told : AllServed) (olds news : List (Post D)) → AllWorked (ServesDoorSeated rt steps Stood reply tells reader_faults left written read_faults write_faults is_closed faults ledger Told) seat_pass seat_rooms coming steps reply rooms told old new olds news
-        → Given start tells reader_faults left written write_faults History read_faults is_closed faults ledger told olds news
+    pub all_given : (told : AllServed) (olds news : List (Post D)) → AllWorked (ServesDoorAt seated file source sink door Told) seat_pass seat_rooms coming steps reply rooms told old new olds news
+        → Given start file source sink History door told olds news
     unfolding tended
     all_given told olds news all =
         let before = map (λ (w : W). seat_pass w.seat) all.works in

@@ -5,8 +5,11 @@ use Rattle.std.specs.List.{list_any}
 use Rattle.std.proofs.lemmas.List.{length-append}
 use Rattle.std.proofs.lemmas.List.Elements.{All-head, All-tail}
 use mathlib.Core.List.{IsPrefix}
-use Rattle.edge_io.specs.Doors.{Ledger}
 use Rattle.edge_io.specs.Moments.{Moments}
+use Rattle.edge_io.specs.declared.link.Door.{Ghosts as OfDoor}
+use Rattle.edge_io.specs.declared.stream.Source.{Ghosts as OfSource}
+use Rattle.edge_io.specs.declared.stream.Sink.{Ghosts as OfSink}
+use Rattle.disk_model.specs.declared.disk.ReadAt.{Ghosts as OfFile}
 use Rattle.turn_rooms.specs.declared.room.Entry.{Entry as RoomEntry}
 use Rattle.turn_rooms.specs.declared.rooms.Pass.{Pass}
 use Rattle.turn_rooms.specs.declared.rooms.Rooms.{Rooms}
@@ -23,34 +26,34 @@ use Rattle.archive_actors.specs.declared.shared.Shared.{Shared}
 use Rattle.serving.specs.declared.ends.FlushEnd.{FlushEnd}
 use Rattle.serving.specs.declared.ends.MoverEnd.{MoverEnd}
 use Rattle.service.specs.declared.door.DoorServed.{DoorServed}
-use Rattle.service.specs.declared.door.DoorServed.TheVariants as door
+use Rattle.service.specs.declared.door.DoorServed.TheVariants as ended
 use Rattle.service.specs.declared.posts.Post.{Post}
 use Rattle.service.specs.declared.served.Kind.{Kind}
 use Rattle.service.specs.declared.service.AllServed.{AllServed}
 use Rattle.service.specs.Doors.{ServesDoorAt}
-use Rattle.service.specs.Seats.{SeatBetween, SeatSpent, seat_number, seat_pass}
+use Rattle.service.specs.Seats.{seat_by, seat_pass}
 use Rattle.service.specs.Service.{AllWorked, PostWork, ServesPost, at_door, at_flushes, at_moves, finds_none}
 use Rattle.service.specs.Serving.{WasSpent}
 
 -- ONE AT A DOOR
 
-seat_full : {R X Y : Type 0} (steps : Shared X Y → ℕ → ℕ → Act → Answer Y → Shared X Y → Type 0) (reply : Answer Y → Reply) (b : Seated R X Y) → WasSpent (SeatBetween steps reply) SeatSpent b → most_acts ≤ length (known (seat_pass b))
-seat_full {R} {X} {Y} steps reply b spent =
+seat_full : {R X Y : Type 0} (steps : Shared X Y → ℕ → ℕ → Act → Answer Y → Shared X Y → Type 0) (stands : Shared X Y → Machine → Type 0) (reply : Answer Y → Reply) (b : Seated R X Y) → WasSpent (seat_by steps stands reply) b → most_acts ≤ length (known (seat_pass b))
+seat_full {R} {X} {Y} steps stands reply b spent =
     let earlier = known (seat_pass spent.0) in
     let learnt = spent.3.1 in
     let more : length (known (seat_pass b)) ≡ length earlier + length learnt.acts = ap (λ (h : List (RoomEntry (Shared X Y) Act (Answer Y))). length h) learnt.goes_on ∙ length-append earlier learnt.acts in
     let all : length earlier ≡ most_acts = spent.1 in
     omega (arith, more, all)
 
-pub door_full : {R X Y D L : Type 0} (steps : Shared X Y → ℕ → ℕ → Act → Answer Y → Shared X Y → Type 0) (stands : Seated R X Y → Machine → Type 0) (reply : Answer Y → Reply) (tells : Bool) (faults : Y → ℕ) (left written : L → Option (List ℕ)) (read_faults write_faults : L → ℕ)
-    (is_closed : D → Bool) (door_faults : D → ℕ) (ledger : D → Option (Ledger L)) (Told : ℕ → Type 0) (kind : Kind) (place : ℕ) (a : Seated R X Y) (clock : Option Moments) (was : D) (b : Seated R X Y) (clock' : Option Moments) (now : D)
-    → ServesDoorAt seat_number (SeatBetween steps reply) SeatSpent stands tells faults left written read_faults write_faults is_closed door_faults ledger Told kind place a clock was door.Spent b clock' now → most_acts ≤ length (known (seat_pass b))
-door_full steps stands reply tells faults left written read_faults write_faults is_closed door_faults ledger Told kind place a clock was b clock' now s = seat_full steps reply b (s.spent refl)
+pub door_full : {R X Y D L : Type 0} (steps : Shared X Y → ℕ → ℕ → Act → Answer Y → Shared X Y → Type 0) (stands : Shared X Y → Machine → Type 0) (reply : Answer Y → Reply) (file : OfFile Y) (source : OfSource L) (sink : OfSink L) (door : OfDoor D L)
+    (Told : ℕ → Type 0) (kind : Kind) (place : ℕ) (a : Seated R X Y) (clock : Option Moments) (was : D) (b : Seated R X Y) (clock' : Option Moments) (now : D)
+    → ServesDoorAt (seat_by steps stands reply) file source sink door Told kind place a clock was ended.Spent b clock' now → most_acts ≤ length (known (seat_pass b))
+door_full steps stands reply file source sink door Told kind place a clock was b clock' now s = seat_full steps stands reply b (s.spent refl)
 
 -- ALL WHO WORKED
 
 module _ {A S B C D : Type 0} (Serves : Kind → ℕ → A → Option Moments → D → DoorServed → A → Option Moments → D → Type 0) (pass_of : A → Pass S Act B) (rooms_of : A → Rooms S Act B) (coming : C → Option Moments)
-    (full : (kind : Kind) (place : ℕ) (a : A) (clock : Option Moments) (was : D) (b : A) (clock' : Option Moments) (now : D) → Serves kind place a clock was door.Spent b clock' now → most_acts ≤ length (known (pass_of b))) (rooms : Rooms S Act B) (new : Pass S Act B) where
+    (full : (kind : Kind) (place : ℕ) (a : A) (clock : Option Moments) (was : D) (b : A) (clock' : Option Moments) (now : D) → Serves kind place a clock was ended.Spent b clock' now → most_acts ≤ length (known (pass_of b))) (rooms : Rooms S Act B) (new : Pass S Act B) where
   abbrev W : Type 0
   W = PostWork A C D
 
@@ -70,8 +73,8 @@ module _ {A S B C D : Type 0} (Serves : Kind → ℕ → A → Option Moments �
       by_end w.served refl (at_doors ws others ends (All-tail Serving w ws serve) (All-tail Known (pass_of w.seat') (map (λ (w : W). pass_of w.seat') ws ++ others) front) last)
     where
       by_end : (s : DoorServed) → w.served ≡ s → (list_any finds_none (map (λ (w : W). at_door w.served) ws ++ ends) ≡ true → most_acts ≤ length (known new)) → most_acts ≤ length (known new)
-      by_end (door.Done lacked failed) is rest = rest (subst (λ (s : DoorServed). list_any finds_none (at_door s ∷ (map (λ (w : W). at_door w.served) ws ++ ends)) ≡ true) is found)
-      by_end door.Spent is rest =
+      by_end (ended.Done lacked failed) is rest = rest (subst (λ (s : DoorServed). list_any finds_none (at_door s ∷ (map (λ (w : W). at_door w.served) ws ++ ends)) ≡ true) is found)
+      by_end ended.Spent is rest =
           let serves = (All-head Serving w ws serve).serves in
           knows_all (pass_of w.seat') (All-head Known (pass_of w.seat') (map (λ (w : W). pass_of w.seat') ws ++ others) front)
           (full w.post.kind w.place w.seat (coming w.clock) w.post.door w.seat' (coming w.clock') w.post'.door (subst (λ (s : DoorServed). Serves w.post.kind w.place w.seat (coming w.clock) w.post.door s w.seat' (coming w.clock') w.post'.door) is serves))

@@ -1,5 +1,6 @@
 -- What `ingest` makes of what a disk holds.
 use Rattle.std.specs.Prelude.{◌≡◌, ℕ, ◌+◌, ◌≤◌, List, Bool, true, Option, Some, All, length, slice_get}
+use Rattle.series_model.specs.Limits.{intake_room}
 use Rattle.disk_model.specs.Files.{Files}
 use Rattle.disk_model.specs.Past.{Past}
 use Rattle.edge_io.specs.Moments.{Moments}
@@ -7,7 +8,6 @@ use Rattle.etl_rules.specs.Config.{ConfigState}
 use Rattle.tier_store.specs.Stores.{Stores}
 use Rattle.act_model.specs.History.{Done}
 use Rattle.act_model.specs.Machine.{Machine}
-use Rattle.act_model.specs.Offer.{room}
 use Rattle.act_model.specs.Rows.{RowState, accepted, durable}
 use Rattle.pb_lines.specs.Stream.{Item, sample}
 use Rattle.feed_session.specs.Session.{Session, Taken}
@@ -38,7 +38,7 @@ LeavesNone other m = Unit {0}
 
 -- a sample whose line an empty intake has room for
 abbrev pub HasRoom : Item → Type 0
-HasRoom (sample x) = length x.line + 1 ≤ room
+HasRoom (sample x) = length x.line + 1 ≤ intake_room
 HasRoom other = ⊥
 
 -- Such a sample is offered at most twice, the second time behind a flush: the flush has made room for it.

@@ -4,6 +4,7 @@ pub mod Drilling
 pub mod Ingesting
 pub mod Judging
 pub mod Moving
+pub mod Obeying
 pub mod Outside
 pub mod Reporting
 pub mod Retrieving
@@ -11,3 +12,4 @@ pub mod Run
 pub mod Serving
 pub mod Sessions
 pub mod Tallying
+pub mod World

@@ -1,8 +1,13 @@
 -- What a service gave to those who came to its posts, as sessions over the acts of its one history.
-use Rattle.std.specs.Prelude.{◌≡◌, ◌≤◌, ℕ, List, [], ◌∷◌, ◌++◌, Bool, true, Option, Result, Contains, length, map}
-use Rattle.edge_io.specs.Doors.{IsFresh, Ledger}
+use Rattle.std.specs.Prelude.{◌≡◌, ◌≤◌, ℕ, List, [], ◌∷◌, ◌++◌, true, Option, Result, Contains, length, map}
+use Rattle.edge_io.specs.Doors.{IsFresh}
 use Rattle.edge_io.specs.Moments.{Gives, Moments}
+use Rattle.edge_io.specs.declared.link.Door.{Ghosts as OfDoor}
+use Rattle.edge_io.specs.declared.stream.Source.{Ghosts as OfSource}
+use Rattle.edge_io.specs.declared.stream.Sink.{Ghosts as OfSink}
+use Rattle.disk_model.specs.declared.disk.ReadAt.{Ghosts as OfFile}
 use Rattle.turn_rooms.specs.Histories.{most_acts}
+use Rattle.act_model.specs.declared.actor.Actor.{Ghosts as OfActor}
 use Rattle.act_model.specs.declared.actor.Spent.{Spent as NoAct}
 use Rattle.act_model.specs.History.{Done, Entry, Runs, mine, own}
 use Rattle.act_model.specs.Machine.{Machine}
@@ -41,12 +46,16 @@ Learns k entries later = (later.number ≡ k.number) × (later.known ≡ k.known
 abbrev pub KnowsMost : Knower → Type 0
 KnowsMost k = most_acts ≤ length k.known
 
+-- what an actor tells, of one who stands for this state
+abbrev pub knower : {R : Type 0} → Machine → OfActor Knower R
+knower at = record { number = acts_under; stands = λ k m. m ≡ at; between = Learns; is_spent = KnowsMost }
+
 -- THE LINKS AND THE POSTS
 
-module _ {L R : Type 0} (start : Machine) (tells : Bool) (reader_faults : R → ℕ) (left written : L → Option (List ℕ)) (write_faults : L → ℕ) where
+module _ {L R : Type 0} (start : Machine) (file : OfFile R) (source : OfSource L) (sink : OfSink L) where
   -- so was a link served from this state, by its kind
   abbrev pub ServesFrom : Machine → Kind → Knower → Option Moments → L → Served R → Knower → Option Moments → L → Type 0
-  ServesFrom at kind old clock was result new clock' l = ServesLink acts_under Learns KnowsMost (λ k m. m ≡ at) tells reader_faults left written write_faults kind old clock was result new clock' l
+  ServesFrom at kind old clock was result new clock' l = ServesLink (knower at) file source sink kind old clock was result new clock' l
 
   -- What a feed kept whose last line tells that it is durable is so in the state that the feed's entries lead to, where samples are told.
   abbrev pub KeepsAll : (at : Machine) (kind : Kind) (old : Knower) (clock : Option Moments) (was : L) (result : Served R) (new : Knower) (clock' : Option Moments) (l : L) → ServesFrom at kind old clock was result new clock' l → Type 0
@@ -62,7 +71,7 @@ module _ {L R : Type 0} (start : Machine) (tells : Bool) (reader_faults : R → 
     pub serves : ServesFrom at kind old clock was result new clock' l
     pub keeps : KeepsAll at kind old clock was result new clock' l serves
 
-  module _ {D : Type 0} (history : List Entry) (read_faults : L → ℕ) (is_closed : D → Bool) (faults : D → ℕ) (ledger : D → Option (Ledger L)) where
+  module _ {D : Type 0} (history : List Entry) (door : OfDoor D L) where
     -- The links of a post's door were served so, one after another, under this number, by one who knew nothing of the history at first and
     -- came to know a front of it. All acts under the number are in that front.
     pub record PostGiven (by : ℕ × DoorServed) (old new : Post D) : Type 0 where
@@ -72,7 +81,7 @@ module _ {L R : Type 0} (start : Machine) (tells : Bool) (reader_faults : R → 
       pub no_more : own by.0 rest ≡ []
       pub clock : Option Moments
       pub clock' : Option Moments
-      pub serves : ServesDoor acts_under Learns KnowsMost (IsFresh written read_faults write_faults) (IsServed old.kind written read_faults write_faults) (ServesIn old.kind) is_closed faults ledger
+      pub serves : ServesDoor (knower start) door (IsFresh sink.written source.read_faults sink.write_faults) (IsServed old.kind sink.written source.read_faults sink.write_faults) (ServesIn old.kind)
           (record { number = by.0; known = [] }) clock old.door by.1 (record { number = by.0; known = known }) clock' new.door
 
     -- One beside the doors ended so, at the moments that a clock gave him: such are all acts under his number.

@@ -18,7 +18,6 @@ ghost use Rattle.archiver_appliance.specs.Drilling.{AreFed, Drills, HasRegistere
 ghost use Rattle.archiver_appliance.specs.Drilling.{OpensWell, WereSpent, nothing_held, registers, shipped, unmoving};
 
 use crate::drill_report::report;
-use crate::service_log::Log;
 use crate::serving_all::serve_archive;
 use act_model::{Registered, ask_register};
 use archive_actors::Alone;
@@ -31,7 +30,8 @@ use etl_rules::Config;
 use partition_names::Granularity;
 use pv_name::PvName;
 use service::{Kind, Post};
-use serving_all::move_all_due;
+use service_watch::Log;
+use serving::move_all_due;
 use std::alloc::{AllocError, Global};
 use std::sync::Wait;
 use std::thread::Threads;

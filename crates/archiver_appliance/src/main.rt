@@ -14,35 +14,27 @@
 
 mod adopting;
 mod contents;
-mod doors;
 mod drill_report;
 mod drilling;
-mod drops;
 mod ingesting;
 mod moving;
 mod observed;
 mod opened;
-mod queue;
 mod reporting;
 mod retrieving;
 mod run;
-mod service_log;
 mod serving_all;
-mod stopping;
 mod tallying;
-mod teller;
-mod telling;
 
 ghost use Rattle.std.specs.Prelude.{◌≤◌, ◌<◌, ◌^◌, length, vec_len, IfOk};
 
 use command_words::{Status, complain, serve_words};
 use contents::Contents;
-use doors::{Doors, ServiceDoor, Unbound};
 use edge_io::{StdSink, StdSource, SystemClock};
 use etl_rules::Config;
 use folder_disk::{Access, FolderDisk, Trouble};
 use service::Post;
-use service_log::Log;
+use service_watch::{Doors, Log, Ports, ServiceDoor, Stop, Telling, Unbound, tell_plain, watch};
 use std::alloc::{AllocError, Global};
 use std::env::{self, VarError};
 use std::io::ErrorKind;
@@ -50,8 +42,6 @@ use std::net::{Net, TcpListener, TcpStream};
 use std::process::ExitCode;
 use std::sync::{Arc, Wait};
 use std::thread::{Threads, join};
-use stopping::{Ports, Stop, watch};
-use telling::{Telling, tell_plain};
 
 fn main(rt: HostRuntime) -> ExitCode {
     let ended = match prepare(&rt, &rt, &rt) {
@@ -231,7 +221,7 @@ fn counted<'a, H: Threads + Wait + Sync>(
         &mut posts,
     );
     if ended.status == Status::Done.number() {
-        telling.count(&contents);
+        telling.count(contents.variables, contents.files);
     }
     drop(ended.disk.take_trouble());
     match telling.log.faults() {

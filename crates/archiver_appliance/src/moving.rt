@@ -28,7 +28,7 @@ use command_words::{Status, write_pieces};
 use disk_model::Disk;
 use edge_io::{Clock, Sink};
 use itoa::Buffer;
-use serving_all::{DueMoved, MoveErr, move_all_due};
+use serving::{DueMoved, MoveErr, move_all_due};
 use std::alloc::Global;
 use std::sync::Wait;
 use tier_store::TierStore;

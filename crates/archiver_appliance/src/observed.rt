@@ -1,12 +1,12 @@
 // An archive whose answers are looked at for what is to be told.
 ghost use Rattle.std.specs.Prelude.{◌≡◌, IfErr, IfOk};
 
-use crate::drops::Whose;
-use crate::service_log::Log;
 use act_model::{Act, Answer};
 use archive_actors::Applies;
 use archive_core::Archive;
 use disk_model::Disk;
+use series_model::Reason;
+use service_watch::Log;
 use std::alloc::Global;
 
 // So many bytes of a name are told at most. That of a variable has no more.
@@ -34,13 +34,6 @@ impl Tried {
             }
             Act::Tick { row, .. } => self.row = Some(*row),
             _ => {}
-        }
-    }
-
-    fn whose(&self) -> Whose<'_> {
-        match self.row {
-            Some(row) => Whose::Row(row),
-            None => Whose::Name(self.name.as_slice()),
         }
     }
 }
@@ -76,6 +69,22 @@ impl<D: Disk> Observed<D> {
         })
     }
 
+    // Hands in that a sample was dropped, by the name that it came under or its row has.
+    fn tell_drop(&self, reason: Reason) {
+        let Some(row) = self.tried.row else {
+            self.log.dropped(reason, self.tried.name.as_slice());
+            return;
+        };
+        let Answer::NamesAre { names, .. } = self.archive.names(row, 1) else {
+            self.log.dropped(reason, b"?");
+            return;
+        };
+        match names.items().first() {
+            Some(name) => self.log.dropped(reason, name.bytes()),
+            None => self.log.dropped(reason, b"?"),
+        }
+    }
+
     /// The archive, given back.
     pub fn into_archive(self) -> Archive<D>
         ensures { result ≡ self.archive.value }
@@ -101,7 +110,7 @@ impl<D: Disk> Applies for Observed<D> {
         self.tried.note(&act);
         let answer = self.archive.apply(who, act);
         match &answer {
-            Answer::Dropped(reason) => self.log.dropped(*reason, self.tried.whose()),
+            Answer::Dropped(reason) => self.tell_drop(*reason),
             Answer::Damaged { name, at } => self.log.damage(name, *at),
             _ => {}
         }

@@ -2,7 +2,6 @@
 ghost use Rattle.std.specs.FinMap as map;
 ghost use Rattle.std.specs.Prelude.{◌≡◌, ◌≤◌, ◌<◌, ◌^◌, [], ℕ, IfOk, IsOk, IsTrue, None, Err, false, length, true};
 ghost use Rattle.disk_model.specs.Files.{Name, Rose};
-ghost use Rattle.edge_io.specs.Moments.{Gives};
 ghost use Rattle.partition_names.specs.declared.granularity.Granularity.{Granularity as GranularityValue};
 ghost use Rattle.store_reopen.specs.Adoption.{NoneFiner, NoneFoundOpened};
 ghost use Rattle.store_reopen.specs.Reopen.{HasRead, IsReady, IsSwept, IsUnopened, OpensEither, disk_in, disk_of};
@@ -13,29 +12,25 @@ ghost use Rattle.tier_store.specs.Change.{Has};
 ghost use Rattle.tier_store.specs.Seen.{seen};
 ghost use Rattle.tier_store.specs.Stores.{Stores};
 ghost use Rattle.archiver_appliance.specs.Judging.{refusal_of};
-ghost use Rattle.archiver_appliance.specs.Outside.{outside, IsCaused, NoneFell};
-ghost use Rattle.archiver_appliance.specs.Run.{Does, IsOfService, IsReading, IsRefused, IsReport, IsUnopenedFor};
+ghost use Rattle.archiver_appliance.specs.Run.{IsReading, IsReport};
 ghost use Rattle.archiver_appliance.specs.Run.{OnlyOpens, OnlyReads};
-ghost use Rattle.command_words.specs.Status.{number_of};
 ghost use Rattle.command_words.specs.declared.command.Command.TheVariants.{OverStore};
 ghost use Rattle.command_words.specs.declared.command.StoreCommand.TheVariants as asked;
-ghost use Rattle.command_words.specs.declared.service_words.ServeWords.{ServeWords as Numbers};
-ghost use Rattle.service.specs.Doors.{IsServed};
-ghost use Rattle.archiver_appliance.specs.Serving.{ServesPosts};
-ghost use Rattle.archiver_appliance.specs.Sessions.{Given};
+ghost use Rattle.archiver_appliance.specs.Obeying.{CarriesOut};
+ghost use Rattle.archiver_appliance.specs.World.{world};
 
 use crate::adopting::adopt_found;
 use crate::ingesting::ingest_into;
 use crate::moving::move_due;
 use crate::reporting::{tell_files, tell_rows};
 use crate::retrieving::get_from;
-use crate::service_log::Logged;
 use crate::serving_all::serve_posts;
 use command_words::{Status, StoreCommand};
 use disk_model::Disk;
 use edge_io::{Clock, Door, Sink, Source};
 use etl_rules::Config;
 use service::Post;
+use service_watch::Logged;
 use std::alloc::Global;
 use std::sync::Wait;
 use std::thread::Threads;
@@ -67,7 +62,7 @@ pub fn out_of_memory<D: Disk>(store: TierStore<D>) -> Came<D>
 }
 
 /// Opens the disk as three stores, and does what is asked of them. `adopt` opens it by itself.
-pub fn serve<
+pub fn over_archive<
     R: Threads + Wait + Sync,
     S: Source,
     K: Sink,
@@ -93,34 +88,10 @@ where
     requires found { command ≡ asked.Adopt → IsTrue D.tells
         → NoneFoundOpened (stores_of config.now) (D.files disk) (D.opened disk) }
     requires coarse { command ≡ asked.Adopt → NoneFiner config.now }
-    ensures does { Does config.now D.tells (OverStore command.entry)
-        (outside S.Source K.Sink C.Clock D.Disk source.old sink.old clock.old disk)
-        (outside S.Source K.Sink C.Clock D.Disk source.new sink.new clock.new result.disk) result.status }
-    ensures caused { IsCaused D.Reader.faults
-        (outside S.Source K.Sink C.Clock D.Disk source.old sink.old clock.old disk)
-        (outside S.Source K.Sink C.Clock D.Disk source.new sink.new clock.new result.disk) result.status result.failed }
-    ensures faults { NoneFell (outside S.Source K.Sink C.Clock D.Disk source.old sink.old clock.old disk)
-        (outside S.Source K.Sink C.Clock D.Disk source.new sink.new clock.new result.disk) }
-    ensures ingest_alone { command.entry ≡ asked.Ingest → sink.new ≡ sink.old }
-    ensures move_alone { command.entry ≡ asked.Etl → source.new ≡ source.old }
-    ensures report_alone { IsReport command.entry → (source.new ≡ source.old) × (clock.new ≡ clock.old) }
-    ensures adopt_alone { command.entry ≡ asked.Adopt → (source.new ≡ source.old) × (clock.new ≡ clock.old) }
-    ensures posts_alone { ((numbers : Numbers) → command.entry ≡ asked.Serve numbers → ⊥) → posts.new ≡ posts.old }
-    ensures serve_alone { (numbers : Numbers) → command.entry ≡ asked.Serve numbers
-        → (source.new ≡ source.old) × (sink.new ≡ sink.old) × Gives (C.coming clock.old) (C.coming clock.new) [] }
-    ensures serves { (numbers : Numbers) → command.entry ≡ asked.Serve numbers
-        → ServesPosts W.is_closed W.door_faults W.ledger
-        (λ kind l. IsServed kind W.L.Sink.written W.L.Source.read_faults W.L.Sink.write_faults l)
-        (IsUnopenedFor config.now D.tells (outside S.Source K.Sink C.Clock D.Disk source.old sink.old clock.old disk)
-        (outside S.Source K.Sink C.Clock D.Disk source.new sink.new clock.new result.disk))
-        (IsOfService config.now D.tells (length posts.old) (λ told start entries.
-        Given start D.Reader.tells D.Reader.faults W.L.Source.left W.L.Sink.written W.L.Sink.write_faults entries
-        W.L.Source.read_faults W.is_closed W.door_faults W.ledger told posts.old posts.new)
-        (outside S.Source K.Sink C.Clock D.Disk source.old sink.old clock.old disk) (outside S.Source K.Sink C.Clock
-        D.Disk source.new sink.new clock.new result.disk)) result.status posts.old posts.new }
-    ensures refused { IsRefused config.now D.tells (D.files disk) (number_of result.status)
-        → (source.new ≡ source.old) × (sink.new ≡ sink.old) × (clock.new ≡ clock.old) }
-    ensures unopened { IsTrue D.tells → IsUnopened (D.files result.disk) (D.opened result.disk) }
+    ensures { CarriesOut S.Source K.Sink D.Disk C.Clock D.Reader.ReadAt W.L.Source W.L.Sink W.Door config.now
+        (world source.old sink.old disk clock.old posts.old)
+        (world source.new sink.new result.disk clock.new posts.new) (OverStore command.entry) result.status
+        result.failed }
 {
     one_verdict();
     if let StoreCommand::Adopt = command {

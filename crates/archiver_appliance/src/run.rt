@@ -1,33 +1,28 @@
 // A run of the program, from its words to its status.
-ghost use Rattle.std.specs.Prelude.{◌≡◌, ◌↔◌, ◌≤◌, ◌<◌, ◌^◌, [], IsTrue, length, map};
-ghost use Rattle.edge_io.specs.Moments.{Gives};
-ghost use Rattle.series_model.specs.declared.sample.Query.{Query};
-ghost use Rattle.drill_feed.specs.declared.drill.Drill.{Drill as DrillValue};
+ghost use Rattle.std.specs.Prelude.{◌≡◌, ◌↔◌, ◌≤◌, ◌<◌, ◌^◌, IsTrue, length, map};
 ghost use Rattle.store_reopen.specs.Adoption.{NoneFiner, NoneFoundOpened};
 ghost use Rattle.store_reopen.specs.Reopen.{IsUnopened, stores_of};
 ghost use Rattle.command_words.specs.declared.command.Command.{Command as CommandValue};
-ghost use Rattle.command_words.specs.declared.command.Command.TheVariants.{Drill as DrillOf, Extract, OverStore};
-ghost use Rattle.command_words.specs.declared.command.StoreCommand.{StoreCommand as Asked};
+ghost use Rattle.command_words.specs.declared.command.Command.TheVariants.{OverStore};
 ghost use Rattle.command_words.specs.declared.command.StoreCommand.TheVariants as asked;
 ghost use Rattle.command_words.specs.declared.service_words.ServeWords.{ServeWords as Numbers};
 ghost use Rattle.command_words.specs.declared.status.Status.{Status as StatusValue};
-ghost use Rattle.service.specs.Doors.{IsServed};
-ghost use Rattle.archiver_appliance.specs.Serving.{ServesPosts};
-ghost use Rattle.archiver_appliance.specs.Sessions.{Given};
 ghost use Rattle.command_words.specs.Command.{IsCommand, IsFaulty};
-ghost use Rattle.archiver_appliance.specs.Outside.{outside, IsCaused, IsQuiet, NoneFell};
+ghost use Rattle.archiver_appliance.specs.Outside.{outside, IsQuiet, NoneFell};
 ghost use Rattle.command_words.specs.Status.{number_of};
-ghost use Rattle.archiver_appliance.specs.Run.{Obeys, Ran, IsOfService, IsRefused, IsReport, IsUnopenedFor, CanBeDone};
+ghost use Rattle.archiver_appliance.specs.Run.{Ran, CanBeDone};
 ghost use Rattle.archiver_appliance.specs.Run.{AreDoorsQuiet, EndsWellBy};
+ghost use Rattle.archiver_appliance.specs.Obeying.{ObeysWords, ServesOver};
+ghost use Rattle.archiver_appliance.specs.World.{world, TouchesOnly};
 
 use crate::drilling::run_drill;
-use crate::opened::{Came, serve};
-use crate::service_log::Logged;
+use crate::opened::{Came, over_archive};
 use command_words::{Command, Status, command_of, complain};
 use disk_model::Disk;
 use edge_io::{Clock, Door, Sink, Source};
 use etl_rules::Config;
 use service::Post;
+use service_watch::Logged;
 use std::alloc::Global;
 use std::sync::Wait;
 use std::thread::Threads;
@@ -104,38 +99,14 @@ where
         × (E.write_faults complaints.old ≤ E.write_faults complaints.new) }
 
     ensures usage { (result.status ≡ 2) ↔ IsFaulty (map (λ w. w.now) words.now) }
-    ensures usage_does_nothing { result.status ≡ 2 → (source.new ≡ source.old)
-        × (sink.new ≡ sink.old) × (result.disk ≡ disk) × (clock.new ≡ clock.old) × (posts.new ≡ posts.old) }
-    ensures extract_alone { (query : Query) → IsCommand (map (λ w. w.now) words.now) (Extract query)
-        → (result.disk ≡ disk) × (clock.new ≡ clock.old) }
-    ensures drill_alone { (drill : DrillValue) → IsCommand (map (λ w. w.now) words.now) (DrillOf drill)
-        → (source.new ≡ source.old) × (result.disk ≡ disk) × (clock.new ≡ clock.old) }
-    ensures ingest_alone { IsCommand (map (λ w. w.now) words.now) (OverStore asked.Ingest) → sink.new ≡ sink.old }
-    ensures move_alone { IsCommand (map (λ w. w.now) words.now) (OverStore asked.Etl) → source.new ≡ source.old }
-    ensures adopt_alone { IsCommand (map (λ w. w.now) words.now) (OverStore asked.Adopt)
-        → (source.new ≡ source.old) × (clock.new ≡ clock.old) }
-    ensures report_alone { (command : Asked) → IsCommand (map (λ w. w.now) words.now) (OverStore command)
-        → IsReport command → (source.new ≡ source.old) × (clock.new ≡ clock.old) }
-    ensures refused { (command : Asked) → IsCommand (map (λ w. w.now) words.now) (OverStore command)
-        → IsRefused config.now D.tells (D.files disk) result.status
-        → (source.new ≡ source.old) × (sink.new ≡ sink.old) × (clock.new ≡ clock.old) }
-
-    // The posts are served by `serve` alone.
-    ensures posts_alone { (command : CommandValue) → IsCommand (map (λ w. w.now) words.now) command
-        → ((numbers : Numbers) → command ≡ OverStore (asked.Serve numbers) → ⊥) → posts.new ≡ posts.old }
-    ensures serve_alone { (numbers : Numbers) → IsCommand (map (λ w. w.now) words.now) (OverStore (asked.Serve numbers))
-        → (source.new ≡ source.old) × (sink.new ≡ sink.old) × Gives (C.coming clock.old) (C.coming clock.new) [] }
+    ensures touches { TouchesOnly C.coming (world source.old sink.old disk clock.old posts.old)
+        (world source.new sink.new result.disk clock.new posts.new) (map (λ w. w.now) words.now) config.now D.tells
+        (D.files disk) result.status }
     ensures serves { (numbers : Numbers) → IsCommand (map (λ w. w.now) words.now) (OverStore (asked.Serve numbers))
         → (status : StatusValue) × (result.status ≡ number_of status)
-        × ServesPosts W.is_closed W.door_faults W.ledger
-        (λ kind l. IsServed kind W.L.Sink.written W.L.Source.read_faults W.L.Sink.write_faults l)
-        (IsUnopenedFor config.now D.tells (outside S.Source K.Sink C.Clock D.Disk source.old sink.old clock.old disk)
-        (outside S.Source K.Sink C.Clock D.Disk source.new sink.new clock.new result.disk))
-        (IsOfService config.now D.tells (length posts.old) (λ told start entries.
-        Given start D.Reader.tells D.Reader.faults W.L.Source.left W.L.Sink.written W.L.Sink.write_faults entries
-        W.L.Source.read_faults W.is_closed W.door_faults W.ledger told posts.old posts.new)
-        (outside S.Source K.Sink C.Clock D.Disk source.old sink.old clock.old disk)
-        (outside S.Source K.Sink C.Clock D.Disk source.new sink.new clock.new result.disk)) status posts.old posts.new }
+        × ServesOver S.Source K.Sink D.Disk C.Clock D.Reader.ReadAt W.L.Source W.L.Sink W.Door config.now
+        (world source.old sink.old disk clock.old posts.old)
+        (world source.new sink.new result.disk clock.new posts.new) status }
 
     // Where no count rose, each command is done that can be, or memory was wanting.
     ensures complete { (command : CommandValue) → IsCommand (map (λ w. w.now) words.now) command
@@ -184,46 +155,10 @@ where
     requires found { IsCommand (map (λ w. w.now) words.now) (OverStore asked.Adopt) → IsTrue D.tells
         → NoneFoundOpened (stores_of config.now) (D.files disk) (D.opened disk) }
     requires coarse { IsCommand (map (λ w. w.now) words.now) (OverStore asked.Adopt) → NoneFiner config.now }
-    ensures obeys { Obeys (map (λ w. w.now) words.now) config.now D.tells
-        (outside S.Source K.Sink C.Clock D.Disk source.old sink.old clock.old disk)
-        (outside S.Source K.Sink C.Clock D.Disk source.new sink.new clock.new result.disk) result.status }
-    ensures caused { IsCaused D.Reader.faults
-        (outside S.Source K.Sink C.Clock D.Disk source.old sink.old clock.old disk)
-        (outside S.Source K.Sink C.Clock D.Disk source.new sink.new clock.new result.disk) result.status result.failed }
-    ensures faults { NoneFell (outside S.Source K.Sink C.Clock D.Disk source.old sink.old clock.old disk)
-        (outside S.Source K.Sink C.Clock D.Disk source.new sink.new clock.new result.disk) }
-    ensures usage { result.status ≡ Status.Usage → IsFaulty (map (λ w. w.now) words.now) }
-    ensures usage_does_nothing { result.status ≡ Status.Usage
-        → (source.new ≡ source.old)
-        × (sink.new ≡ sink.old) × (result.disk ≡ disk) × (clock.new ≡ clock.old) × (posts.new ≡ posts.old) }
-    ensures extract_alone { (query : Query) → IsCommand (map (λ w. w.now) words.now) (Extract query)
-        → (result.disk ≡ disk) × (clock.new ≡ clock.old) }
-    ensures drill_alone { (drill : DrillValue) → IsCommand (map (λ w. w.now) words.now) (DrillOf drill)
-        → (source.new ≡ source.old) × (result.disk ≡ disk) × (clock.new ≡ clock.old) }
-    ensures ingest_alone { IsCommand (map (λ w. w.now) words.now) (OverStore asked.Ingest) → sink.new ≡ sink.old }
-    ensures move_alone { IsCommand (map (λ w. w.now) words.now) (OverStore asked.Etl) → source.new ≡ source.old }
-    ensures adopt_alone { IsCommand (map (λ w. w.now) words.now) (OverStore asked.Adopt)
-        → (source.new ≡ source.old) × (clock.new ≡ clock.old) }
-    ensures report_alone { (command : Asked) → IsCommand (map (λ w. w.now) words.now) (OverStore command)
-        → IsReport command → (source.new ≡ source.old) × (clock.new ≡ clock.old) }
-    ensures refused { (command : Asked) → IsCommand (map (λ w. w.now) words.now) (OverStore command)
-        → IsRefused config.now D.tells (D.files disk) (number_of result.status)
-        → (source.new ≡ source.old) × (sink.new ≡ sink.old) × (clock.new ≡ clock.old) }
-    ensures posts_alone { (command : CommandValue) → IsCommand (map (λ w. w.now) words.now) command
-        → ((numbers : Numbers) → command ≡ OverStore (asked.Serve numbers) → ⊥) → posts.new ≡ posts.old }
-    ensures serve_alone { (numbers : Numbers) → IsCommand (map (λ w. w.now) words.now) (OverStore (asked.Serve numbers))
-        → (source.new ≡ source.old) × (sink.new ≡ sink.old) × Gives (C.coming clock.old) (C.coming clock.new) [] }
-    ensures serves { (numbers : Numbers) → IsCommand (map (λ w. w.now) words.now) (OverStore (asked.Serve numbers))
-        → ServesPosts W.is_closed W.door_faults W.ledger
-        (λ kind l. IsServed kind W.L.Sink.written W.L.Source.read_faults W.L.Sink.write_faults l)
-        (IsUnopenedFor config.now D.tells (outside S.Source K.Sink C.Clock D.Disk source.old sink.old clock.old disk)
-        (outside S.Source K.Sink C.Clock D.Disk source.new sink.new clock.new result.disk))
-        (IsOfService config.now D.tells (length posts.old) (λ told start entries.
-        Given start D.Reader.tells D.Reader.faults W.L.Source.left W.L.Sink.written W.L.Sink.write_faults entries
-        W.L.Source.read_faults W.is_closed W.door_faults W.ledger told posts.old posts.new)
-        (outside S.Source K.Sink C.Clock D.Disk source.old sink.old clock.old disk) (outside S.Source K.Sink C.Clock
-        D.Disk source.new sink.new clock.new result.disk)) result.status posts.old posts.new }
-    ensures unopened { IsTrue D.tells → IsUnopened (D.files result.disk) (D.opened result.disk) }
+    ensures { ObeysWords S.Source K.Sink D.Disk C.Clock D.Reader.ReadAt W.L.Source W.L.Sink W.Door config.now
+        (world source.old sink.old disk clock.old posts.old)
+        (world source.new sink.new result.disk clock.new posts.new) (map (λ w. w.now) words.now) result.status
+        result.failed }
 {
     match command_of(words) {
         None => Came {
@@ -242,7 +177,7 @@ where
             failed: None,
         },
         Some(Command::OverStore(command)) => {
-            serve(rt, alloc, config, command, source, sink, disk, clock, posts)
+            over_archive(rt, alloc, config, command, source, sink, disk, clock, posts)
         }
     }
 }

@@ -24,7 +24,6 @@ ghost use Rattle.command_words.specs.declared.service_words.ServeWords.{ServeWor
 
 use crate::observed::Observed;
 use crate::opened::{Came, out_of_memory};
-use crate::service_log::{Log, Logged};
 use act_model::laws::soundness_stays;
 use archive_actors::Shared;
 use archive_core::Archive;
@@ -32,6 +31,7 @@ use command_words::Status;
 use disk_model::Disk;
 use edge_io::{Clock, Door};
 use service::{AllServed, Post, serve_all};
+use service_watch::{Log, Logged};
 use std::alloc::Global;
 use std::sync::Wait;
 use std::thread::Threads;
@@ -56,8 +56,7 @@ where
         (IsNotMade store.disk result.disk result.status × (C.coming clock.new ≡ C.coming clock.old))
         (λ began told. (held : Stores) → Has D.tells (seen D.Disk store) held
         → ServesFrom (λ image. ⊥) D.tells store.config held (length posts.old) (λ start entries.
-        Given start D.Reader.tells D.Reader.faults W.L.Source.left W.L.Sink.written W.L.Sink.write_faults entries
-        W.L.Source.read_faults W.is_closed W.door_faults W.ledger told posts.old posts.new)
+        Given start D.Reader.ReadAt W.L.Source W.L.Sink entries W.Door told posts.old posts.new)
         began told (D.past store.disk) (D.past result.disk)) result.status posts.old posts.new }
     ensures clock { Gives (C.coming clock.old) (C.coming clock.new) [] }
     ensures opened { IsOfOpened result.status }
@@ -106,8 +105,7 @@ where
     requires few { length posts.old < 2 ^ 32 }
     ensures leaves { IfOk result (λ end. (began : Bool)
         × LeavesArchive D.Disk archive (length posts.old) (λ start entries.
-        Given start D.Reader.tells D.Reader.faults W.L.Source.left W.L.Sink.written W.L.Sink.write_faults entries
-        W.L.Source.read_faults W.is_closed W.door_faults W.ledger end.0 posts.old posts.new) began end.0 end.1
+        Given start D.Reader.ReadAt W.L.Source W.L.Sink entries W.Door end.0 posts.old posts.new) began end.0 end.1
         × PostsLeft W.is_closed W.door_faults W.ledger (λ kind l. IsServed kind
         W.L.Sink.written W.L.Source.read_faults W.L.Sink.write_faults l) began end.0 posts.old posts.new) }
     ensures clock { Gives (C.coming clock.old) (C.coming clock.new) [] }
@@ -148,8 +146,8 @@ where
     ensures leaves { (began : Bool)
         × LeavesRoom D.Disk (ArchiveStep D.Disk D.Reader.tells D.Reader.bytes D.Reader.faults)
         (reply_of D.Reader.tells D.Reader.bytes D.Reader.faults) (opened rooms) (length posts.old) (λ start entries.
-        Given start D.Reader.tells D.Reader.faults W.L.Source.left W.L.Sink.written W.L.Sink.write_faults entries
-        W.L.Source.read_faults W.is_closed W.door_faults W.ledger result.0 posts.old posts.new) began result.0 result.1
+        Given start D.Reader.ReadAt W.L.Source W.L.Sink entries W.Door result.0 posts.old posts.new)
+        began result.0 result.1
         × PostsLeft W.is_closed W.door_faults W.ledger (λ kind l. IsServed kind
         W.L.Sink.written W.L.Source.read_faults W.L.Sink.write_faults l) began result.0 posts.old posts.new }
     ensures clock { Gives (C.coming clock.old) (C.coming clock.new) [] }

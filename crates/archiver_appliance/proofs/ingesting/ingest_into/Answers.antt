@@ -1,6 +1,6 @@
 use Rattle.std.proofs.Common.{◌+◌, [], None, inr, true, sym, ◌∙◌, ap, subst}
 use Rattle.durable_write.specs.Writing.{LeavesListed}
-use Rattle.durable_write.proofs.KeptBytes.{leaves_none}
+use Rattle.durable_write.proofs.Staying.{leaves_none}
 use Rattle.feed_session.specs.Session.{EndsIn}
 use Rattle.archiver_appliance.proofs.Acting.{acts_from, acts_given, begins, count_given, handed, has_not_fallen, has_risen, nested_in, ran, rose_given, stands_at_first, unopened_back, unopened_given}
 use Rattle.archiver_appliance.proofs.Chained.{session_feeding}

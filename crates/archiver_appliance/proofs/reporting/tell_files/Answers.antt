@@ -1,7 +1,7 @@
 use Rattle.std.proofs.Common.{Bool, inl, sym, subst}
 use Rattle.tier_store.specs.Seen.{seen}
 use Rattle.store_reopen.specs.Reopen.{IsUnopened, lists_of}
-use Rattle.store_reopen.proofs.HandedBack.{open_unopened}
+use Rattle.store_reopen.proofs.Swept.{open_unopened}
 use Rattle.store_reports.specs.Check.{Checks}
 use Rattle.store_reports.specs.Listing.{files_listed}
 use Rattle.archiver_appliance.specs.Judging.{IsOfOpened}

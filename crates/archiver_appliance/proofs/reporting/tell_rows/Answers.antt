@@ -1,7 +1,7 @@
 use Rattle.std.proofs.Common.{inl, sym, subst}
 use Rattle.tier_store.specs.Seen.{seen}
 use Rattle.store_reopen.specs.Reopen.{IsUnopened, lists_of}
-use Rattle.store_reopen.proofs.HandedBack.{open_unopened}
+use Rattle.store_reopen.proofs.Swept.{open_unopened}
 use Rattle.store_reports.specs.Status.{status_text}
 use Rattle.archiver_appliance.specs.Reporting.{Tells, TellsListed}
 use Rattle.command_words.specs.declared.status.Status.{Status}

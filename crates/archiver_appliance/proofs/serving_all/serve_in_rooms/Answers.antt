@@ -41,10 +41,10 @@ returns-clause-leaves g c =
     let news = c.serve_all-told.new.posts in
     let is = c.into_archive.ensures ∙ ap (λ o. o.archive.value) (c.into_inner.ensures ∙ ap (λ room. room.archive) c.close.ensures) in
     let few = numbers_left steps rooms c.args.pass c.requires.opens (length olds) c.requires.few in
-    let Sessions : Machine → List Entry → Type 0 = λ start entries. Given start R.tells R.faults L.Source.left L.Sink.written L.Sink.write_faults entries L.Source.read_faults W.is_closed W.door_faults W.ledger told olds news in
+    let Sessions : Machine → List Entry → Type 0 = λ start entries. Given start R L.Source L.Sink entries W told olds news in
     let left =
-    posts_left _ _ _ _ _ _ _ _ (door_left _ _ _ _ _ _ _ _ _ _ _ _ _ _) (door_full _ _ _ _ _ _ _ _ _ _ _ _ _) rooms _ _ told c.args.pass new olds news ((m : Machine) → Stands disk.tells (parts disk (opened rooms).archive.archive.value) m → Sessions m (all_kept reply (known new)))
-    (λ all m s. all_given _ steps _ reply (λ before after who n act answer step. step.0) c.args.rt.now R.tells R.faults L.Source.left L.Sink.written L.Source.read_faults L.Sink.write_faults W.is_closed W.door_faults W.ledger _ g.C.Clock.coming rooms c.args.pass new c.requires.opens m s.sound s told olds news all)
+    posts_left _ _ _ _ _ _ _ _ (door_left _ _ L.Source L.Sink _ _) (door_full _ _ _ _ L.Source L.Sink _ _) rooms _ _ told c.args.pass new olds news ((m : Machine) → Stands disk.tells (parts disk (opened rooms).archive.archive.value) m → Sessions m (all_kept reply (known new)))
+    (λ all m s. all_given _ steps _ reply (λ before after who n act answer step. step.0) R L.Source L.Sink W _ g.C.Clock.coming rooms c.args.pass new c.requires.opens m s.sound s told olds news all)
     few c.serve_all-told.ensures.served in (
       left.began,
       leaves_room disk steps reply rooms c.args.pass c.requires.opens new _ Sessions left.began told c.into_archive.result c.serve_all-told.ensures.rooms is left.none left.worked left.spent c.serve_all-told.ensures.disk_fault c.serve_all-told.ensures.ends,

@@ -44,7 +44,7 @@ returns-in-Ok-serve_archive-clause-serves g c =
     let given = c.into_disk.result in
     let leaves = c.in-Ok-serve_archive.ensures.leaves in
     let Made : Bool → AllServed → Type 0 = λ began told. (held : Stores) → Has disk.tells (seen disk store) held → ServesFrom (λ image. ⊥) disk.tells store.config held (length olds)
-    (λ start entries. Given start g.D.Reader.ReadAt.tells g.D.Reader.ReadAt.faults L.Source.left L.Sink.written L.Sink.write_faults entries L.Source.read_faults W.is_closed W.door_faults W.ledger told olds news) began told (disk.past store.disk) (disk.past given) in
+    (λ start entries. Given start g.D.Reader.ReadAt L.Source L.Sink entries W told olds news) began told (disk.past store.disk) (disk.past given) in
     let Unmade : Status → Type 0 = λ s. IsNotMade store.disk given s × (g.C.Clock.coming c.serve_archive.new.clock ≡ g.C.Clock.coming c.args.clock.now) in
     subst (λ (s : Status). ServesPosts W.is_closed W.door_faults W.ledger (λ kind l. IsServed kind L.Sink.written L.Source.read_faults L.Sink.write_faults l) (Unmade s) Made s olds news) (sym c.served_status.ensures)
     (serves_posts W.is_closed W.door_faults W.ledger (λ kind l. IsServed kind L.Sink.written L.Source.read_faults L.Sink.write_faults l) (Unmade (status_of c.in-Ok-serve_archive.told)) Made c.in-Ok-serve_archive.told olds news leaves.0 leaves.2

@@ -1,5 +1,5 @@
 // What a service hands in to be told.
-use crate::drops::{Drops, Whose};
+use crate::drops::Drops;
 use disk_model::FileName;
 use folder_disk::{Faults, Met};
 use series_model::Reason;
@@ -78,13 +78,13 @@ impl Log {
         }
     }
 
-    /// A sample was dropped.
-    pub fn dropped(&self, reason: Reason, whose: Whose<'_>) {
+    /// A sample of this name was dropped.
+    pub fn dropped(&self, reason: Reason, name: &[u8]) {
         let Some(notes) = &self.notes else {
             return;
         };
         if let Some(mut drops) = notes.locked() {
-            drops.count(reason, whose);
+            drops.count(reason, name);
         }
     }
 

@@ -1,5 +1,4 @@
 // What a service tells on standard error while it runs.
-use crate::contents::Contents;
 use crate::service_log::Log;
 use crate::stopping::Ports;
 use arch_time::{END, print_iso};
@@ -58,10 +57,10 @@ impl<'a> Telling<'a> {
         Ok(Arc::new(rt.alloc(), telling)?)
     }
 
-    /// Takes what the archive has, before the service begins.
-    pub fn count(&self, contents: &Contents) {
-        self.variables.store(contents.variables, Ordering::SeqCst);
-        self.files.store(contents.files, Ordering::SeqCst);
+    /// Takes how many variables and files the archive has, before the service begins.
+    pub fn count(&self, variables: u64, files: u64) {
+        self.variables.store(variables, Ordering::SeqCst);
+        self.files.store(files, Ordering::SeqCst);
         self.counted.store(true, Ordering::SeqCst);
     }
 

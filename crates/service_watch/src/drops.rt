@@ -2,16 +2,7 @@
 use series_model::Reason;
 use std::alloc::{AllocError, Global};
 
-/// Of which variable a sample is.
-#[derive(Clone, Copy)]
-pub enum Whose<'n> {
-    /// Of this name, which may be no variable's.
-    Name(&'n [u8]),
-    /// Of this row, whose period was over.
-    Row(u32),
-}
-
-/// How many samples were dropped for each reason, and of which variable the last one was. Each number stays at the
+/// How many samples were dropped for each reason, and of which name the last one was. Each number stays at the
 /// last one that a u64 can show.
 #[derive(Drop)]
 pub struct Drops {
@@ -20,8 +11,7 @@ pub struct Drops {
     wrong_type: u64,
     late: u64,
     ahead: u64,
-    // The row of the last one, where it has no name here.
-    row: Option<u32>,
+    // The name of the last one's variable, which may be none.
     name: Vec<u8>,
 }
 
@@ -34,13 +24,12 @@ impl Drops {
             wrong_type: 0,
             late: 0,
             ahead: 0,
-            row: None,
             name: Vec::new(alloc),
         }
     }
 
     /// Counts one more.
-    pub fn count(&mut self, reason: Reason, whose: Whose<'_>) {
+    pub fn count(&mut self, reason: Reason, name: &[u8]) {
         let number = match reason {
             Reason::Unknown => &mut self.unknown,
             Reason::Paused => &mut self.paused,
@@ -49,14 +38,8 @@ impl Drops {
             Reason::Future { .. } => &mut self.ahead,
         };
         *number = number.saturating_add(1);
-        match whose {
-            Whose::Row(row) => self.row = Some(row),
-            Whose::Name(name) => {
-                self.row = None;
-                self.name.clear();
-                let _ = self.name.extend_from_slice(name);
-            }
-        }
+        self.name.clear();
+        let _ = self.name.extend_from_slice(name);
     }
 
     /// How many there are.
@@ -88,10 +71,7 @@ impl Drops {
             "dropped {total} samples: {unknown} of no variable, {paused} paused, {wrong_type} of another type, \
              {late} late, {ahead} ahead; the last of "
         )?;
-        match self.row {
-            Some(row) => text.push_str(&format!(in alloc; "row {row}")?)?,
-            None => self.push_name(alloc, &mut text)?,
-        }
+        self.push_name(alloc, &mut text)?;
         Ok(text)
     }
 

@@ -1,6 +1,6 @@
 use Rattle.std.proofs.Common.{◌+◌, ◌≤◌}
 use Rattle.std.specs.Prelude.{vec_len}
-use Rattle.archiver_appliance.proofs.doors.Doors.add.Given as goal
+use Rattle.service_watch.proofs.doors.Doors.add.Given as goal
 
 -- at most one door more for each turn
 abbrev pub invariant-loop : goal.invariant-loop
