@@ -1,7 +1,7 @@
 """Raw PB streams: what `archappl get` writes and `archappl ingest` reads, as numpy arrays and back.
 
 A stream is chunks, each a header and its samples. `pieces` reads one piece by piece, so that memory doesn't
-grow with the stream; `series` reads all of one variable. `Chunk` writes one. It needs numpy alone, and takes
+grow with the stream; `series` reads all of one variable. `chunk` writes one. It needs numpy alone, and takes
 the messages of EPICSEvent.proto as docs/FORMATS.md tells them.
 """
 
