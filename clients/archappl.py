@@ -622,6 +622,9 @@ def run_feed(options):
         lines = describing(stream, pairs)
         told = send(options.server, together(registering(options.server, lines) if options.register else lines))
     print(f"kept {told.sum(0)} held {told.sum(1)} dropped {told.sum(2)} durable {told.durable}")
+    if told.sum(2):
+        why = "of no variable (--register), of a paused one, of another type, not later than its last one, or ahead of the clock"
+        print(f"archappl: a sample is dropped that is {why}", file=sys.stderr)
 
 
 def run_details(options):
