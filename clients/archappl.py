@@ -113,7 +113,7 @@ class Server:
         if isinstance(text, Server):
             return text
         found = re.fullmatch(r"\[?([^\[\]]+?)\]?:(\d{1,5}):(\d{1,5})", text)
-        if not found:
+        if not found or max(int(found[2]), int(found[3])) > 65_535:
             raise ValueError(f"no HOST:FEEDPORT:HTTPPORT: {text}")
         return Server(found[1], int(found[2]), int(found[3]))
 
