@@ -281,6 +281,33 @@ module _ (tells : Bool) (refuse : Machine → Option Reply) (change : Machine �
       let settled = (rests_has tells q (record mid.0 { faults = q.at.faults }) mid.2).settled in
       passes_then (λ a image. Within m image) (λ a b. b ≡ a) p.at.past q.at.past new.at.past (crash_settling q doubted m told s) ((reads.quiet settled).1 told).1 (λ a b image was within left same. subst (λ (x : Files). Within m x) (sym same) within)
 
+-- WHAT THE SETTLING OF A DOUBT LEAVES
+
+-- so it is by a call that fails only where the other does
+settling_as : {A B E : Type 0} (tells : Bool) (p q : Parts) (by : End A E) (end : End B E) → (IsFailed end → IsFailed by) → Settling tells p q by → Settling tells p q end
+settling_as {A} {B} {E} tells p q by end failed s =
+    let own = s.settles in
+    record {
+      granularity = s.granularity;
+      settles = record { files = own.files; frame = own.frame; any_moment = own.any_moment; quiet = own.quiet; faults = own.faults; cause = λ is. own.cause (failed is) };
+      fronts = s.fronts;
+      pins = s.pins;
+      slots = s.slots;
+    }
+
+-- a call that answers something else where the other is done
+pub settling_done : {A B : Type 0} (tells : Bool) (p q : Parts) (r : Result A DiskErr) (b : B) → Settling tells p q (end_of_disk r) → Settling tells p q (end_of_disk (Ok b))
+settling_done {A} {B} tells p q r b s = settling_as tells p q (end_of_disk r) (Done b) (λ is. absurd is) s
+
+-- and passes its error on
+pub settling_failed : {A B : Type 0} (tells : Bool) (p q : Parts) (r : Result A DiskErr) (s : Result B DiskErr) (e : DiskErr) → r ≡ Err e → s ≡ Err e → Settling tells p q (end_of_disk r) → Settling tells p q (end_of_disk s)
+settling_failed {A} {B} tells p q r s e was is settling =
+    subst (λ (x : Result B DiskErr). Settling tells p q (end_of_disk x)) (sym is) (by_error e (subst (λ (x : Result A DiskErr). Settling tells p q (end_of_disk x)) was settling))
+  where
+    by_error : (d : DiskErr) → Settling tells p q (end_of_disk {A = A} (Err d)) → Settling tells p q (end_of_disk {A = B} (Err d))
+    by_error Fault left = settling_as tells p q Failed Failed (λ is. is) left
+    by_error Memory left = settling_as tells p q Spent Spent (λ is. absurd is) left
+
 -- AN ACT
 
 -- What refuses such an act where it is asked of one state and is at another, once its doubt is settled: it refuses no more than the act's

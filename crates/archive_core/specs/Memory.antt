@@ -1,6 +1,6 @@
 -- What an archive keeps of its rows in memory, beside the catalogue's rows: of each the first moment that is later than all its accepted
 -- samples, what a sampled row holds, and the tail that the intake holds; and of a batch that is flushed where its rows end.
-use Rattle.std.specs.Prelude.{◌≡◌, ◌≤◌, ◌-◌, ℕ, List, [], length, map, Option, Some, None, option_map, slice_get, slice_set}
+use Rattle.std.specs.Prelude.{◌≡◌, ◌≤◌, ◌-◌, ◌++◌, ◌∷◌, ℕ, List, [], length, map, take, Option, Some, None, Result, Ok, Err, option_map, slice_get, slice_set}
 use Rattle.pb_messages.specs.declared.about.About.{About}
 use Rattle.pb_messages.specs.declared.about.Method.{Method}
 use Rattle.pb_messages.specs.declared.about.Method.TheVariants.{Monitor, Scan}
@@ -19,6 +19,8 @@ use Rattle.archive_core.specs.declared.memory.Doubt.{Doubt}
 use Rattle.archive_core.specs.declared.memory.Doubt.TheVariants as doubt
 use Rattle.archive_core.specs.declared.memory.RowEnd.{RowEnd}
 use Rattle.archive_core.specs.declared.memory.RowMemory.{RowMemory}
+use Rattle.archive_core.specs.Parts.{InMemory}
+use Rattle.disk_model.specs.declared.disk.DiskErr.{DiskErr}
 
 -- what is held of a row for its next tick: nothing where it isn't sampled
 abbrev pub cell_in : Option SampledRow → Cell
@@ -97,3 +99,16 @@ pub record IsCleared (rows : List Row) (d : Option Doubt) (old new : List RowMem
   pub other : ((row : ℕ) (to : State) → set_by d ≡ Some (row, to) → HasState rows row to → ⊥) → new ≡ old
   pub own : (row : ℕ) (to : State) → set_by d ≡ Some (row, to) → HasState rows row to
       → (memory : RowMemory) → slice_get old row ≡ Some memory → new ≡ slice_set old row (cleared memory)
+
+-- memory with that of a row more than these, which takes samples from this moment on
+abbrev pub with_row : List Row → About → ℕ → InMemory → InMemory
+with_row rows about next memory = record memory { kept = take (length rows) memory.kept ++ renamed_memory about next ∷ [] }
+
+-- What is kept of a row is cleared where a call is done that sets its state, and all in memory stays where it fails.
+abbrev pub ClearsRow : {A : Type 0} → ℕ → InMemory → InMemory → Result A DiskErr → Type 0
+ClearsRow {A} row old new (Ok a) = (memory : RowMemory) → slice_get old.kept row ≡ Some memory → new ≡ record old { kept = slice_set old.kept row (cleared memory) }
+ClearsRow {A} row old new (Err e) = new ≡ old
+
+-- The memory of a row under a new name is there, whatever comes of the call that gives it, and what is kept of the old row is cleared where it is done.
+abbrev pub RenamesRow : {A : Type 0} → List Row → ℕ → InMemory → InMemory → Result A DiskErr → Type 0
+RenamesRow {A} rows row old new result = (r : Row) (memory : RowMemory) → slice_get rows row ≡ Some r → slice_get old.kept row ≡ Some memory → ClearsRow row (with_row rows r.about memory.next old) new result

@@ -14,6 +14,7 @@ use Rattle.tier_store.specs.declared.limbo.Retired.{Retired}
 use Rattle.archive_core.specs.declared.memory.RowMemory.{RowMemory}
 use Rattle.archive_core.specs.declared.memory.Doubt.{Doubt}
 use Rattle.archive_core.specs.declared.archive.Archive.{Archive}
+use Rattle.archive_core.specs.declared.archive.StoreHalf.{StoreHalf}
 
 pub record Parts : Type 1 where
   pub at : Seen
@@ -26,6 +27,20 @@ pub record Parts : Type 1 where
   pub config : ConfigState
   pub slots : List (Option (Running Moving))
 
--- an archive, by the members of its disk's type
+-- What an archive has in memory beside its stores: what is kept of each row, the tails, and how many doors are open.
+pub record InMemory : Type 0 where
+  pub kept : List RowMemory
+  pub tails : List TailState
+  pub doors : ℕ
+
+-- a store's half beside this memory, by the members of its disk's type
+abbrev pub parts_beside : {D R : Type 0} → Ghosts D R → StoreHalf D R → InMemory → Parts
+parts_beside {D} {R} disk half memory = record { at = seen disk half.store; limbo = half.store.limbo.items; pinned = half.store.pinned; tails = memory.tails; kept = memory.kept; doubt = half.doubt; doors = memory.doors; config = half.config; slots = half.moves.slots.items }
+
+-- an archive's memory
+abbrev pub memory_in : {D R : Type 0} → Archive D R → InMemory
+memory_in {D} {R} archive = record { kept = archive.rows.items; tails = archive.intake; doors = archive.doors }
+
+-- an archive: its store's half beside its memory
 abbrev pub parts : {D R : Type 0} → Ghosts D R → Archive D R → Parts
-parts {D} {R} disk archive = record { at = seen disk archive.store; limbo = archive.store.limbo.items; pinned = archive.store.pinned; tails = archive.intake; kept = archive.rows.items; doubt = archive.doubt; doors = archive.doors; config = archive.config; slots = archive.moves.slots.items }
+parts {D} {R} disk archive = parts_beside disk archive.half (memory_in archive)

@@ -8,15 +8,23 @@ use moves::RunningMoves;
 use std::alloc::Global;
 use tier_store::TierStore;
 
-/// Three stores on a disk with the intake before them, and the moves that run between them.
+/// What of an archive is on its disk or goes on there: three stores, the change of them that stands in doubt, and the
+/// moves that run between them. It holds nothing of the rows' memory, and what its calls say holds beside any.
+#[derive(Drop)]
+pub struct StoreHalf<D: Disk> {
+    pub(crate) alloc: Global,
+    pub(crate) store: TierStore<D>,
+    pub(crate) doubt: Option<Doubt>,
+    pub(crate) config: Config,
+    pub(crate) moves: RunningMoves<Move>,
+}
+
+/// Three stores on a disk with the moves that run between them, and the intake before them.
 #[derive(Drop)]
 pub struct Archive<D: Disk> {
     pub(crate) alloc: Global,
-    pub(crate) store: TierStore<D>,
+    pub(crate) half: StoreHalf<D>,
     pub(crate) intake: Intake,
     pub(crate) rows: Vec<RowMemory>,
-    pub(crate) doubt: Option<Doubt>,
     pub(crate) doors: u64,
-    pub(crate) config: Config,
-    pub(crate) moves: RunningMoves<Move>,
 }

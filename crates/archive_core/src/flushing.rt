@@ -116,7 +116,7 @@ impl<D: Disk> Archive<D> {
     {
         let batch = self.intake.lend(limit)?;
         let ends = row_ends(self.alloc, &batch)?;
-        let flushed = self.store.flush_lent(&batch);
+        let flushed = self.half.store.flush_lent(&batch);
         drop(batch);
         match flushed {
             Ok(samples) => {
@@ -124,7 +124,7 @@ impl<D: Disk> Archive<D> {
                 Ok(samples)
             }
             Err(DiskErr::Fault) => {
-                self.doubt = Some(Doubt::Flush(ends));
+                self.half.doubt = Some(Doubt::Flush(ends));
                 Err(DiskErr::Fault)
             }
             Err(DiskErr::Memory) => Err(DiskErr::Memory),

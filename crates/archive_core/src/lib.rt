@@ -8,6 +8,9 @@
 //! says what becomes of files and of pins, whatever is in the files (`Leaves`). [`Archive::apply`] makes any act, and
 //! [`run_acts`] a list of them.
 //!
+//! What of an archive is on its disk is a value of its own, a `StoreHalf`: what a call of it says holds beside whatever
+//! memory there is. The archive's methods make what a call makes of their memory.
+//!
 //! `Stands` also says what the memory and the stores are while a change stands in doubt: the stores have what is
 //! durable of the machine, or that with the doubted change, and it isn't known which. The change is a new row, a row's
 //! state, a new name, a flush, the listing of what a move has copied, or the leaving of its parts. `Archive::settle`

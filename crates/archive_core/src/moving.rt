@@ -9,12 +9,13 @@ ghost use Rattle.act_model.specs.Step.{store_of};
 ghost use Rattle.act_model.specs.declared.acts.Act.TheVariants.{MoveBegin as MoveBeginAct};
 ghost use Rattle.archive_core.specs.Acting.{Acted};
 ghost use Rattle.archive_core.specs.Moving.{BeginsThere};
-ghost use Rattle.archive_core.specs.Parts.{parts};
+ghost use Rattle.archive_core.specs.Parts.{InMemory, parts, parts_beside};
 ghost use Rattle.archive_core.specs.Stands.{Stands, Rests};
 ghost use Rattle.archive_core.specs.Strays.{Tidies};
 
 use crate::Archive;
 use crate::answering::answered;
+use crate::archive::StoreHalf;
 use act_model::Answer;
 use disk_model::{Disk, DiskErr};
 use etl_rules::Config;
@@ -37,20 +38,27 @@ fn rule_at(config: &Config, store: u8, now: u64) -> MoveRule
     }
 }
 
-impl<D: Disk> Archive<D> {
-    // Begins the move that is to be made, where nothing stands in doubt. It makes no call of the disk.
-    fn begin_chosen(&mut self, store: u8, now: u64) -> Result<Answer<D::Reader>, DiskErr>
+impl<D: Disk> StoreHalf<D> {
+    // Begins the move that is to be made, where nothing stands in doubt and so many doors are open. It makes no call of
+    // the disk.
+    fn begin_chosen(
+        &mut self,
+        store: u8,
+        now: u64,
+        doors: u64,
+    ) -> Result<Answer<D::Reader>, DiskErr>
         requires first { 1 ≤ store }
         requires last { store ≤ 2 }
-        requires rests { (m : Machine) × Rests D.tells (parts D.Disk self.old) m }
-        ensures begins { IfOk result (λ begun. (m : Machine) → Rests D.tells (parts D.Disk self.old) m
-            → BeginsThere D.tells (store_of store) now m
-            (reply_of D.Reader.tells D.Reader.bytes D.Reader.faults begun) (parts D.Disk self.new)) }
-        ensures spent { OnErr result
-            ((m : Machine) → Rests D.tells (parts D.Disk self.old) m → Stands D.tells (parts D.Disk self.new) m) }
+        requires rests { (w : InMemory) × (m : Machine) × Rests D.tells (parts_beside D.Disk self.old w) m }
+        ensures begins { IfOk result (λ begun. (w : InMemory) → w.doors ≡ doors → (m : Machine)
+            → Rests D.tells (parts_beside D.Disk self.old w) m → BeginsThere D.tells (store_of store) now m
+            (reply_of D.Reader.tells D.Reader.bytes D.Reader.faults begun) (parts_beside D.Disk self.new w)) }
+        ensures spent { OnErr result ((w : InMemory) (m : Machine)
+            → Rests D.tells (parts_beside D.Disk self.old w) m → Stands D.tells (parts_beside D.Disk self.new w) m) }
         ensures memory { IfErr result (λ e. e ≡ Memory) }
         ensures store { self.new.store ≡ self.old.store }
-        ensures tidy { OnOk result (Tidies D.tells (parts D.Disk self.old) (parts D.Disk self.new)) }
+        ensures tidy { OnOk result ((w : InMemory)
+            → Tidies D.tells (parts_beside D.Disk self.old w) (parts_beside D.Disk self.new w)) }
     {
         let running = self.moves.by_series()?;
         let rule = rule_at(&self.config, store, now);
@@ -67,20 +75,23 @@ impl<D: Disk> Archive<D> {
                 Ok(Answer::Begun { m, row, parts })
             }
             tier_store::MoveBegun::Running { number } => Ok(Answer::Busy { m: number }),
-            tier_store::MoveBegun::Nothing => Ok(Answer::Nothing { doors: self.doors }),
+            tier_store::MoveBegun::Nothing => Ok(Answer::Nothing { doors }),
         }
     }
+}
 
+impl<D: Disk> Archive<D> {
     fn begin_due(&mut self, store: u8, now: u64) -> Result<Answer<D::Reader>, DiskErr>
         requires first { 1 ≤ store }
         requires last { store ≤ 2 }
         requires stands { (m : Machine) × Stands D.tells (parts D.Disk self.old) m }
         ensures acted { (who : ℕ) → Acted D.tells who (MoveBeginAct store now) (parts D.Disk self.old)
             (reply_of D.Reader.tells D.Reader.bytes D.Reader.faults (answer_of result)) (parts D.Disk self.new) }
-        ensures quiet { IsSettled (seen D.Disk self.old.store) → self.new.store.disk ≡ self.old.store.disk }
+        ensures quiet { IsSettled (seen D.Disk self.old.half.store)
+            → self.new.half.store.disk ≡ self.old.half.store.disk }
     {
         self.settle()?;
-        self.begin_chosen(store, now)
+        self.half.begin_chosen(store, now, self.doors)
     }
 
     /// Begins the move that is to be made from store 1 or 2 to the next, at a moment in nanoseconds since 1970: of the
@@ -96,7 +107,8 @@ impl<D: Disk> Archive<D> {
         requires stands { (m : Machine) × Stands D.tells (parts D.Disk self.old) m }
         ensures acted { (who : ℕ) → Acted D.tells who (MoveBeginAct store now) (parts D.Disk self.old)
             (reply_of D.Reader.tells D.Reader.bytes D.Reader.faults result) (parts D.Disk self.new) }
-        ensures quiet { IsSettled (seen D.Disk self.old.store) → self.new.store.disk ≡ self.old.store.disk }
+        ensures quiet { IsSettled (seen D.Disk self.old.half.store)
+            → self.new.half.store.disk ≡ self.old.half.store.disk }
     {
         answered(self.begin_due(store, now))
     }

@@ -23,16 +23,16 @@ use series_model::{Reason, Sample};
 impl<D: Disk> Archive<D> {
     // An offer to the row of this number.
     fn offer_to(&mut self, row: u32, ty: PayloadType, sample: Sample, now: u64) -> Offered
-        requires here { row < length self.old.store.catalogue.rows }
+        requires here { row < length self.old.half.store.catalogue.rows }
         requires there { row < length self.old.rows.items }
         requires event { IsEvent ty sample }
         ensures step { EndsNamed D.tells row (λ name. WithWants (WouldKeep name ty sample now)
             (OfferStep name ty sample now)) (parts D.Disk self.old) (offered_reply result) (parts D.Disk self.new) }
-        ensures store { self.new.store ≡ self.old.store }
-        ensures moves { self.new.moves ≡ self.old.moves }
+        ensures store { self.new.half.store ≡ self.old.half.store }
+        ensures moves { self.new.half.moves ≡ self.old.half.moves }
     {
         let at = row as usize;
-        let variable = &self.store.catalogue().rows()[at];
+        let variable = &self.half.store.catalogue().rows()[at];
         match reason_by_row(variable, self.rows[at].next, ty) {
             Some(reason) => Offered::Dropped(reason),
             None => offer_row(&mut self.intake, &mut self.rows[at], row, sample, now),
@@ -53,10 +53,10 @@ impl<D: Disk> Archive<D> {
         ensures acted { (who : ℕ)
             → Acted D.tells who (OfferAct name.now ty sample.t sample.line now) (parts D.Disk self.old)
             (reply_of D.Reader.tells D.Reader.bytes D.Reader.faults result) (parts D.Disk self.new) }
-        ensures store { self.new.store ≡ self.old.store }
-        ensures moves { self.new.moves ≡ self.old.moves }
+        ensures store { self.new.half.store ≡ self.old.half.store }
+        ensures moves { self.new.half.moves ≡ self.old.half.moves }
     {
-        match self.store.catalogue().find(name) {
+        match self.half.store.catalogue().find(name) {
             None => Answer::Dropped(Reason::Unknown),
             Some(row) => offered(self.offer_to(row, ty, sample, now)),
         }
@@ -68,10 +68,10 @@ impl<D: Disk> Archive<D> {
         requires stands { (m : Machine) × Stands D.tells (parts D.Disk self.old) m }
         ensures acted { (who : ℕ) → Acted D.tells who (TickAct row now) (parts D.Disk self.old)
             (reply_of D.Reader.tells D.Reader.bytes D.Reader.faults result) (parts D.Disk self.new) }
-        ensures store { self.new.store ≡ self.old.store }
-        ensures moves { self.new.moves ≡ self.old.moves }
+        ensures store { self.new.half.store ≡ self.old.half.store }
+        ensures moves { self.new.half.moves ≡ self.old.half.moves }
     {
-        let Some(variable) = self.store.catalogue().row(row) else {
+        let Some(variable) = self.half.store.catalogue().row(row) else {
             return Answer::NoRow;
         };
         let is_running = runs(variable);

@@ -11,6 +11,7 @@ ghost use Rattle.archive_core.specs.Memory.{sampling_by};
 ghost use Rattle.archive_core.specs.Parts.{parts};
 
 use crate::Archive;
+use crate::archive::StoreHalf;
 use crate::memory::RowMemory;
 use disk_model::Disk;
 use intake::{Intake, Scan};
@@ -102,7 +103,7 @@ impl<D: Disk> Archive<D> {
         requires pins { store.pinned ≡ map.empty }
         ensures opened { IfOk result (λ archive.
             OpensAs D.tells (seen D.Disk store) store.config doors (parts D.Disk archive)) }
-        ensures store { IfOk result (λ archive. archive.store ≡ store) }
+        ensures store { IfOk result (λ archive. archive.half.store ≡ store) }
         ensures intake { IfOk result (λ archive. archive.intake ≡ []) }
         ensures back { IfErr result (λ given. given ≡ store) }
     {
@@ -110,13 +111,16 @@ impl<D: Disk> Archive<D> {
         match open_rows(alloc, &store) {
             Ok(rows) => Ok(Archive {
                 alloc,
-                store,
+                half: StoreHalf {
+                    alloc,
+                    store,
+                    doubt: None,
+                    config,
+                    moves: RunningMoves::new(alloc),
+                },
                 intake: Intake::new(alloc),
                 rows,
-                doubt: None,
                 doors: u64::from(doors),
-                config,
-                moves: RunningMoves::new(alloc),
             }),
             Err(_) => Err(store),
         }
@@ -124,8 +128,8 @@ impl<D: Disk> Archive<D> {
 
     /// The stores, given back. What the intake holds is given up. It takes no memory.
     pub fn into_store(self) -> TierStore<D>
-        ensures { result ≡ self.store }
+        ensures { result ≡ self.half.store }
     {
-        self.store
+        self.half.store
     }
 }

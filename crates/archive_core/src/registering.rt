@@ -7,11 +7,12 @@ ghost use Rattle.act_model.specs.Reply.{reply_of};
 ghost use Rattle.act_model.specs.declared.acts.Act.TheVariants.{Register as RegisterAct};
 ghost use Rattle.archive_core.specs.Acting.{Acted, Changed};
 ghost use Rattle.archive_core.specs.Ends.{register_reply};
-ghost use Rattle.archive_core.specs.Memory.{renamed_memory};
-ghost use Rattle.archive_core.specs.Parts.{parts};
+ghost use Rattle.archive_core.specs.Memory.{renamed_memory, with_row};
+ghost use Rattle.archive_core.specs.Parts.{InMemory, parts, parts_beside};
 ghost use Rattle.archive_core.specs.Stands.{Stands, Rests};
 
 use crate::Archive;
+use crate::archive::StoreHalf;
 use crate::memory::{Doubt, RowMemory};
 use crate::opening::sampling;
 use act_model::Answer;
@@ -63,17 +64,15 @@ fn registered<R: ReadAt>(done: Result<u32, RegisterErr>) -> Answer<R>
     }
 }
 
-impl<D: Disk> Archive<D> {
-    // Adds a row, where it may be added and nothing stands in doubt. The memory for what is kept of it is taken before.
+impl<D: Disk> StoreHalf<D> {
+    // Adds a row, where it may be added and nothing stands in doubt. Its memory is there then, whatever comes of it.
     fn add_row(&mut self, name: &PvName, about: &About) -> Result<u32, DiskErr>
-        requires rests { (m : Machine) × Rests D.tells (parts D.Disk self.old) m }
+        requires rests { (w : InMemory) × (m : Machine) × Rests D.tells (parts_beside D.Disk self.old w) m }
         requires free { (e : RegisterErr) → Refuses self.old.store.catalogue.rows name.now e → ⊥ }
-        ensures changed { Changed D.tells (AddsRow name.now about.now)
-            (parts D.Disk self.old) (parts D.Disk self.new) result }
+        ensures changed { (w : InMemory) → Changed D.tells (AddsRow name.now about.now) (parts_beside D.Disk self.old w)
+            (parts_beside D.Disk self.new (with_row self.old.store.catalogue.rows about.now 0 w)) result }
         ensures number { IfOk result (λ row. row ≡ length self.old.store.catalogue.rows) }
     {
-        let count = self.store.catalogue().rows().len();
-        add_memory(&mut self.rows, count, about, 0)?;
         match self.store.register(name, about) {
             Ok(row) => Ok(row),
             Err(RegisterErr::Disk(DiskErr::Fault)) => {
@@ -86,15 +85,30 @@ impl<D: Disk> Archive<D> {
             Err(RegisterErr::Full) => unreachable!(),
         }
     }
+}
+
+impl<D: Disk> Archive<D> {
+    // Adds a row, where it may be added and nothing stands in doubt. The memory for what is kept of it is taken before.
+    fn add_row(&mut self, name: &PvName, about: &About) -> Result<u32, DiskErr>
+        requires rests { (m : Machine) × Rests D.tells (parts D.Disk self.old) m }
+        requires free { (e : RegisterErr) → Refuses self.old.half.store.catalogue.rows name.now e → ⊥ }
+        ensures changed { Changed D.tells (AddsRow name.now about.now)
+            (parts D.Disk self.old) (parts D.Disk self.new) result }
+        ensures number { IfOk result (λ row. row ≡ length self.old.half.store.catalogue.rows) }
+    {
+        let count = self.half.store.catalogue().rows().len();
+        add_memory(&mut self.rows, count, about, 0)?;
+        self.half.add_row(name, about)
+    }
 
     fn register_name(&mut self, name: &PvName, about: &About) -> Result<u32, RegisterErr>
         requires stands { (m : Machine) × Stands D.tells (parts D.Disk self.old) m }
         ensures { (who : ℕ) → Acted D.tells who (RegisterAct name.now about.now) (parts D.Disk self.old)
             (register_reply result) (parts D.Disk self.new) }
     {
-        refuse_taken(self.store.catalogue(), name)?;
+        refuse_taken(self.half.store.catalogue(), name)?;
         self.settle()?;
-        refuse_taken(self.store.catalogue(), name)?;
+        refuse_taken(self.half.store.catalogue(), name)?;
         Ok(self.add_row(name, about)?)
     }
 

@@ -7,13 +7,15 @@ ghost use Rattle.act_model.specs.Machine.{Machine, Renames};
 ghost use Rattle.act_model.specs.Reply.{reply_of};
 ghost use Rattle.act_model.specs.declared.acts.Act.TheVariants.{Rename as RenameAct};
 ghost use Rattle.archive_core.specs.Acting.{Acted, Changed};
-ghost use Rattle.archive_core.specs.Parts.{parts};
+ghost use Rattle.archive_core.specs.Memory.{RenamesRow};
+ghost use Rattle.archive_core.specs.Parts.{InMemory, parts, parts_beside};
 ghost use Rattle.archive_core.specs.Renaming.{CanRename, HasTail, IsUnnamed, IsUnpaused, rename_reply, taken_as};
 ghost use Rattle.archive_core.specs.Stands.{Stands, Rests};
 ghost use Rattle.archive_core.specs.Switching.{IsFound};
 ghost use Rattle.archive_core.specs.declared.renaming.Unnamed.TheVariants.{Disk as UnnamedDisk};
 
 use crate::Archive;
+use crate::archive::StoreHalf;
 use crate::memory::Doubt;
 use crate::registering::{add_memory, refuse_taken};
 use crate::settling::clear;
@@ -97,11 +99,37 @@ fn renamed<R: ReadAt>(done: Result<u32, Unnamed>) -> Answer<R>
     }
 }
 
+impl<D: Disk> StoreHalf<D> {
+    // Gives the variable of a row the new name, where it may get it and nothing stands in doubt. The memory of its new
+    // row is there then, whatever comes of it, and what is kept of its old row is to be cleared where it has the name.
+    fn rename_row(&mut self, row: u32, newname: &PvName) -> Result<u32, DiskErr>
+        requires rests { (w : InMemory) × (m : Machine) × CanRename (parts_beside D.Disk self.old w) newname.now row
+            × Rests D.tells (parts_beside D.Disk self.old w) m }
+        ensures changed { (w after : InMemory) → CanRename (parts_beside D.Disk self.old w) newname.now row
+            → RenamesRow self.old.store.catalogue.rows row w after result → Changed D.tells (Renames row newname.now)
+            (parts_beside D.Disk self.old w) (parts_beside D.Disk self.new after) result }
+        ensures number { IfOk result (λ id. id ≡ length self.old.store.catalogue.rows) }
+    {
+        match self.store.rename(row, newname) {
+            Ok(id) => Ok(id),
+            Err(RenameErr::Disk(DiskErr::Fault)) => {
+                self.doubt = Some(Doubt::Rename { old: row });
+                Err(DiskErr::Fault)
+            }
+            Err(RenameErr::Disk(DiskErr::Memory)) => Err(DiskErr::Memory),
+            Err(RenameErr::NotPaused) => unreachable!(),
+            Err(RenameErr::NameTaken { .. }) => unreachable!(),
+            Err(RenameErr::KeyTaken { .. }) => unreachable!(),
+            Err(RenameErr::Full) => unreachable!(),
+        }
+    }
+}
+
 impl<D: Disk> Archive<D> {
     // Refuses a row that has a tail: its last accepted sample isn't durable.
     fn refuse_tail(&self, row: u32) -> Result<(), Unnamed>
         requires stands { (m : Machine) × Stands D.tells (parts D.Disk self.now) m }
-        requires row { row < length self.now.store.catalogue.rows }
+        requires row { row < length self.now.half.store.catalogue.rows }
         ensures none { OnOk result ((tail_at self.now.intake row).samples ≡ []) }
         ensures refused { IfErr result (HasTail (parts D.Disk self.now) row) }
     {
@@ -110,7 +138,7 @@ impl<D: Disk> Archive<D> {
         }
         Err(Unnamed::NotDurable {
             last: self.rows[row as usize].next.saturating_sub(1),
-            durable: self.store.last_of(row),
+            durable: self.half.store.last_of(row),
         })
     }
 
@@ -118,11 +146,11 @@ impl<D: Disk> Archive<D> {
     // where the row isn't paused.
     fn row_to_rename(&self, name: &[u8], newname: &PvName, change: u64) -> Result<u32, Unnamed>
         requires stands { (m : Machine) × Stands D.tells (parts D.Disk self.now) m }
-        ensures found { IfOk result (λ row. IsFound self.now.store.catalogue.rows name.now (Some row)
+        ensures found { IfOk result (λ row. IsFound self.now.half.store.catalogue.rows name.now (Some row)
             × CanRename (parts D.Disk self.now) newname.now row) }
         ensures refused { IfErr result (IsUnnamed (parts D.Disk self.now) name.now newname.now change) }
     {
-        let catalogue = self.store.catalogue();
+        let catalogue = self.half.store.catalogue();
         let row = paused_row(catalogue, name, change)?;
         refuse_taken(catalogue, newname)?;
         self.refuse_tail(row)?;
@@ -136,26 +164,14 @@ impl<D: Disk> Archive<D> {
         requires can { CanRename (parts D.Disk self.old) newname.now row }
         ensures changed { Changed D.tells (Renames row newname.now)
             (parts D.Disk self.old) (parts D.Disk self.new) result }
-        ensures number { IfOk result (λ id. id ≡ length self.old.store.catalogue.rows) }
+        ensures number { IfOk result (λ id. id ≡ length self.old.half.store.catalogue.rows) }
     {
-        let rows = self.store.catalogue().rows();
+        let rows = self.half.store.catalogue().rows();
         let next = self.rows[row as usize].next;
         add_memory(&mut self.rows, rows.len(), &rows[row as usize].about, next)?;
-        match self.store.rename(row, newname) {
-            Ok(id) => {
-                clear(&mut self.rows[row as usize]);
-                Ok(id)
-            }
-            Err(RenameErr::Disk(DiskErr::Fault)) => {
-                self.doubt = Some(Doubt::Rename { old: row });
-                Err(DiskErr::Fault)
-            }
-            Err(RenameErr::Disk(DiskErr::Memory)) => Err(DiskErr::Memory),
-            Err(RenameErr::NotPaused) => unreachable!(),
-            Err(RenameErr::NameTaken { .. }) => unreachable!(),
-            Err(RenameErr::KeyTaken { .. }) => unreachable!(),
-            Err(RenameErr::Full) => unreachable!(),
-        }
+        let id = self.half.rename_row(row, newname)?;
+        clear(&mut self.rows[row as usize]);
+        Ok(id)
     }
 
     fn rename_name(&mut self, name: &[u8], newname: &PvName) -> Result<u32, Unnamed>

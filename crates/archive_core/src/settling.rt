@@ -1,16 +1,17 @@
 // The settling of a change that stands in doubt.
-ghost use Rattle.std.specs.Prelude.{◌≡◌, ◌↔◌, IsTrue, OnOk, OnErr};
+ghost use Rattle.std.specs.Prelude.{◌≡◌, ◌↔◌, IfOk, IsTrue, OnOk, OnErr, length};
 ghost use Rattle.pv_catalog.specs.Catalogue.{HasState};
 ghost use Rattle.durable_write.specs.Ends.{end_of_disk};
 ghost use Rattle.tier_store.specs.Seen.{seen, IsSettled};
 ghost use Rattle.act_model.specs.Machine.{Machine};
-ghost use Rattle.archive_core.specs.Acting.{Settling};
+ghost use Rattle.archive_core.specs.Acting.{Settling, TakesIn};
 ghost use Rattle.archive_core.specs.Ends.{SettlesTo, StandsStill};
 ghost use Rattle.archive_core.specs.Memory.{cleared, set_by, IsCleared};
-ghost use Rattle.archive_core.specs.Parts.{parts};
+ghost use Rattle.archive_core.specs.Parts.{InMemory, parts, parts_beside};
 ghost use Rattle.archive_core.specs.Stands.{Stands};
 
 use crate::Archive;
+use crate::archive::StoreHalf;
 use crate::flushing::trim_flushed;
 use crate::memory::{Doubt, RowMemory};
 use disk_model::{Disk, DiskErr};
@@ -60,6 +61,28 @@ fn clear_set(rows: &[Row], kept: &mut Vec<RowMemory>, doubt: &Option<Doubt>)
     }
 }
 
+impl<D: Disk> StoreHalf<D> {
+    // Finds out whether the change that stands in doubt was made, and gives back what was kept of it: memory takes it in
+    // where it was. It changes no file but those of a journal, and makes no call of the disk where nothing stands in
+    // doubt. After an error the doubt stands as before.
+    fn settle(&mut self) -> Result<Option<Doubt>, DiskErr>
+        requires stands { (w : InMemory) × (m : Machine) × Stands D.tells (parts_beside D.Disk self.old w) m }
+        ensures settled { IfOk result (λ doubt. (w after : InMemory) → TakesIn (seen D.Disk self.new.store) doubt w after
+            → SettlesTo D.tells (parts_beside D.Disk self.old w) (parts_beside D.Disk self.new after)) }
+        ensures given { IfOk result (λ doubt. doubt ≡ self.old.doubt) }
+        ensures three { OnOk result (length self.new.store.manifests.items ≡ 3) }
+        ensures still { OnErr result ((w : InMemory)
+            → StandsStill D.tells (parts_beside D.Disk self.old w) (parts_beside D.Disk self.new w)) }
+        ensures quiet { IsSettled (seen D.Disk self.old.store) → self.new.store ≡ self.old.store }
+        ensures moves { self.new.moves ≡ self.old.moves }
+        ensures settling { (w after : InMemory) → Settling D.tells
+            (parts_beside D.Disk self.old w) (parts_beside D.Disk self.new after) (end_of_disk result) }
+    {
+        self.store.review()?;
+        Ok(self.doubt.take())
+    }
+}
+
 impl<D: Disk> Archive<D> {
     /// Finds out whether a change that stands in doubt was made, and takes it in where it was. It changes no file but
     /// those of a journal, and makes no call of the disk where nothing stands in doubt.
@@ -69,14 +92,13 @@ impl<D: Disk> Archive<D> {
         requires stands { (m : Machine) × Stands D.tells (parts D.Disk self.old) m }
         ensures settled { OnOk result (SettlesTo D.tells (parts D.Disk self.old) (parts D.Disk self.new)) }
         ensures still { OnErr result (StandsStill D.tells (parts D.Disk self.old) (parts D.Disk self.new)) }
-        ensures quiet { IsSettled (seen D.Disk self.old.store) → self.new.store ≡ self.old.store }
-        ensures moves { self.new.moves ≡ self.old.moves }
+        ensures quiet { IsSettled (seen D.Disk self.old.half.store) → self.new.half.store ≡ self.old.half.store }
+        ensures moves { self.new.half.moves ≡ self.old.half.moves }
         ensures settling { Settling D.tells (parts D.Disk self.old) (parts D.Disk self.new) (end_of_disk result) }
     {
-        self.store.review()?;
-        clear_set(self.store.catalogue().rows(), &mut self.rows, &self.doubt);
-        trim_flushed(&self.store, &mut self.intake, &self.doubt);
-        self.doubt = None;
+        let doubt = self.half.settle()?;
+        clear_set(self.half.store.catalogue().rows(), &mut self.rows, &doubt);
+        trim_flushed(&self.half.store, &mut self.intake, &doubt);
         Ok(())
     }
 }

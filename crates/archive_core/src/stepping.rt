@@ -7,13 +7,14 @@ ghost use Rattle.act_model.specs.declared.acts.Act.TheVariants.{MoveStep as Move
 ghost use Rattle.etl_mover.specs.Move.{IsCopied};
 ghost use Rattle.etl_mover.specs.declared.moving.Stage.TheVariants.{Copying as IsCopying, Published as IsPublished};
 ghost use Rattle.archive_core.specs.Acting.{Acted};
-ghost use Rattle.archive_core.specs.Parts.{parts};
+ghost use Rattle.archive_core.specs.Parts.{InMemory, parts, parts_beside};
 ghost use Rattle.archive_core.specs.Retiring.{lengths_of};
 ghost use Rattle.archive_core.specs.Stands.{Stands};
 ghost use Rattle.archive_core.specs.Stepping.{GoesOnWith, HasTaken};
 
 use crate::Archive;
 use crate::answering::answered;
+use crate::archive::StoreHalf;
 use crate::memory::Doubt;
 use act_model::Answer;
 use disk_model::{Disk, DiskErr};
@@ -29,7 +30,7 @@ fn published_lengths(alloc: Global, moving: &Move) -> Result<Vec<u64>, AllocErro
     moving.parts().iter().map(|part| part.len).collect(alloc)
 }
 
-impl<D: Disk> Archive<D> {
+impl<D: Disk> StoreHalf<D> {
     // Copies more of the parts of a move that was taken out of the table, where nothing stands in doubt, and puts the
     // move back under its number. After a fault, or where a file is damaged, it isn't put back.
     fn copy_taken(
@@ -37,11 +38,12 @@ impl<D: Disk> Archive<D> {
         number: u32,
         mut running: Running<Move>,
     ) -> Result<Answer<D::Reader>, DiskErr>
-        requires taken { HasTaken D.tells number running (parts D.Disk self.old) }
+        requires taken { (w : InMemory) × HasTaken D.tells number running (parts_beside D.Disk self.old w) }
         requires copies { running.moving.stage ≡ IsCopying }
         requires left { running.moving.at ≢ length running.moving.parts }
         requires room { number < length self.old.moves.slots.items }
-        ensures { GoesOnWith D.tells number running (parts D.Disk self.old) (parts D.Disk self.new)
+        ensures { (w : InMemory) → GoesOnWith D.tells number running
+            (parts_beside D.Disk self.old w) (parts_beside D.Disk self.new w)
             (reply_of D.Reader.tells D.Reader.bytes D.Reader.faults (answer_of result)) }
     {
         let place = usize::from(running.store) - 1;
@@ -70,10 +72,11 @@ impl<D: Disk> Archive<D> {
         number: u32,
         mut running: Running<Move>,
     ) -> Result<Answer<D::Reader>, DiskErr>
-        requires taken { HasTaken D.tells number running (parts D.Disk self.old) }
+        requires taken { (w : InMemory) × HasTaken D.tells number running (parts_beside D.Disk self.old w) }
         requires copied { IsCopied running.moving }
         requires room { number < length self.old.moves.slots.items }
-        ensures { GoesOnWith D.tells number running (parts D.Disk self.old) (parts D.Disk self.new)
+        ensures { (w : InMemory) → GoesOnWith D.tells number running
+            (parts_beside D.Disk self.old w) (parts_beside D.Disk self.new w)
             (reply_of D.Reader.tells D.Reader.bytes D.Reader.faults (answer_of result)) }
     {
         match self
@@ -104,10 +107,11 @@ impl<D: Disk> Archive<D> {
         number: u32,
         running: Running<Move>,
     ) -> Result<Answer<D::Reader>, DiskErr>
-        requires taken { HasTaken D.tells number running (parts D.Disk self.old) }
+        requires taken { (w : InMemory) × HasTaken D.tells number running (parts_beside D.Disk self.old w) }
         requires published { running.moving.stage ≡ IsPublished }
         requires room { number < length self.old.moves.slots.items }
-        ensures { GoesOnWith D.tells number running (parts D.Disk self.old) (parts D.Disk self.new)
+        ensures { (w : InMemory) → GoesOnWith D.tells number running
+            (parts_beside D.Disk self.old w) (parts_beside D.Disk self.new w)
             (reply_of D.Reader.tells D.Reader.bytes D.Reader.faults (answer_of result)) }
     {
         let Ok(lengths) = published_lengths(self.alloc, &running.moving) else {
@@ -133,9 +137,10 @@ impl<D: Disk> Archive<D> {
 
     // Goes on with a move that was taken out of the table, where nothing stands in doubt.
     fn go_on(&mut self, number: u32, running: Running<Move>) -> Result<Answer<D::Reader>, DiskErr>
-        requires taken { HasTaken D.tells number running (parts D.Disk self.old) }
+        requires taken { (w : InMemory) × HasTaken D.tells number running (parts_beside D.Disk self.old w) }
         requires room { number < length self.old.moves.slots.items }
-        ensures { GoesOnWith D.tells number running (parts D.Disk self.old) (parts D.Disk self.new)
+        ensures { (w : InMemory) → GoesOnWith D.tells number running
+            (parts_beside D.Disk self.old w) (parts_beside D.Disk self.new w)
             (reply_of D.Reader.tells D.Reader.bytes D.Reader.faults (answer_of result)) }
     {
         match running.moving.stage() {
@@ -144,27 +149,29 @@ impl<D: Disk> Archive<D> {
             _ => self.copy_taken(number, running),
         }
     }
+}
 
+impl<D: Disk> Archive<D> {
     fn step_move(&mut self, number: u32) -> Result<Answer<D::Reader>, DiskErr>
         requires stands { (m : Machine) × Stands D.tells (parts D.Disk self.old) m }
         ensures { (who : ℕ) → Acted D.tells who (MoveStepAct number) (parts D.Disk self.old)
             (reply_of D.Reader.tells D.Reader.bytes D.Reader.faults (answer_of result)) (parts D.Disk self.new) }
     {
-        if !self.moves.runs(number) {
+        if !self.half.moves.runs(number) {
             return Ok(Answer::NoMove);
         }
         match self.settle() {
             Ok(()) => {}
             Err(DiskErr::Fault) => {
-                self.moves.take(number);
+                self.half.moves.take(number);
                 return Err(DiskErr::Fault);
             }
             Err(DiskErr::Memory) => return Err(DiskErr::Memory),
         }
-        let Some(running) = self.moves.take(number) else {
+        let Some(running) = self.half.moves.take(number) else {
             return Ok(Answer::NoMove);
         };
-        self.go_on(number, running)
+        self.half.go_on(number, running)
     }
 
     /// Goes on with the move of this number by one step. A move copies what the next store lacks of its parts, at most

@@ -4,12 +4,13 @@ ghost use Rattle.act_model.specs.Machine.{Machine};
 ghost use Rattle.act_model.specs.Reply.{reply_of};
 ghost use Rattle.act_model.specs.declared.acts.Act.TheVariants.{Sweep as SweepAct};
 ghost use Rattle.archive_core.specs.Acting.{Acted};
-ghost use Rattle.archive_core.specs.Parts.{parts};
+ghost use Rattle.archive_core.specs.Parts.{InMemory, parts, parts_beside};
 ghost use Rattle.archive_core.specs.Stands.{Stands, Rests};
 ghost use Rattle.archive_core.specs.Sweeping.{sweep_reply};
 ghost use Rattle.archive_core.specs.Written.{AreWritten};
 
 use crate::Archive;
+use crate::archive::StoreHalf;
 use crate::written::written_names;
 use act_model::Answer;
 use disk_model::{Disk, DiskErr, FileName, ReadAt};
@@ -32,10 +33,10 @@ fn swept<R: ReadAt>(done: Result<Swept, DiskErr>) -> Answer<R>
     }
 }
 
-impl<D: Disk> Archive<D> {
+impl<D: Disk> StoreHalf<D> {
     // The names of the files that running moves have written to and not listed yet.
     fn written_names(&self) -> Result<Vec<FileName>, AllocError>
-        requires rests { (m : Machine) × Rests D.tells (parts D.Disk self.now) m }
+        requires rests { (w : InMemory) × (m : Machine) × Rests D.tells (parts_beside D.Disk self.now w) m }
         ensures { IfOk result (λ names.
             AreWritten self.now.store.catalogue.rows self.now.moves.slots.items names.items) }
     {
@@ -45,7 +46,9 @@ impl<D: Disk> Archive<D> {
             self.moves.slots(),
         )
     }
+}
 
+impl<D: Disk> Archive<D> {
     // Sweeps the stores, but for the files that running moves have written to.
     fn sweep_stores(&mut self) -> Result<Swept, DiskErr>
         requires stands { (m : Machine) × Stands D.tells (parts D.Disk self.old) m }
@@ -53,8 +56,8 @@ impl<D: Disk> Archive<D> {
             → Acted D.tells who SweepAct (parts D.Disk self.old) (sweep_reply result) (parts D.Disk self.new) }
     {
         self.settle()?;
-        let written = self.written_names()?;
-        self.store.sweep(&written)
+        let written = self.half.written_names()?;
+        self.half.store.sweep(&written)
     }
 
     /// Removes the files that were retired and that nothing needs any more, and answers how many these are: those that

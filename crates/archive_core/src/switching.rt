@@ -13,12 +13,14 @@ ghost use Rattle.act_model.specs.Machine.{Machine, SetsState};
 ghost use Rattle.act_model.specs.Reply.{reply_of};
 ghost use Rattle.act_model.specs.declared.acts.Act.TheVariants.{Pause as PauseAct, Resume as ResumeAct};
 ghost use Rattle.archive_core.specs.Acting.{Acted, Changed};
-ghost use Rattle.archive_core.specs.Parts.{parts};
+ghost use Rattle.archive_core.specs.Memory.{ClearsRow};
+ghost use Rattle.archive_core.specs.Parts.{InMemory, parts, parts_beside};
 ghost use Rattle.archive_core.specs.Stands.{Stands, Rests};
 ghost use Rattle.archive_core.specs.Switching.{IsFound, IsUnset, act_of, from_of, to_of, switching, switch_reply};
 ghost use Rattle.archive_core.specs.declared.switching.Unset.TheVariants.{Disk as UnsetDisk};
 
 use crate::Archive;
+use crate::archive::StoreHalf;
 use crate::memory::Doubt;
 use crate::settling::{clear, has_state};
 use act_model::Answer;
@@ -121,19 +123,17 @@ fn set<R: ReadAt>(switch: Switch, done: Result<(), Unset>) -> Answer<R>
     }
 }
 
-impl<D: Disk> Archive<D> {
-    // Sets the state of a row, where it may be set and nothing stands in doubt.
+impl<D: Disk> StoreHalf<D> {
+    // Sets the state of a row, where it may be set and nothing stands in doubt. What is kept of the row is to be cleared
+    // where it was set.
     fn switch(&mut self, row: u32, switch: Switch) -> Result<(), DiskErr>
-        requires rests { (m : Machine) × Rests D.tells (parts D.Disk self.old) m }
+        requires rests { (w : InMemory) × (m : Machine) × Rests D.tells (parts_beside D.Disk self.old w) m }
         requires state { HasState self.old.store.catalogue.rows row (from_of switch) }
-        ensures { Changed D.tells (SetsState row (to_of switch))
-            (parts D.Disk self.old) (parts D.Disk self.new) result }
+        ensures { (w after : InMemory) → ClearsRow row w after result → Changed D.tells (SetsState row (to_of switch))
+            (parts_beside D.Disk self.old w) (parts_beside D.Disk self.new after) result }
     {
         match switch_in(&mut self.store, row, switch) {
-            Ok(()) => {
-                clear(&mut self.rows[row as usize]);
-                Ok(())
-            }
+            Ok(()) => Ok(()),
             Err(StateErr::Disk(DiskErr::Fault)) => {
                 let to = switch.to();
                 self.doubt = Some(Doubt::State { row, to });
@@ -144,15 +144,29 @@ impl<D: Disk> Archive<D> {
             Err(StateErr::NotPaused) => unreachable!(),
         }
     }
+}
+
+impl<D: Disk> Archive<D> {
+    // Sets the state of a row, where it may be set and nothing stands in doubt.
+    fn switch(&mut self, row: u32, switch: Switch) -> Result<(), DiskErr>
+        requires rests { (m : Machine) × Rests D.tells (parts D.Disk self.old) m }
+        requires state { HasState self.old.half.store.catalogue.rows row (from_of switch) }
+        ensures { Changed D.tells (SetsState row (to_of switch))
+            (parts D.Disk self.old) (parts D.Disk self.new) result }
+    {
+        self.half.switch(row, switch)?;
+        clear(&mut self.rows[row as usize]);
+        Ok(())
+    }
 
     fn set_state(&mut self, name: &[u8], switch: Switch) -> Result<(), Unset>
         requires stands { (m : Machine) × Stands D.tells (parts D.Disk self.old) m }
         ensures { (who : ℕ) → Acted D.tells who (act_of switch name.now) (parts D.Disk self.old)
             (switch_reply switch result) (parts D.Disk self.new) }
     {
-        row_to_switch(self.store.catalogue(), name, switch)?;
+        row_to_switch(self.half.store.catalogue(), name, switch)?;
         self.settle()?;
-        let row = row_to_switch(self.store.catalogue(), name, switch)?;
+        let row = row_to_switch(self.half.store.catalogue(), name, switch)?;
         self.switch(row, switch)?;
         Ok(())
     }

@@ -5,9 +5,10 @@ ghost use Rattle.act_model.specs.Reply.{reply_of};
 ghost use Rattle.act_model.specs.declared.acts.Act.TheVariants.{DoorDone as DoorDoneAct, Doors as DoorsAct};
 ghost use Rattle.act_model.specs.declared.acts.Act.TheVariants.{Names as NamesAct};
 ghost use Rattle.archive_core.specs.Acting.{Acted};
-ghost use Rattle.archive_core.specs.Parts.{parts};
+ghost use Rattle.archive_core.specs.Parts.{InMemory, parts, parts_beside};
 
 use crate::Archive;
+use crate::archive::StoreHalf;
 use act_model::Answer;
 use disk_model::Disk;
 use pv_catalog::Row;
@@ -27,12 +28,12 @@ fn names_of(alloc: Global, rows: &[Row], from: usize, most: usize) -> Result<Blo
     Ok(Blobs::from(names))
 }
 
-impl<D: Disk> Archive<D> {
-    /// The names of rows from a number on, at most `most`, and whether a row stands behind them. It
-    /// makes no call of the disk.
-    pub fn names(&self, from: u32, most: u32) -> Answer<D::Reader>
-        ensures { (who : ℕ) → Acted D.tells who (NamesAct from most) (parts D.Disk self.now)
-            (reply_of D.Reader.tells D.Reader.bytes D.Reader.faults result) (parts D.Disk self.now) }
+impl<D: Disk> StoreHalf<D> {
+    // See `Archive::names`.
+    fn names(&self, from: u32, most: u32) -> Answer<D::Reader>
+        ensures { (w : InMemory) (who : ℕ)
+            → Acted D.tells who (NamesAct from most) (parts_beside D.Disk self.now w)
+            (reply_of D.Reader.tells D.Reader.bytes D.Reader.faults result) (parts_beside D.Disk self.now w) }
     {
         let rows = self.store.catalogue().rows();
         match names_of(self.alloc, rows, from as usize, most as usize) {
@@ -42,6 +43,17 @@ impl<D: Disk> Archive<D> {
             },
             Err(_) => Answer::Memory,
         }
+    }
+}
+
+impl<D: Disk> Archive<D> {
+    /// The names of rows from a number on, at most `most`, and whether a row stands behind them. It
+    /// makes no call of the disk.
+    pub fn names(&self, from: u32, most: u32) -> Answer<D::Reader>
+        ensures { (who : ℕ) → Acted D.tells who (NamesAct from most) (parts D.Disk self.now)
+            (reply_of D.Reader.tells D.Reader.bytes D.Reader.faults result) (parts D.Disk self.now) }
+    {
+        self.half.names(from, most)
     }
 
     /// How many doors are open. It makes no call of the disk.
@@ -56,8 +68,8 @@ impl<D: Disk> Archive<D> {
     pub fn door_done(&mut self) -> Answer<D::Reader>
         ensures acted { (who : ℕ) → Acted D.tells who DoorDoneAct (parts D.Disk self.old)
             (reply_of D.Reader.tells D.Reader.bytes D.Reader.faults result) (parts D.Disk self.new) }
-        ensures store { self.new.store ≡ self.old.store }
-        ensures moves { self.new.moves ≡ self.old.moves }
+        ensures store { self.new.half.store ≡ self.old.half.store }
+        ensures moves { self.new.half.moves ≡ self.old.half.moves }
     {
         self.doors = self.doors.saturating_sub(1);
         Answer::DoorsLeft { doors: self.doors }

@@ -80,10 +80,10 @@ module _ {D R : Type 0} (disk : Ghosts D R) (archive : Archive D R) (m : Machine
   before = stands.store.before
 
   abbrev s : Seen
-  s = seen disk archive.store
+  s = seen disk archive.half.store
 
   -- the disk may be opened again
-  pub opens_again : (config : ConfigState) → m.rule.granularity ≡ stores_of config → IsTrue disk.tells → OpensAgain config m (disk.past archive.store.disk)
+  pub opens_again : (config : ConfigState) → m.rule.granularity ≡ stores_of config → IsTrue disk.tells → OpensAgain config m (disk.past archive.half.store.disk)
   opens_again config same told = by_open stands.store.is_open
     where
       gs_is : granularities s.manifests ≡ stores_of config
@@ -92,11 +92,11 @@ module _ {D R : Type 0} (disk : Ghosts D R) (archive : Archive D R) (m : Machine
       stand : m.told ≡ true → IsTrue before.stands
       stand is = second_holds disk.tells before.stands (sym stands.store.told ∙ is)
 
-      by_open : Has disk.tells s before ⊎ InDoubt disk.tells s (parts disk archive).limbo before m → OpensAgain config m (disk.past archive.store.disk)
+      by_open : Has disk.tells s before ⊎ InDoubt disk.tells s (parts disk archive).limbo before m → OpensAgain config m (disk.past archive.half.store.disk)
       by_open (inl has) = record { before = before; after = before; opens = subst (λ (gs : List Granularity). OpensEither gs s.past before before) gs_is (has_opens disk.tells s before told has); holds = stands.store.holds; stands = stand; doubted = inl refl }
       by_open (inr d) = record { before = before; after = d.after; opens = subst (λ (gs : List Granularity). OpensEither gs s.past before d.after) gs_is (doubt_opens disk.tells s before d.after told d.doubts); holds = stands.store.holds; stands = stand; doubted = inr (d.change, d.is, d.holds) }
 
-  pub left_unopened : (IsTrue disk.tells → MayLeave (disk.past archive.store.disk) (disk.files archive.store.disk)) → IsTrue disk.tells → IsUnopened (disk.files archive.store.disk) (disk.opened archive.store.disk)
+  pub left_unopened : (IsTrue disk.tells → MayLeave (disk.past archive.half.store.disk) (disk.files archive.half.store.disk)) → IsTrue disk.tells → IsUnopened (disk.files archive.half.store.disk) (disk.opened archive.half.store.disk)
   left_unopened left told = by_open stands.store.is_open
     where
       by_open : Has disk.tells s before ⊎ InDoubt disk.tells s (parts disk archive).limbo before m → IsUnopened s.files s.opened
@@ -110,19 +110,19 @@ pub ran : {D R : Type 0} (disk : Ghosts D R) (old new : Archive D R) (done : Lis
 ran {D} {R} disk old new done m stands made = chain_runs_on disk.tells (parts disk) made.entries old new m stands made.chain
 
 pub acts_from : {D R : Type 0} (disk : Ghosts D R) (config : ConfigState) (held : Stores) (old new : Archive D R) (done : List Done) → (begun : IsBegun disk config held old) → (made : ActsAlone disk old done new)
-    → (from : ActsFrom (λ image. ⊥) disk.tells config held done (disk.past old.store.disk) (disk.past new.store.disk)) × Stands disk.tells (parts disk new) from.end
+    → (from : ActsFrom (λ image. ⊥) disk.tells config held done (disk.past old.half.store.disk) (disk.past new.half.store.disk)) × Stands disk.tells (parts disk new) from.end
 acts_from {D} {R} disk config held old new done begun made =
     let run = ran disk old new done begun.start begun.stands made in
     let on : Onward begun.start run.after = runs_onward made.entries begun.start run.after begun.stands.sound run.runs in
     let rule_is : run.after.rule.granularity ≡ stores_of config = ap (λ (r : Rule). r.granularity) (on.rule ∙ begun.opened.rule) in
-    let gs_is : granularities (seen disk old.store).manifests ≡ stores_of config = sym begun.stands.rule.granularity ∙ ap (λ (r : Rule). r.granularity) begun.opened.rule in (
+    let gs_is : granularities (seen disk old.half.store).manifests ≡ stores_of config = sym begun.stands.rule.granularity ∙ ap (λ (r : Rule). r.granularity) begun.opened.rule in (
       record {
         start = begun.start;
         opened = begun.opened;
         end = run.after;
         acts = record { entries = made.entries; just_these = made.just_these; no_others = made.no_others; runs = run.runs };
         leaves = λ told. opens_again disk new run.after run.stands config rule_is told;
-        any_moment = λ told stands. passes_weaker (λ a image. HoldsBetween (granularities (seen disk old.store).manifests) begun.start made.entries run.after image) (λ a image. ⊥ ⊎ HoldsBetween (stores_of config) begun.start made.entries run.after image) (disk.past old.store.disk) (disk.past new.store.disk)
+        any_moment = λ told stands. passes_weaker (λ a image. HoldsBetween (granularities (seen disk old.half.store).manifests) begun.start made.entries run.after image) (λ a image. ⊥ ⊎ HoldsBetween (stores_of config) begun.start made.entries run.after image) (disk.past old.half.store.disk) (disk.past new.half.store.disk)
             (run.any_moment told (begun.opened.told ∙ both_hold disk.tells held.stands told stands)) (λ a image left h. inr (subst (λ (gs : List Granularity). HoldsBetween gs begun.start made.entries run.after image) gs_is h));
       },
       run.stands,
@@ -157,39 +157,39 @@ module _ {D R : Type 0} (disk : Ghosts D R) (old new : Archive D R) (done : List
   run : RunsOn disk.tells (parts disk old) m made.entries (parts disk new)
   run = ran disk old new done m stands made
 
-  pub has_not_fallen : HasNotFallen (disk.faults old.store.disk) (disk.faults new.store.disk)
+  pub has_not_fallen : HasNotFallen (disk.faults old.half.store.disk) (disk.faults new.half.store.disk)
   has_not_fallen =
       let one : HasNotFallen m.faults run.after.faults = runs_counts made.entries m run.after stands.sound run.runs in
-      subst (λ (n : ℕ). HasNotFallen n (disk.faults new.store.disk)) stands.faults (subst (λ (n : ℕ). HasNotFallen m.faults n) run.stands.faults one)
+      subst (λ (n : ℕ). HasNotFallen n (disk.faults new.half.store.disk)) stands.faults (subst (λ (n : ℕ). HasNotFallen m.faults n) run.stands.faults one)
 
   -- where an act is told as a fault, the disk has counted it
-  pub has_risen_within : AnswersAreOfActs → (before behind : List Done) (act : Act) → done ≡ before ++ record { act = act; answer = DiskFault } ∷ behind → DiskRose (disk.faults old.store.disk) (disk.faults new.store.disk)
+  pub has_risen_within : AnswersAreOfActs → (before behind : List Done) (act : Act) → done ≡ before ++ record { act = act; answer = DiskFault } ∷ behind → DiskRose (disk.faults old.half.store.disk) (disk.faults new.half.store.disk)
   has_risen_within answers before behind act is =
       let one : DiskRose m.faults run.after.faults = runs_rose answers 0 made.entries m run.after before behind act stands.sound run.runs (made.just_these ∙ is) in
-      subst (λ (n : ℕ). DiskRose n (disk.faults new.store.disk)) stands.faults (subst (λ (n : ℕ). DiskRose m.faults n) run.stands.faults one)
+      subst (λ (n : ℕ). DiskRose n (disk.faults new.half.store.disk)) stands.faults (subst (λ (n : ℕ). DiskRose m.faults n) run.stands.faults one)
 
-  pub has_risen : AnswersAreOfActs → (before : List Done) (act : Act) → done ≡ before ++ record { act = act; answer = DiskFault } ∷ [] → DiskRose (disk.faults old.store.disk) (disk.faults new.store.disk)
+  pub has_risen : AnswersAreOfActs → (before : List Done) (act : Act) → done ≡ before ++ record { act = act; answer = DiskFault } ∷ [] → DiskRose (disk.faults old.half.store.disk) (disk.faults new.half.store.disk)
   has_risen answers before act is = has_risen_within answers before [] act is
 
 -- THE DISK THAT IS HANDED BACK
 
-module _ {D R : Type 0} (disk : Ghosts D R) (new : Archive D R) (after : TierStore D R) (given : D) (back : after ≡ new.store) (is : given ≡ after.disk) where
-  pub handed : new.store.disk ≡ given
+module _ {D R : Type 0} (disk : Ghosts D R) (new : Archive D R) (after : TierStore D R) (given : D) (back : after ≡ new.half.store) (is : given ≡ after.disk) where
+  pub handed : new.half.store.disk ≡ given
   handed = sym (is ∙ ap (λ (s : TierStore D R). s.disk) back)
 
-  pub acts_given : (config : ConfigState) (held : Stores) (done : List Done) (store : TierStore D R) (old : Archive D R) → old.store ≡ store → ActsFrom (λ image. ⊥) disk.tells config held done (disk.past old.store.disk) (disk.past new.store.disk)
+  pub acts_given : (config : ConfigState) (held : Stores) (done : List Done) (store : TierStore D R) (old : Archive D R) → old.half.store ≡ store → ActsFrom (λ image. ⊥) disk.tells config held done (disk.past old.half.store.disk) (disk.past new.half.store.disk)
       → ActsFrom (λ image. ⊥) disk.tells config held done (disk.past store.disk) (disk.past given)
   acts_given config held done store old same from =
-      subst (λ (s : TierStore D R). ActsFrom (λ image. ⊥) disk.tells config held done (disk.past s.disk) (disk.past given)) same (subst (λ (d : D). ActsFrom (λ image. ⊥) disk.tells config held done (disk.past old.store.disk) (disk.past d)) handed from)
+      subst (λ (s : TierStore D R). ActsFrom (λ image. ⊥) disk.tells config held done (disk.past s.disk) (disk.past given)) same (subst (λ (d : D). ActsFrom (λ image. ⊥) disk.tells config held done (disk.past old.half.store.disk) (disk.past d)) handed from)
 
-  pub unopened_given : (m : Machine) → Stands disk.tells (parts disk new) m → (IsTrue disk.tells → MayLeave (disk.past new.store.disk) (disk.files new.store.disk)) → IsTrue disk.tells → IsUnopened (disk.files given) (disk.opened given)
+  pub unopened_given : (m : Machine) → Stands disk.tells (parts disk new) m → (IsTrue disk.tells → MayLeave (disk.past new.half.store.disk) (disk.files new.half.store.disk)) → IsTrue disk.tells → IsUnopened (disk.files given) (disk.opened given)
   unopened_given m stands left told = subst (λ (d : D). IsUnopened (disk.files d) (disk.opened d)) handed (left_unopened disk new m stands left told)
 
-  pub count_given : (store : TierStore D R) (old : Archive D R) → old.store ≡ store → HasNotFallen (disk.faults old.store.disk) (disk.faults new.store.disk) → HasNotFallen (disk.faults store.disk) (disk.faults given)
-  count_given store old same count = subst (λ (s : TierStore D R). HasNotFallen (disk.faults s.disk) (disk.faults given)) same (subst (λ (d : D). HasNotFallen (disk.faults old.store.disk) (disk.faults d)) handed count)
+  pub count_given : (store : TierStore D R) (old : Archive D R) → old.half.store ≡ store → HasNotFallen (disk.faults old.half.store.disk) (disk.faults new.half.store.disk) → HasNotFallen (disk.faults store.disk) (disk.faults given)
+  count_given store old same count = subst (λ (s : TierStore D R). HasNotFallen (disk.faults s.disk) (disk.faults given)) same (subst (λ (d : D). HasNotFallen (disk.faults old.half.store.disk) (disk.faults d)) handed count)
 
-  pub rose_given : (store : TierStore D R) (old : Archive D R) → old.store ≡ store → DiskRose (disk.faults old.store.disk) (disk.faults new.store.disk) → DiskRose (disk.faults store.disk) (disk.faults given)
-  rose_given store old same count = subst (λ (s : TierStore D R). DiskRose (disk.faults s.disk) (disk.faults given)) same (subst (λ (d : D). DiskRose (disk.faults old.store.disk) (disk.faults d)) handed count)
+  pub rose_given : (store : TierStore D R) (old : Archive D R) → old.half.store ≡ store → DiskRose (disk.faults old.half.store.disk) (disk.faults new.half.store.disk) → DiskRose (disk.faults store.disk) (disk.faults given)
+  rose_given store old same count = subst (λ (s : TierStore D R). DiskRose (disk.faults s.disk) (disk.faults given)) same (subst (λ (d : D). DiskRose (disk.faults old.half.store.disk) (disk.faults d)) handed count)
 
 -- where no archive was made
 pub unopened_back : {D R : Type 0} (disk : Ghosts D R) (store back : TierStore D R) (given : D) → IsFresh disk store → back ≡ store → given ≡ back.disk → (IsTrue disk.tells → MayLeave (disk.past store.disk) (disk.files store.disk)) → IsTrue disk.tells → IsUnopened (disk.files given) (disk.opened given)

@@ -263,7 +263,7 @@ module _ {D R : Type 0} (disk : Ghosts D R) (old : D) where
           },
         )
 
-    module _ (after_it : TierStore D R) (given : D) (back : after_it ≡ left.store) (is : given ≡ after_it.disk) where
+    module _ (after_it : TierStore D R) (given : D) (back : after_it ≡ left.half.store) (is : given ≡ after_it.disk) where
       pub were_fed : IsClean told → IsTrue disk.tells → OfHeld (stores_of shipped) (disk.past old) (λ held. AreFed hours held (disk.past given))
       were_fed clean tells before after opens stand =
           let one = registered tells before after opens stand in
@@ -298,7 +298,7 @@ module _ {D R : Type 0} (disk : Ghosts D R) (old : D) where
           )
 
       -- none of the disk's journals was opened beyond what it lists
-      pub served_unopened : StandsNow disk archive → (IsTrue disk.tells → MayLeave (disk.past left.store.disk) (disk.files left.store.disk)) → IsTrue disk.tells → IsUnopened (disk.files given) (disk.opened given)
+      pub served_unopened : StandsNow disk archive → (IsTrue disk.tells → MayLeave (disk.past left.half.store.disk) (disk.files left.half.store.disk)) → IsTrue disk.tells → IsUnopened (disk.files given) (disk.opened given)
       served_unopened s may tells = let run = leaves.run s.0 s.1 in unopened_given disk left after_it given back is run.after run.stands may tells
 
 -- the posts that were served are those of the feeds

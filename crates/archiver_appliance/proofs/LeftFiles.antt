@@ -32,18 +32,18 @@ use Rattle.archiver_appliance.proofs.Chained.{AllDone, IsFeeding, IsLooking, act
 use Rattle.archiver_appliance.proofs.Damages.{bad_file, opened_files, pins_first}
 use Rattle.archiver_appliance.proofs.PinSteps.{first_step, one_has, pin_named}
 
-module _ {D R : Type 0} (disk : Ghosts D R) (old new : Archive D R) (done : List Done) (made : ActsAlone disk old done new) (store : TierStore D R) (same : old.store ≡ store) where
-  abbrev has_old : (held : Stores) → Has disk.tells (seen disk store) held → Has disk.tells (seen disk old.store) held
+module _ {D R : Type 0} (disk : Ghosts D R) (old new : Archive D R) (done : List Done) (made : ActsAlone disk old done new) (store : TierStore D R) (same : old.half.store ≡ store) where
+  abbrev has_old : (held : Stores) → Has disk.tells (seen disk store) held → Has disk.tells (seen disk old.half.store) held
   has_old held has = subst (λ (s : TierStore D R). Has disk.tells (seen disk s) held) (sym same) has
 
-  module _ (given : D) (back : new.store.disk ≡ given) where
+  module _ (given : D) (back : new.half.store.disk ≡ given) where
     -- an ingest leaves whatever is listed
     pub lists_given : (held : Stores) → Has disk.tells (seen disk store) held → AllDone IsFeeding done → IsTrue disk.tells → (i : ℕ) (m : ManifestState) → slice_get store.manifests.items i ≡ Some m
         → LeavesListed ((i + 1, store.catalogue.rows), m.entries) (disk.files store.disk) (disk.files given) (disk.past store.disk) (disk.past given)
     lists_given held has are told =
         let fronts : LeavesFronts disk.tells (files_of (parts disk old)) (files_of (parts disk new)) = fronts_along disk.tells (λ a m. Stands disk.tells (parts disk a) m) (parts disk) made.entries old new (acts_alone_are IsFeeding made.entries done made.no_others made.just_these are) made.chain in
         subst (λ (d : D). (i : ℕ) (m : ManifestState) → slice_get store.manifests.items i ≡ Some m → LeavesListed ((i + 1, store.catalogue.rows), m.entries) (disk.files store.disk) (disk.files d) (disk.past store.disk) (disk.past d)) back
-        (subst (λ (s : TierStore D R). (i : ℕ) (m : ManifestState) → slice_get s.manifests.items i ≡ Some m → LeavesListed ((i + 1, s.catalogue.rows), m.entries) (disk.files s.disk) (disk.files new.store.disk) (disk.past s.disk) (disk.past new.store.disk)) same
+        (subst (λ (s : TierStore D R). (i : ℕ) (m : ManifestState) → slice_get s.manifests.items i ≡ Some m → LeavesListed ((i + 1, s.catalogue.rows), m.entries) (disk.files s.disk) (disk.files new.half.store.disk) (disk.past s.disk) (disk.past new.half.store.disk)) same
         (lists_left disk.tells (parts disk old) (parts disk new) held (has_old held has) fronts told))
 
     -- a retrieval settles a doubt, and only reads
@@ -51,14 +51,14 @@ module _ {D R : Type 0} (disk : Ghosts D R) (old new : Archive D R) (done : List
     only_reads are = reads_along disk.tells (λ a m. Stands disk.tells (parts disk a) m) (parts disk) made.entries old new (acts_alone_are IsLooking made.entries done made.no_others made.just_these are) made.chain
 
     -- where nothing stands in doubt
-    quiet_given : AllDone IsLooking done → IsSettled (seen disk store) → IsTrue disk.tells → (disk.files new.store.disk ≡ disk.files old.store.disk) × Passes (λ a b. b ≡ a) (disk.past old.store.disk) (disk.past new.store.disk)
+    quiet_given : AllDone IsLooking done → IsSettled (seen disk store) → IsTrue disk.tells → (disk.files new.half.store.disk ≡ disk.files old.half.store.disk) × Passes (λ a b. b ≡ a) (disk.past old.half.store.disk) (disk.past new.half.store.disk)
     quiet_given are settled told = ((only_reads are).quiet (subst (λ (s : TierStore D R). IsSettled (seen disk s)) (sym same) settled)).1 told
 
     pub files_given : AllDone IsLooking done → IsSettled (seen disk store) → IsTrue disk.tells → disk.files given ≡ disk.files store.disk
     files_given are settled told = ap disk.files (sym back) ∙ ((quiet_given are settled told).0 ∙ ap (λ (s : TierStore D R). disk.files s.disk) same)
 
     pub moments_given : AllDone IsLooking done → IsSettled (seen disk store) → IsTrue disk.tells → Passes (λ a b. b ≡ a) (disk.past store.disk) (disk.past given)
-    moments_given are settled told = subst (λ (d : D). Passes (λ a b. b ≡ a) (disk.past store.disk) (disk.past d)) back (subst (λ (s : TierStore D R). Passes (λ a b. b ≡ a) (disk.past s.disk) (disk.past new.store.disk)) same (quiet_given are settled told).1)
+    moments_given are settled told = subst (λ (d : D). Passes (λ a b. b ≡ a) (disk.past store.disk) (disk.past d)) back (subst (λ (s : TierStore D R). Passes (λ a b. b ≡ a) (disk.past s.disk) (disk.past new.half.store.disk)) same (quiet_given are settled told).1)
 
   -- what a retrieval tells as damaged is a listed file of the row that has the name
   module _ (start end : Machine) (stands : Stands disk.tells (parts disk old) start) (settled : start.doubt ≡ None) (run : Runs start made.entries end) (held : Stores) (has : Has disk.tells (seen disk store) held) (name : List ℕ) (query : Query) (are : IsRetrieval name query done) where
@@ -75,6 +75,6 @@ module _ {D R : Type 0} (disk : Ghosts D R) (old new : Archive D R) (done : List
         let step = first_step made.entries start end (first (Pin name query)) rest made.no_others (made.just_these ∙ is) run in
         let row = pin_named 0 name query settled step.1 finds.pin finds.told_name finds.about finds.pieces finds.tail refl in
         let one = one_has disk.tells (parts disk old) start name row.i row.row stands row.found row.here in
-        let bad = bad_file disk.tells (seen disk old.store) held (has_old held has) name d.piece of_row row.i one.0 finds.about.ty (ap (λ (x : About). x.ty) (row.about_is ∙ sym one.1)) at d.bad in
+        let bad = bad_file disk.tells (seen disk old.half.store) held (has_old held has) name d.piece of_row row.i one.0 finds.about.ty (ap (λ (x : About). x.ty) (row.about_is ∙ sym one.1)) at d.bad in
         subst (λ (s : TierStore D R). IsDamagedFile (disk.files s.disk) s.catalogue.rows (lists_of s.manifests.items) name file at) same
-        (subst (λ (n : Name). IsDamagedFile (disk.files old.store.disk) old.store.catalogue.rows (lists_of old.store.manifests.items) name n at) d.named bad)
+        (subst (λ (n : Name). IsDamagedFile (disk.files old.half.store.disk) old.half.store.catalogue.rows (lists_of old.half.store.manifests.items) name n at) d.named bad)

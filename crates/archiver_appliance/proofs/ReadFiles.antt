@@ -107,12 +107,12 @@ none_left ty query pieces left tail given a = record { read = a.read; are = a.ar
 no_tail : (tails : List TailState) (i : ℕ) → tails ≡ [] → (tail_at tails i).samples ≡ []
 no_tail tails i none = ap (λ (ts : List TailState). (tail_at ts i).samples) none
 
-module _ {D R : Type 0} (disk : Ghosts D R) (old new : Archive D R) (store : TierStore D R) (same : old.store ≡ store) (empty : old.intake ≡ []) (start : Machine) (stands : Stands disk.tells (parts disk old) start) (settled : start.doubt ≡ None) (held : Stores) (has : Has disk.tells (seen disk store) held) where
+module _ {D R : Type 0} (disk : Ghosts D R) (old new : Archive D R) (store : TierStore D R) (same : old.half.store ≡ store) (empty : old.intake ≡ []) (start : Machine) (stands : Stands disk.tells (parts disk old) start) (settled : start.doubt ≡ None) (held : Stores) (has : Has disk.tells (seen disk store) held) where
   reads_listed : (name : List ℕ) (query : Query) (a b : Option (List ℕ)) (r : ReadsPin disk old name query a b new) (end : Machine) → Runs start r.made.entries end → IsTrue disk.tells → ReadsListed (disk.files store.disk) store.catalogue.rows (lists_of store.manifests.items) name query a b
   reads_listed name query a b r end run told =
       let rest : List Done = openings r.pin 0 r.told ++ given_up r.pin in
       let first : Done = record { act = Pin name query; answer = Pinned r.pin r.told_name r.about r.pieces r.tail } in
-      let has_old : Has disk.tells (seen disk old.store) held = subst (λ (s : TierStore D R). Has disk.tells (seen disk s) held) (sym same) has in
+      let has_old : Has disk.tells (seen disk old.half.store) held = subst (λ (s : TierStore D R). Has disk.tells (seen disk s) held) (sym same) has in
       let step = first_step r.made.entries start end first rest r.made.no_others r.made.just_these run in
       let row = pin_named 0 name query settled step.1 r.pin r.told_name r.about r.pieces r.tail refl in
       let one = one_has disk.tells (parts disk old) start name row.i row.row stands row.found row.here in
@@ -122,10 +122,10 @@ module _ {D R : Type 0} (disk : Ghosts D R) (old new : Archive D R) (store : Tie
       let no_more : r.tail ≡ [] = row.tail_is ∙ ((stands.rows.each row.i row.row row.here).is.tail ∙ no_tail old.intake row.i empty) in
       let subject_is : ◌≡◌ {A = Subject} (record { name = r.told_name; about = r.about; query = query }) (subject_of own query) = same_subject query r.told_name own.name r.about own.about name_is about_is in
       let files = λ (n : NamedBytes) (among : Contains (map named r.told) n).
-      listed_front disk.tells (seen disk old.store) held has_old name n
+      listed_front disk.tells (seen disk old.half.store) held has_old name n
       (opened_files disk.tells (λ x m. Stands disk.tells (parts disk x) m) (parts disk) told name query r.pin r.told_name r.about r.pieces r.tail r.told (given_up r.pin) r.made.entries old new (done_alone r.made.entries (first ∷ rest) r.made.no_others r.made.just_these) r.made.chain has_old.settled n among) in
       let answers : AnswersRead own.about.ty query (map named r.told) r.left [] r.samples = subst (λ (x : About). AnswersRead x.ty query (map named r.told) r.left [] r.samples) about_is (subst (λ (l : List Sample). AnswersRead r.about.ty query (map named r.told) r.left l r.samples) no_more r.answers) in
-      let done : ReadsListed (disk.files old.store.disk) old.store.catalogue.rows (lists_of old.store.manifests.items) name query a b = record {
+      let done : ReadsListed (disk.files old.half.store.disk) old.half.store.catalogue.rows (lists_of old.half.store.manifests.items) name query a b = record {
         id = row.i;
         row = own;
         here = one.0.here;

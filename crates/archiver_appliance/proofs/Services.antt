@@ -202,20 +202,20 @@ status_caused {R} faults rose told cause = first_caused faults rose (nat_lt 0 to
 -- ALL THAT WAS DONE
 
 module _ {D R : Type 0} (disk : Ghosts D R) (old left : Archive D R) (entries : List Entry) (m : Machine) (stands : Stands disk.tells (parts disk old) m) (run : RunsOn disk.tells (parts disk old) m entries (parts disk left)) where
-  pub run_counts : HasNotFallen (disk.faults old.store.disk) (disk.faults left.store.disk)
+  pub run_counts : HasNotFallen (disk.faults old.half.store.disk) (disk.faults left.half.store.disk)
   run_counts =
       let one : HasNotFallen m.faults run.after.faults = runs_counts entries m run.after stands.sound run.runs in
-      subst (λ (n : ℕ). HasNotFallen n (disk.faults left.store.disk)) stands.faults (subst (λ (n : ℕ). HasNotFallen m.faults n) run.stands.faults one)
+      subst (λ (n : ℕ). HasNotFallen n (disk.faults left.half.store.disk)) stands.faults (subst (λ (n : ℕ). HasNotFallen m.faults n) run.stands.faults one)
 
-  pub run_rose : AnswersAreOfActs → HasFailedFlush entries → DiskRose (disk.faults old.store.disk) (disk.faults left.store.disk)
+  pub run_rose : AnswersAreOfActs → HasFailedFlush entries → DiskRose (disk.faults old.half.store.disk) (disk.faults left.half.store.disk)
   run_rose answers f =
       let one : DiskRose m.faults run.after.faults = flush_rose answers entries m run.after stands.sound run.runs f in
-      subst (λ (n : ℕ). DiskRose n (disk.faults left.store.disk)) stands.faults (subst (λ (n : ℕ). DiskRose m.faults n) run.stands.faults one)
+      subst (λ (n : ℕ). DiskRose n (disk.faults left.half.store.disk)) stands.faults (subst (λ (n : ℕ). DiskRose m.faults n) run.stands.faults one)
 
 pub serves_from : {D R : Type 0} (disk : Ghosts D R) (config : ConfigState) (held : Stores) (doors : ℕ) (old left : Archive D R) (entries : List Entry) (Given : Machine → List Entry → Type 0) (began : Bool) (told : AllServed) → (begun : IsBegunWith disk config held doors old) → RunsOn disk.tells (parts disk old) begun.start entries (parts disk left)
     → (began ≡ false → entries ≡ []) → (began ≡ true → Given begun.start entries) → (told.spent ≡ true → most_acts ≤ length entries) → (told.disk_fault ≡ true → HasFailedFlush entries)
     → ((m : Machine) → Stands disk.tells (parts disk old) m → m.doors ≡ doors → told.spent ≡ false → told.memory ≡ false → told.disk_fault ≡ false → (mover : ℕ) × (after : Machine) × Runs m entries after × Stands disk.tells (parts disk left) after × EndsWell m entries after mover)
-    → ServesFrom (λ image. ⊥) disk.tells config held doors Given began told (disk.past old.store.disk) (disk.past left.store.disk)
+    → ServesFrom (λ image. ⊥) disk.tells config held doors Given began told (disk.past old.half.store.disk) (disk.past left.half.store.disk)
 serves_from {D} {R} disk config held doors old left entries Given began told begun run none given spent failed ends = record {
   start = begun.start;
   opened = begun.opened;
@@ -224,7 +224,7 @@ serves_from {D} {R} disk config held doors old left entries Given began told beg
   end = run.after;
   runs = run.runs;
   leaves = λ t. opens_again disk left run.after run.stands config (rule_is run.after run.runs) t;
-  any_moment = λ t stood. passes_weaker (λ a image. HoldsBetween (granularities (seen disk old.store).manifests) begun.start entries run.after image) (λ a image. ⊥ ⊎ HoldsBetween (stores_of config) begun.start entries run.after image) (disk.past old.store.disk) (disk.past left.store.disk)
+  any_moment = λ t stood. passes_weaker (λ a image. HoldsBetween (granularities (seen disk old.half.store).manifests) begun.start entries run.after image) (λ a image. ⊥ ⊎ HoldsBetween (stores_of config) begun.start entries run.after image) (disk.past old.half.store.disk) (disk.past left.half.store.disk)
       (run.any_moment t (begun.opened.told ∙ both_hold disk.tells held.stands t stood)) (λ a image l h. inr (subst (λ (gs : List Granularity). HoldsBetween gs begun.start entries run.after image) gs_is h));
   none = none;
   given = given;
@@ -238,7 +238,7 @@ serves_from {D} {R} disk config held doors old left entries Given began told beg
     rule_is : (end : Machine) → Runs begun.start entries end → end.rule.granularity ≡ stores_of config
     rule_is end runs = let on : Onward begun.start end = runs_onward entries begun.start end begun.stands.sound runs in ap (λ (r : Rule). r.granularity) (on.rule ∙ begun.opened.rule)
 
-    gs_is : granularities (seen disk old.store).manifests ≡ stores_of config
+    gs_is : granularities (seen disk old.half.store).manifests ≡ stores_of config
     gs_is = sym begun.stands.rule.granularity ∙ ap (λ (r : Rule). r.granularity) begun.opened.rule
 
 -- an opening before them
@@ -269,14 +269,14 @@ serves_behind Before tells config held doors Given began told old mid new openin
 
 -- THE DISK THAT IS HANDED BACK
 
-module _ {D R : Type 0} (disk : Ghosts D R) (store : TierStore D R) (fresh : IsFresh disk store) (doors : ℕ) (old left : Archive D R) (same : old.store ≡ store) (opens : OpensAs disk.tells (seen disk store) store.config doors (parts disk old))
-    (after : TierStore D R) (given : D) (back : after ≡ left.store) (is : given ≡ after.disk) (Given : Machine → List Entry → Type 0) (began : Bool) (told : AllServed) (leaves : LeavesArchive disk old doors Given began told left) where
+module _ {D R : Type 0} (disk : Ghosts D R) (store : TierStore D R) (fresh : IsFresh disk store) (doors : ℕ) (old left : Archive D R) (same : old.half.store ≡ store) (opens : OpensAs disk.tells (seen disk store) store.config doors (parts disk old))
+    (after : TierStore D R) (given : D) (back : after ≡ left.half.store) (is : given ≡ after.disk) (Given : Machine → List Entry → Type 0) (began : Bool) (told : AllServed) (leaves : LeavesArchive disk old doors Given began told left) where
   pub served_from : (held : Stores) → Has disk.tells (seen disk store) held → ServesFrom (λ image. ⊥) disk.tells store.config held doors Given began told (disk.past store.disk) (disk.past given)
   served_from held has =
       let begun = begins_with disk store fresh doors old opens held has in
       let from = serves_from disk store.config held doors old left leaves.entries Given began told begun (leaves.run begun.start begun.stands) leaves.none (λ yes. leaves.given yes begun.start begun.stands) leaves.spent leaves.failed leaves.ends in
       subst (λ (s : TierStore D R). ServesFrom (λ image. ⊥) disk.tells store.config held doors Given began told (disk.past s.disk) (disk.past given)) same
-      (subst (λ (d : D). ServesFrom (λ image. ⊥) disk.tells store.config held doors Given began told (disk.past old.store.disk) (disk.past d)) (handed disk left after given back is) from)
+      (subst (λ (d : D). ServesFrom (λ image. ⊥) disk.tells store.config held doors Given began told (disk.past old.half.store.disk) (disk.past d)) (handed disk left after given back is) from)
 
   first : (m : Machine) × Stands disk.tells (parts disk old) m
   first = stands_with disk store fresh doors old opens
@@ -292,5 +292,5 @@ module _ {D R : Type 0} (disk : Ghosts D R) (store : TierStore D R) (fresh : IsF
       status_caused faults (DiskRose (disk.faults store.disk) (disk.faults given)) told
       (λ fault. rose_given disk left after given back is store old same (run_rose disk old left leaves.entries first.0 first.1 all_run answers (leaves.failed fault)))
 
-  pub served_unopened : (IsTrue disk.tells → MayLeave (disk.past left.store.disk) (disk.files left.store.disk)) → IsTrue disk.tells → IsUnopened (disk.files given) (disk.opened given)
+  pub served_unopened : (IsTrue disk.tells → MayLeave (disk.past left.half.store.disk) (disk.files left.half.store.disk)) → IsTrue disk.tells → IsUnopened (disk.files given) (disk.opened given)
   served_unopened may so = unopened_given disk left after given back is all_run.after all_run.stands may so

@@ -86,4 +86,4 @@ returns-clause-unopened g c =
     let session = c.ingest_alone-fed.ensures.session in
     let first = stands_at_first disk c.args.store c.requires.fresh old c.in-Ok.ensures.opened in
     let run = ran disk old new session.1 first.0 first.1 session.3 in
-    unopened_given disk new c.into_store.result c.into_disk.result c.into_store.ensures c.into_disk.ensures run.after run.stands (λ told. g.met.D.Disk.seen new.store.disk told)
+    unopened_given disk new c.into_store.result c.into_disk.result c.into_store.ensures c.into_disk.ensures run.after run.stands (λ told. g.met.D.Disk.seen new.half.store.disk told)

@@ -67,11 +67,11 @@ returns-clause-part g c = λ told.
     let rule = ap (λ (r : Rule). r.granularity) ((runs_onward made.2.entries begun.start run.after begun.stands.sound run.runs).rule ∙ begun.opened.rule) in
     let handed_back = handed disk new c.into_store.result c.into_disk.result c.into_store.ensures c.into_disk.ensures in
     subst (λ d. FindsPart (stores_of c.args.store.config) (disk.files d) c.moved_status.result) handed_back
-    (finds_part (stores_of c.args.store.config) (disk.files new.store.disk) c.moved_status.result (λ name at is.
+    (finds_part (stores_of c.args.store.config) (disk.files new.half.store.disk) c.moved_status.result (λ name at is.
     let came = moved_damaged c.move_alone-moved.result _ _ _ name at c.moved_status.ensures.tells is in
     let last = last_answered (answer.Damaged name at) (moved_last _ _ _ (err.Damaged name at) came (λ other. cc (other)) made.1) in
     part_damaged c.soundness_stays.ensures.answers c.moves_are_as_told.ensures.damaged disk.tells (parts disk) last.0 last.1 name at made.2.entries old new begun.start run.after begun.stands run.stands
-    (done_alone made.2.entries made.0 made.2.no_others made.2.just_these ∙ last.2) made.2.chain told (g.met.D.Disk.seen new.store.disk told) (stores_of c.args.store.config) rule))
+    (done_alone made.2.entries made.0 made.2.no_others made.2.just_these ∙ last.2) made.2.chain told (g.met.D.Disk.seen new.half.store.disk told) (stores_of c.args.store.config) rule))
 
 pub returns-clause-caused : goal.returns-clause-caused
 returns-clause-caused g c =
@@ -101,4 +101,4 @@ returns-clause-unopened g c =
     let made = c.move_alone-moved.ensures.moves in
     let first = stands_at_first disk c.args.store c.requires.fresh old c.in-Ok.ensures.opened in
     let run = ran disk old new made.0 first.0 first.1 made.2 in
-    unopened_given disk new c.into_store.result c.into_disk.result c.into_store.ensures c.into_disk.ensures run.after run.stands (λ told. g.met.D.Disk.seen new.store.disk told)
+    unopened_given disk new c.into_store.result c.into_disk.result c.into_store.ensures c.into_disk.ensures run.after run.stands (λ told. g.met.D.Disk.seen new.half.store.disk told)

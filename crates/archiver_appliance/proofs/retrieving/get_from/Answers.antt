@@ -175,4 +175,4 @@ returns-clause-unopened g c =
     let r = c.get_alone-got.ensures.retrieves in
     let first = stands_at_first disk c.args.store c.requires.fresh old c.in-Ok.ensures.opened in
     let run = ran disk old new r.done first.0 first.1 r.made in
-    unopened_given disk new c.into_store.result c.into_disk.result c.into_store.ensures c.into_disk.ensures run.after run.stands (λ told. g.met.D.Disk.seen new.store.disk told)
+    unopened_given disk new c.into_store.result c.into_disk.result c.into_store.ensures c.into_disk.ensures run.after run.stands (λ told. g.met.D.Disk.seen new.half.store.disk told)

@@ -64,12 +64,12 @@ returns-in-Ok-serve_archive-clause-disk_faults g c =
 pub returns-in-Ok-serve_archive-clause-unopened : goal.returns-in-Ok-serve_archive-clause-unopened
 returns-in-Ok-serve_archive-clause-unopened g c =
     let new = c.in-Ok-serve_archive.archive in
-    served_unopened g.D.Disk c.args.store c.requires.fresh _ c.in-Ok.archive new c.in-Ok.ensures.store c.in-Ok.ensures.opened c.into_store.result c.into_disk.result c.into_store.ensures c.into_disk.ensures _ c.in-Ok-serve_archive.ensures.leaves.0 c.in-Ok-serve_archive.told c.in-Ok-serve_archive.ensures.leaves.1 (λ told. (g.met.D.Disk g.world.𝓛 g.world.𝓜 g.world.𝓡 ((λ s x. x), (λ x. x), (λ x. x), λ x. x)).seen new.store.disk told)
+    served_unopened g.D.Disk c.args.store c.requires.fresh _ c.in-Ok.archive new c.in-Ok.ensures.store c.in-Ok.ensures.opened c.into_store.result c.into_disk.result c.into_store.ensures c.into_disk.ensures _ c.in-Ok-serve_archive.ensures.leaves.0 c.in-Ok-serve_archive.told c.in-Ok-serve_archive.ensures.leaves.1 (λ told. (g.met.D.Disk g.world.𝓛 g.world.𝓜 g.world.𝓡 ((λ s x. x), (λ x. x), (λ x. x), λ x. x)).seen new.half.store.disk told)
 
 pub returns-clause-serves : goal.returns-clause-serves
 returns-clause-serves g c =
     let back = c.in-Err-serve_archive.ensures.back in
-    let given = c.into_store-in-Err-serve_archive.ensures ∙ (ap (λ a. a.store) back.0 ∙ c.in-Ok.ensures.store) in
+    let given = c.into_store-in-Err-serve_archive.ensures ∙ (ap (λ a. a.half.store) back.0 ∙ c.in-Ok.ensures.store) in
     let came = c.out_of_memory-in-Err-serve_archive in
     rw back.1
     (serves_nobody _ _ _ _ _ _ came.result.status c.args.posts.now (subst IsUnserved (sym came.ensures.status) tt)
@@ -77,4 +77,4 @@ returns-clause-serves g c =
 
 pub returns-clause-unopened : goal.returns-clause-unopened
 returns-clause-unopened g c =
-    unopened_back g.D.Disk c.args.store c.into_store-in-Err-serve_archive.result _ c.requires.fresh (c.into_store-in-Err-serve_archive.ensures ∙ (ap (λ a. a.store) c.in-Err-serve_archive.ensures.back.0 ∙ c.in-Ok.ensures.store)) c.out_of_memory-in-Err-serve_archive.ensures.disk (λ told. (g.met.D.Disk g.world.𝓛 g.world.𝓜 g.world.𝓡 ((λ s x. x), (λ x. x), (λ x. x), λ x. x)).seen c.args.store.disk told)
+    unopened_back g.D.Disk c.args.store c.into_store-in-Err-serve_archive.result _ c.requires.fresh (c.into_store-in-Err-serve_archive.ensures ∙ (ap (λ a. a.half.store) c.in-Err-serve_archive.ensures.back.0 ∙ c.in-Ok.ensures.store)) c.out_of_memory-in-Err-serve_archive.ensures.disk (λ told. (g.met.D.Disk g.world.𝓛 g.world.𝓜 g.world.𝓡 ((λ s x. x), (λ x. x), (λ x. x), λ x. x)).seen c.args.store.disk told)

@@ -8,7 +8,9 @@ use Rattle.act_model.specs.MoveBegin.{Begins}
 use Rattle.act_model.specs.Reply.{reply_of}
 use Rattle.act_model.specs.Step.{store_of}
 use Rattle.act_model.specs.declared.acts.Act.TheVariants.{MoveBegin}
-use Rattle.archive_core.specs.Parts.{parts}
+use Rattle.gate_journal.proofs.Results.{if_ok}
+use Rattle.tier_store.proofs.Removals.{on_err}
+use Rattle.archive_core.specs.Parts.{memory_in, parts, parts_beside}
 use Rattle.archive_core.proofs.Acting.{IsAct, acted, asked_then, cut}
 use Rattle.archive_core.proofs.Registered.{failed_told}
 use Rattle.archive_core.proofs.MoveTable.{begins_goes, begins_tell, begun_ends}
@@ -34,20 +36,21 @@ pub begin_chosen-requires-clause-rests : goal.begin_chosen-requires-clause-rests
 begin_chosen-requires-clause-rests g c =
     let was = c.requires.stands in
     let then = c.in_ok-settle.ensures.settled was.0 was.1 in
-    (record then.0 { faults = (parts g.D.Disk c.settle.new.self).at.faults }, then.2)
+    (memory_in c.settle.new.self, record then.0 { faults = (parts g.D.Disk c.settle.new.self).at.faults }, then.2)
 
 pub returns-clause-acted : goal.returns-clause-acted
 returns-clause-acted g c who =
     let p = parts g.D.Disk c.args.self.now in
     let q = parts g.D.Disk c.settle.new.self in
-    let new = parts g.D.Disk c.begin_chosen.new.self in
+    let w = memory_in c.settle.new.self in
+    let new = parts_beside g.D.Disk c.begin_chosen.new.self w in
     let call = c.begin_chosen.ensures in
     let act = MoveBegin c.args.store c.args.now in
     let given = reply_of g.D.Reader.ReadAt.tells g.D.Reader.ReadAt.bytes g.D.Reader.ReadAt.faults (answer_of c.begin_chosen.result) in
     let reads = reads_none g.D.Disk.tells q new (ap (seen_all g.D.Disk) call.store) in
     acted g.D.Disk.tells who act p given new (asked_then g.D.Disk.tells who act (Begins (store_of c.args.store) c.args.now) (begins_act who c.args.store c.args.now) p q c.settle.result c.settle.ensures.settling (λ settled. ap (seen_all g.D.Disk) (c.settle.ensures.quiet settled)) (λ m s. refl) c.in_ok-settle.ensures.settled (λ m s. refl) new given (rw call.store (omega arith))
-    (begun_ends g.D.Disk.tells (store_of c.args.store) c.args.now q new g.row.D-Reader.Denot g.D.Reader.ReadAt.tells g.D.Reader.ReadAt.bytes g.D.Reader.ReadAt.faults c.begin_chosen.result call.begins call.spent call.memory) reads
-    (λ settled well. ok_tidy g.row.D-Reader.Denot g.D.Disk.tells g.D.Reader.ReadAt.tells g.D.Reader.ReadAt.bytes g.D.Reader.ReadAt.faults q new c.begin_chosen.result call.tidy well))
+    (begun_ends g.D.Disk.tells (store_of c.args.store) c.args.now q new g.row.D-Reader.Denot g.D.Reader.ReadAt.tells g.D.Reader.ReadAt.bytes g.D.Reader.ReadAt.faults c.begin_chosen.result (if_ok c.begin_chosen.result (λ begun goes. goes w refl) call.begins) (on_err c.begin_chosen.result _ _ (λ spent. spent w) call.spent) call.memory) reads
+    (λ settled well. ok_tidy g.row.D-Reader.Denot g.D.Disk.tells g.D.Reader.ReadAt.tells g.D.Reader.ReadAt.bytes g.D.Reader.ReadAt.faults q new c.begin_chosen.result (if_ok c.begin_chosen.result (λ begun tidy. tidy w) call.tidy) well))
     (reads_then g.D.Disk.tells p q new (reads_settling g.D.Disk.tells p q (end_of_disk c.settle.result) c.settle.ensures.settling (λ settled. ap (seen_all g.D.Disk) (c.settle.ensures.quiet settled))) reads) tt tt
 
 pub returns-in_err-settle-clause-quiet : goal.returns-in_err-settle-clause-quiet

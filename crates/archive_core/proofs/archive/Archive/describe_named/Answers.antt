@@ -1,37 +1,28 @@
 use Rattle.tier_store.specs.Pinned.{seen_all}
-use Rattle.std.proofs.Common.{ℕ, List, Option, Err, refl, ◌∙◌, ap, subst}
+use Rattle.std.proofs.Common.{ℕ, Option, Err, refl, ◌∙◌, ap, subst}
 use Rattle.std.proofs.lemmas.Result.{err_from_is_err_and}
 use Rattle.disk_model.specs.declared.disk.DiskErr.{DiskErr}
 use Rattle.disk_model.specs.declared.disk.DiskErr.TheVariants.{Memory}
 use Rattle.pv_catalog.specs.Catalogue.{CatalogueState}
 use Rattle.durable_write.specs.Ends.{end_of_disk}
-use Rattle.tier_store.specs.Seen.{granularities}
-use Rattle.series_model.specs.declared.sample.Sample.{Sample}
-use Rattle.tier_store.specs.Details.{SaysDescribed}
-use Rattle.tier_store.specs.Opening.{end_of_answer}
-use Rattle.tier_store.specs.Telling.{ReadsOf}
 use Rattle.act_model.specs.Details.{Describes}
 use Rattle.act_model.specs.Reply.{reply_of}
 use Rattle.act_model.specs.declared.acts.Act.TheVariants.{Details}
 use Rattle.act_model.specs.declared.acts.Answer.TheVariants.{NoSuchVariable}
-use Rattle.archive_core.specs.Ends.{AskEnds}
-use Rattle.archive_core.specs.Leaving.{files_of}
-use Rattle.archive_core.proofs.Settled.{with_same, frame_with, rests_has}
-use Rattle.archive_core.proofs.Opened.{describes_act, details_end, reads_beside, reads_none, reads_settling, reads_then}
-use Rattle.archive_core.specs.Parts.{Parts, parts}
+use Rattle.archive_core.proofs.Opened.{describes_act, reads_none, reads_settling, reads_then}
+use Rattle.archive_core.specs.Parts.{memory_in, parts, parts_beside}
 use Rattle.archive_core.specs.Switching.{IsFound}
 use Rattle.archive_core.proofs.Acting.{acted, asked_then, cut, refused_first, refused_then, spent_then}
 use Rattle.archive_core.proofs.Registered.{failed_told, known, unknown}
-use Rattle.archive_core.proofs.Batches.{tidy_reads}
 use Rattle.archive_core.proofs.archive.Archive.describe_named.Goals.{After-find, After-find-2}
 use Rattle.archive_core.proofs.archive.Archive.describe_named.Goals as goal
 
 -- the row of the name, if one has it, before a doubt is settled
-found : (g : _) (c : After-find g) → IsFound c.args.self.now.store.catalogue.rows c.args.name.now c.find.result
+found : (g : _) (c : After-find g) → IsFound c.args.self.now.half.store.catalogue.rows c.args.name.now c.find.result
 found g c = subst (λ (x : CatalogueState). IsFound x.rows c.args.name.now c.find.result) c.catalogue.ensures (record { there = c.find.ensures.found; only = c.find.ensures.only })
 
 -- and then
-found_then : (g : _) (c : After-find-2 g) → IsFound c.settle.new.self.store.catalogue.rows c.args.name.now c.find-2.result
+found_then : (g : _) (c : After-find-2 g) → IsFound c.settle.new.self.half.store.catalogue.rows c.args.name.now c.find-2.result
 found_then g c = subst (λ (x : CatalogueState). IsFound x.rows c.args.name.now c.find-2.result) c.catalogue-2.ensures (record { there = c.find-2.ensures.found; only = c.find-2.ensures.only })
 
 pub returns-in_default-clause-acted : goal.returns-in_default-clause-acted
@@ -74,27 +65,18 @@ pub details-requires : goal.details-requires
 details-requires g c =
     let was = c.requires.stands in
     let then = c.in_ok-settle.ensures.settled was.0 was.1 in
-    let q = parts g.D.Disk c.settle.new.self in
-    record { has = (then.2.stands.store.before, rests_has g.D.Disk.tells q (record then.0 { faults = q.at.faults }) then.2) }
+    record { rests = (memory_in c.settle.new.self, record then.0 { faults = (parts g.D.Disk c.settle.new.self).at.faults }, then.2) }
 
 pub returns-clause-acted : goal.returns-clause-acted
 returns-clause-acted g c who =
     let p = parts g.D.Disk c.args.self.now in
     let q = parts g.D.Disk c.settle.new.self in
-    let new = parts g.D.Disk (record c.settle.new.self { store = c.details.new.self }) in
-    let call = c.details.ensures in
+    let w = memory_in c.settle.new.self in
+    let new = parts_beside g.D.Disk c.details.new.self w in
     let some = subst (λ (o : Option ℕ). IsFound p.at.catalogue.rows c.args.name.now o) c.in-Some.is (found g (goal.at.returns-clause-acted g c).After-find) in
     let some_then = subst (λ (o : Option ℕ). IsFound q.at.catalogue.rows c.args.name.now o) c.in-Some-find.is (found_then g (goal.at.returns-clause-acted g c).After-find-2) in
-    let limbo = ap (λ l. l.items) call.same.3 in
-    let lists = ap (λ l. l.items) call.same.1 in
-    let frame = frame_with g.D.Disk.tells (files_of q) new.at new.limbo q.limbo limbo call.frame in
-    let reads = reads_beside g.D.Disk.tells q new (call.same.0, lists) limbo (λ told. (call.reads.files told, call.reads.any_moment told)) in
+    let asked = c.details.ensures.asked w c.in-Some-find.row some_then.there (c.in_ok-tail.ensures ∙ c.tail.ensures) in
     let given = reply_of g.D.Reader.ReadAt.tells g.D.Reader.ReadAt.bytes g.D.Reader.ReadAt.faults c.details.result in
-    acted g.D.Disk.tells who (Details c.args.name.now) p given new (asked_then g.D.Disk.tells who (Details c.args.name.now) (Describes c.args.name.now) (describes_act who c.args.name.now) p q c.settle.result c.settle.ensures.settling (λ settled. ap (seen_all g.D.Disk) (c.settle.ensures.quiet settled)) (known g.D.Disk.tells c.args.name.now p c.in-Some.field-0 some) c.in_ok-settle.ensures.settled (known g.D.Disk.tells c.args.name.now q c.in-Some-find.row some_then) new given call.reads.faults
-    (λ m r.
-    let has = rests_has g.D.Disk.tells q m r in
-    let says = subst (λ (xs : List Sample). ReadsOf (SaysDescribed {R = g.row.D-Reader.Denot} g.D.Disk.tells c.args.name.now xs) (end_of_answer c.details.result) r.stands.store.before) (c.in_ok-tail.ensures ∙ c.tail.ensures) (call.says r.stands.store.before has) in
-    with_same (λ (x : Parts). AskEnds g.D.Disk.tells (Describes c.args.name.now) q m x given) (record q { at = new.at }) new.limbo new.pinned limbo call.same.2
-    (details_end g.row.D-Reader.Denot g.D.Disk.tells g.D.Reader.ReadAt.tells g.D.Reader.ReadAt.bytes g.D.Reader.ReadAt.faults q m r c.in-Some-find.row c.args.name.now some_then.there c.details.result new.at says (call.kept r.stands.store.before has) (ap granularities lists) frame call.reads))
-    reads (λ settled well. tidy_reads g.D.Disk.tells q new reads refl settled))
-    (reads_then g.D.Disk.tells p q new (reads_settling g.D.Disk.tells p q (end_of_disk c.settle.result) c.settle.ensures.settling (λ settled. ap (seen_all g.D.Disk) (c.settle.ensures.quiet settled))) reads) tt tt
+    acted g.D.Disk.tells who (Details c.args.name.now) p given new (asked_then g.D.Disk.tells who (Details c.args.name.now) (Describes c.args.name.now) (describes_act who c.args.name.now) p q c.settle.result c.settle.ensures.settling (λ settled. ap (seen_all g.D.Disk) (c.settle.ensures.quiet settled)) (known g.D.Disk.tells c.args.name.now p c.in-Some.field-0 some) c.in_ok-settle.ensures.settled (known g.D.Disk.tells c.args.name.now q c.in-Some-find.row some_then) new given asked.faults asked.asks
+    asked.reads (λ settled well. asked.tidy settled))
+    (reads_then g.D.Disk.tells p q new (reads_settling g.D.Disk.tells p q (end_of_disk c.settle.result) c.settle.ensures.settling (λ settled. ap (seen_all g.D.Disk) (c.settle.ensures.quiet settled))) asked.reads) tt tt

@@ -29,11 +29,11 @@ use Rattle.archive_core.proofs.archive.Archive.flush_settled.Goals as goal
 
 -- what the stores' call did, by what it answered
 told : (g : _) (c : After-flush_lent-flushed g) (m : Machine) (r : Rests g.D.Disk.tells (parts g.D.Disk c.args.self.now) m) (x : Result ℕ DiskErr) → c.flush_lent-flushed.result ≡ x
-    → Called g.D.Disk.tells (flush_call g.D.Disk.tells (parts g.D.Disk c.args.self.now) m r c.args.limit c.requires.limit (g.met.D.Disk.seen c.args.self.now.store.disk)) (seen g.D.Disk c.args.self.now.store) (seen g.D.Disk c.flush_lent-flushed.new.self) r.stands.store.before (end_of_disk x)
+    → Called g.D.Disk.tells (flush_call g.D.Disk.tells (parts g.D.Disk c.args.self.now) m r c.args.limit c.requires.limit (g.met.D.Disk.seen c.args.self.now.half.store.disk)) (seen g.D.Disk c.args.self.now.half.store) (seen g.D.Disk c.flush_lent-flushed.new.self) r.stands.store.before (end_of_disk x)
 told g c m r x is =
     let p = parts g.D.Disk c.args.self.now in
     let files = (r.stands.store.whole 0 first_low).0 in
-    flush_called g.D.Disk.tells p m r c.args.limit c.requires.limit (g.met.D.Disk.seen c.args.self.now.store.disk) (seen g.D.Disk c.flush_lent-flushed.new.self) (end_of_disk x)
+    flush_called g.D.Disk.tells p m r c.args.limit c.requires.limit (g.met.D.Disk.seen c.args.self.now.half.store.disk) (seen g.D.Disk c.flush_lent-flushed.new.self) (end_of_disk x)
     (flush_as g.D.Disk.tells p.at p.limbo files (seen g.D.Disk c.flush_lent-flushed.new.self) c.deref-2.result.now (batch_of c.args.limit p.tails) c.flush_lent-flushed.result x (λ (s : Stores). AreWhole 0 g.D.Disk.tells p.at p.limbo s.stands files) (c.deref-2.ensures.value ∙ c.in_ok-batch.ensures) is (c.flush_lent-flushed.ensures.changes files))
 
 -- what is kept of the batch
@@ -41,11 +41,11 @@ kept : (g : _) (c : After-flush_lent-flushed g) → row_ends (batch_of c.args.li
 kept g c = sym (c.in_ok-ends.ensures ∙ ap row_ends (c.deref.ensures.value ∙ c.in_ok-batch.ensures))
 
 -- what it left where limbo is as it was
-frame : (g : _) (c : After-flush_lent-flushed g) → Frame g.D.Disk.tells (files_of (parts g.D.Disk c.args.self.now)) (beside (seen g.D.Disk c.flush_lent-flushed.new.self) c.args.self.now.store.limbo.items)
-frame g c = frame_with g.D.Disk.tells (files_of (parts g.D.Disk c.args.self.now)) (seen g.D.Disk c.flush_lent-flushed.new.self) c.flush_lent-flushed.new.self.limbo.items c.args.self.now.store.limbo.items (ap (λ l. l.items) c.flush_lent-flushed.ensures.limbo) c.flush_lent-flushed.ensures.frame
+frame : (g : _) (c : After-flush_lent-flushed g) → Frame g.D.Disk.tells (files_of (parts g.D.Disk c.args.self.now)) (beside (seen g.D.Disk c.flush_lent-flushed.new.self) c.args.self.now.half.store.limbo.items)
+frame g c = frame_with g.D.Disk.tells (files_of (parts g.D.Disk c.args.self.now)) (seen g.D.Disk c.flush_lent-flushed.new.self) c.flush_lent-flushed.new.self.limbo.items c.args.self.now.half.store.limbo.items (ap (λ l. l.items) c.flush_lent-flushed.ensures.limbo) c.flush_lent-flushed.ensures.frame
 
 -- with the stores' limbo and pins
-with_all : (g : _) (c : After-flush_lent-flushed g) (P : Parts → Type 0) (q : Parts) → q.limbo ≡ c.args.self.now.store.limbo.items → q.pinned ≡ c.args.self.now.store.pinned → P q → P (record q { limbo = c.flush_lent-flushed.new.self.limbo.items; pinned = c.flush_lent-flushed.new.self.pinned })
+with_all : (g : _) (c : After-flush_lent-flushed g) (P : Parts → Type 0) (q : Parts) → q.limbo ≡ c.args.self.now.half.store.limbo.items → q.pinned ≡ c.args.self.now.half.store.pinned → P q → P (record q { limbo = c.flush_lent-flushed.new.self.limbo.items; pinned = c.flush_lent-flushed.new.self.pinned })
 with_all g c P q limbo pinned is = with_same P q c.flush_lent-flushed.new.self.limbo.items c.flush_lent-flushed.new.self.pinned (ap (λ l. l.items) c.flush_lent-flushed.ensures.limbo ∙ sym limbo) (c.flush_lent-flushed.ensures.pins ∙ sym pinned) is
 
 pub returns-in_err-batch-clause-changed : goal.returns-in_err-batch-clause-changed
@@ -68,7 +68,7 @@ flush_lent-flushed-requires g c =
     let p = parts g.D.Disk c.args.self.now in
     let whole = was.1.stands.store.whole 0 first_low in
     record {
-      can = subst (λ (b : List RowSamples). CanFlush c.args.self.now.store.catalogue.rows b) (sym (c.deref-2.ensures.value ∙ c.in_ok-batch.ensures)) (can g.D.Disk.tells p was.0 was.1 c.args.limit c.requires.limit (g.met.D.Disk.seen c.args.self.now.store.disk));
+      can = subst (λ (b : List RowSamples). CanFlush c.args.self.now.half.store.catalogue.rows b) (sym (c.deref-2.ensures.value ∙ c.in_ok-batch.ensures)) (can g.D.Disk.tells p was.0 was.1 c.args.limit c.requires.limit (g.met.D.Disk.seen c.args.self.now.half.store.disk));
       stands = was.1.stands.limbo.stands;
       has = (was.1.stands.store.before, whole.0, rests_has g.D.Disk.tells p was.0 was.1, whole.1);
     }
@@ -79,7 +79,7 @@ returns-in-Ok-clause-changed g c =
     let p = parts g.D.Disk c.args.self.now in
     let new = seen g.D.Disk c.flush_lent-flushed.new.self in
     let batch = batch_of c.args.limit p.tails in
-    let seen_now = g.met.D.Disk.seen c.args.self.now.store.disk in
+    let seen_now = g.met.D.Disk.seen c.args.self.now.half.store.disk in
     record {
       changes = λ m r.
           let gives = c.give_up.ensures batch (kept g a ∙ sym c.deref-in-Ok.ensures.value) in
@@ -92,7 +92,7 @@ returns-in-Ok-clause-changed g c =
 
 pub returns-in-Ok-clause-count : goal.returns-in-Ok-clause-count
 returns-in-Ok-clause-count g c = λ m r on.
-    flush_counts g.D.Disk.tells (parts g.D.Disk c.args.self.now) m r c.args.limit c.requires.limit (g.met.D.Disk.seen c.args.self.now.store.disk) (seen g.D.Disk c.flush_lent-flushed.new.self) c.in-Ok.samples (told g (goal.at.returns-in-Ok-clause-count g c).After-flush_lent-flushed m r (Ok c.in-Ok.samples) c.in-Ok.is) on
+    flush_counts g.D.Disk.tells (parts g.D.Disk c.args.self.now) m r c.args.limit c.requires.limit (g.met.D.Disk.seen c.args.self.now.half.store.disk) (seen g.D.Disk c.flush_lent-flushed.new.self) c.in-Ok.samples (told g (goal.at.returns-in-Ok-clause-count g c).After-flush_lent-flushed m r (Ok c.in-Ok.samples) c.in-Ok.is) on
 
 pub returns-in-Err-Fault-clause-changed : goal.returns-in-Err-Fault-clause-changed
 returns-in-Err-Fault-clause-changed g c =
@@ -101,7 +101,7 @@ returns-in-Err-Fault-clause-changed g c =
     let p = parts g.D.Disk c.args.self.now in
     let new = seen g.D.Disk c.flush_lent-flushed.new.self in
     let batch = batch_of c.args.limit p.tails in
-    let seen_now = g.met.D.Disk.seen c.args.self.now.store.disk in
+    let seen_now = g.met.D.Disk.seen c.args.self.now.half.store.disk in
     record {
       changes = λ m r. with_all g a (λ (q : Parts). ChangesTo {A = ℕ} g.D.Disk.tells (Appends batch) p m q (Err Fault)) (record p { at = new; doubt = Some (kind.Flush c.in_ok-ends.ends) }) refl refl
           (call_failed g.D.Disk.tells (flush_call g.D.Disk.tells p m r c.args.limit c.requires.limit seen_now) (Appends batch) (kind.Flush c.in_ok-ends.ends) p.kept p m r (makes_flush g.D.Disk.tells p m r c.args.limit c.requires.limit seen_now c.in_ok-ends.ends (kept g a)) (λ at after grow. grow) new (frame g a)
@@ -117,7 +117,7 @@ returns-in-Err-Memory-clause-changed g c =
     let p = parts g.D.Disk c.args.self.now in
     let new = seen g.D.Disk c.flush_lent-flushed.new.self in
     let batch = batch_of c.args.limit p.tails in
-    let seen_now = g.met.D.Disk.seen c.args.self.now.store.disk in
+    let seen_now = g.met.D.Disk.seen c.args.self.now.half.store.disk in
     record {
       changes = λ m r. with_all g a (λ (q : Parts). ChangesTo {A = ℕ} g.D.Disk.tells (Appends batch) p m q (Err Memory)) (record p { at = new }) refl refl
           (call_spent g.D.Disk.tells (flush_call g.D.Disk.tells p m r c.args.limit c.requires.limit seen_now) (Appends batch) (kind.Flush c.in_ok-ends.ends) p.kept p m r (makes_flush g.D.Disk.tells p m r c.args.limit c.requires.limit seen_now c.in_ok-ends.ends (kept g a)) (λ at after grow. grow) new (frame g a)

@@ -17,7 +17,7 @@ offer_to-requires-clause-there g c =
     let was = c.requires.stands in
     let found = (c.in-Some.ensures {u = tt}).found in
     let here = ap (λ (x : CatalogueState). slice_get x.rows c.in-Some.row) (sym c.catalogue.ensures) ∙ found.here in
-    memory_there c.args.self.now.store.catalogue.rows _ _ was.0.rows was.1.rows c.in-Some.row (slice_get_within c.args.self.now.store.catalogue.rows c.in-Some.row found.row here)
+    memory_there c.args.self.now.half.store.catalogue.rows _ _ was.0.rows was.1.rows c.in-Some.row (slice_get_within c.args.self.now.half.store.catalogue.rows c.in-Some.row found.row here)
 
 pub returns-in-None-clause-acted : goal.returns-in-None-clause-acted
 returns-in-None-clause-acted g c who =

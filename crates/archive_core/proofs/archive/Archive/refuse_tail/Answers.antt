@@ -7,7 +7,7 @@ use Rattle.archive_core.proofs.archive.Archive.refuse_tail.Goals as goal
 pub index-requires : goal.index-requires
 index-requires g c =
     let was = c.requires.stands in
-    let low : c.args.row < length c.args.self.now.rows.items = memory_there c.args.self.now.store.catalogue.rows _ _ was.0.rows was.1.rows c.args.row c.requires.row in
+    let low : c.args.row < length c.args.self.now.rows.items = memory_there c.args.self.now.half.store.catalogue.rows _ _ was.0.rows was.1.rows c.args.row c.requires.row in
     search rules
 
 pub last_of-requires-clause-known : goal.last_of-requires-clause-known

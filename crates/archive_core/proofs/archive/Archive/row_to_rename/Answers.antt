@@ -13,11 +13,11 @@ use Rattle.archive_core.proofs.archive.Archive.row_to_rename.Goals.{After-refuse
 use Rattle.archive_core.proofs.archive.Archive.row_to_rename.Goals as goal
 
 -- the row of the name is paused
-found : (g : _) (c : After-refuse_taken g) → IsFound c.args.self.now.store.catalogue.rows c.args.name.now (Some c.in_ok-row.row) × HasState c.args.self.now.store.catalogue.rows c.in_ok-row.row Paused
+found : (g : _) (c : After-refuse_taken g) → IsFound c.args.self.now.half.store.catalogue.rows c.args.name.now (Some c.in_ok-row.row) × HasState c.args.self.now.half.store.catalogue.rows c.in_ok-row.row Paused
 found g c = subst (λ (x : CatalogueState). IsFound x.rows c.args.name.now (Some c.in_ok-row.row) × HasState x.rows c.in_ok-row.row Paused) c.catalogue-catalogue.ensures c.in_ok-row.ensures.found
 
 -- and nothing refuses the new one
-free : (g : _) (c : After-refuse_tail g) (e : RegisterErr) → Refuses c.args.self.now.store.catalogue.rows c.args.newname.now e → ⊥
+free : (g : _) (c : After-refuse_tail g) (e : RegisterErr) → Refuses c.args.self.now.half.store.catalogue.rows c.args.newname.now e → ⊥
 free g c = subst (λ (x : CatalogueState). (e : RegisterErr) → Refuses x.rows c.args.newname.now e → ⊥) c.catalogue-catalogue.ensures c.in_ok-refuse_taken.ensures.free
 
 pub returns-in_err-row-clause-refused : goal.returns-in_err-row-clause-refused
@@ -34,7 +34,7 @@ returns-in_err-refuse_taken-clause-refused g c =
     (is_taken c.in_ok-row.row c.in_err-refuse_taken.field-0.0 is.0 is.1 (subst (λ (x : CatalogueState). Refuses x.rows c.args.newname.now c.in_err-refuse_taken.field-0.0) c.catalogue-catalogue.ensures c.in_err-refuse_taken.ensures.refuses))
 
 pub refuse_tail-requires-clause-row : goal.refuse_tail-requires-clause-row
-refuse_tail-requires-clause-row g c = let has = (found g (goal.at.refuse_tail-requires-clause-row g c).After-refuse_taken).1 in slice_get_within c.args.self.now.store.catalogue.rows c.in_ok-row.row has.row has.here
+refuse_tail-requires-clause-row g c = let has = (found g (goal.at.refuse_tail-requires-clause-row g c).After-refuse_taken).1 in slice_get_within c.args.self.now.half.store.catalogue.rows c.in_ok-row.row has.row has.here
 
 pub returns-in_err-refuse_tail-clause-refused : goal.returns-in_err-refuse_tail-clause-refused
 returns-in_err-refuse_tail-clause-refused g c =

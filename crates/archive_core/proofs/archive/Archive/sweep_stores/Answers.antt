@@ -11,7 +11,7 @@ use Rattle.act_model.specs.Sweep.{Sweeps}
 use Rattle.act_model.specs.declared.acts.Act.TheVariants.{Sweep}
 use Rattle.tier_store.proofs.Removals.{on_err}
 use Rattle.archive_core.specs.Acting.{Acted}
-use Rattle.archive_core.specs.Parts.{parts}
+use Rattle.archive_core.specs.Parts.{memory_in, parts}
 use Rattle.archive_core.specs.Sweeping.{sweep_reply}
 use Rattle.archive_core.specs.Written.{AreWritten}
 use Rattle.archive_core.proofs.Acting.{cut, spent_then}
@@ -32,7 +32,7 @@ pub written_names-requires : goal.written_names-requires
 written_names-requires g c =
     let was = c.requires.stands in
     let then = c.in_ok-settle.ensures.settled was.0 was.1 in
-    record { rests = (record then.0 { faults = (parts g.D.Disk c.settle.new.self).at.faults }, then.2) }
+    record { rests = (memory_in c.settle.new.self, record then.0 { faults = (parts g.D.Disk c.settle.new.self).at.faults }, then.2) }
 
 pub sweep-requires : goal.sweep-requires
 sweep-requires g c =

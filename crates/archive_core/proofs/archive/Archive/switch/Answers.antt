@@ -1,112 +1,44 @@
-use Rattle.std.proofs.Common.{◌≡◌, ◌<◌, length, Some, Ok, Err, Result, refl, sym, ◌∙◌, ap, subst, rules}
+use Rattle.std.proofs.Common.{◌<◌, length, Ok, Err, Result, refl, sym, ◌∙◌, ap, subst, rules}
 use Rattle.std.specs.Prelude.{slice_set}
-use Rattle.std.proofs.lemmas.Option.{slice_get_within}
-use Rattle.pb_messages.specs.declared.about.State.{State}
+use Rattle.std.proofs.lemmas.Option.{same_Some, slice_get_within}
+use Rattle.std.proofs.lemmas.Result.{err_from_is_err_and}
 use Rattle.disk_model.specs.declared.disk.DiskErr.{DiskErr}
-use Rattle.disk_model.specs.declared.disk.DiskErr.TheVariants.{Fault, Memory}
-use Rattle.pv_catalog.specs.declared.error.StateErr.{StateErr}
-use Rattle.pv_catalog.specs.declared.error.StateErr.TheVariants.{NotRunning, NotPaused, Disk}
-use Rattle.durable_write.specs.Ends.{end_of_switch}
-use Rattle.tier_store.specs.Change.{Changes}
-use Rattle.tier_store.specs.Frame.{Frame}
-use Rattle.tier_store.specs.Pinned.{beside}
-use Rattle.tier_store.specs.Seen.{seen}
 use Rattle.act_model.specs.Machine.{SetsState}
-use Rattle.archive_core.specs.Ends.{ChangesTo}
-use Rattle.archive_core.specs.Leaving.{files_of}
-use Rattle.archive_core.specs.Memory.{cleared}
-use Rattle.archive_core.specs.Parts.{Parts, parts}
-use Rattle.archive_core.specs.Switching.{switching, to_of}
-use Rattle.archive_core.specs.declared.memory.Doubt.TheVariants as kind
+use Rattle.archive_core.specs.Acting.{Changed}
+use Rattle.archive_core.specs.Memory.{ClearsRow, cleared}
+use Rattle.archive_core.specs.Parts.{InMemory, memory_in, parts, parts_beside}
+use Rattle.archive_core.specs.Switching.{to_of}
 use Rattle.archive_core.specs.declared.memory.RowMemory.{RowMemory}
-use Rattle.archive_core.proofs.Settled.{with_same, frame_with, rests_has}
-use Rattle.archive_core.proofs.Acting.{call_done, call_failed, call_spent, call_tidy, called}
 use Rattle.archive_core.proofs.KeptRows.{memory_there}
 use Rattle.archive_core.proofs.Lists.{read_at}
-use Rattle.archive_core.proofs.Switched.{makes_switch, switch_clears, switch_unrefused}
-use Rattle.archive_core.proofs.archive.Archive.switch.Goals.{After-switch_in}
+use Rattle.archive_core.proofs.archive.Archive.switch.Goals.{In_ok-switch}
 use Rattle.archive_core.proofs.archive.Archive.switch.Goals as goal
 
--- what the stores' call did, by what it answered
-told : (g : _) (c : After-switch_in g) (r : Result (Unit {0}) StateErr) → c.switch_in.result ≡ r → Changes g.D.Disk.tells (switching c.args.switch c.args.row) (seen g.D.Disk c.args.self.now.store) (seen g.D.Disk c.switch_in.new.store) (end_of_switch r)
-told g c r is = subst (λ (x : Result (Unit {0}) StateErr). Changes g.D.Disk.tells (switching c.args.switch c.args.row) (seen g.D.Disk c.args.self.now.store) (seen g.D.Disk c.switch_in.new.store) (end_of_switch x)) is c.switch_in.ensures.changes
+pub switch-requires-clause-rests : goal.switch-requires-clause-rests
+switch-requires-clause-rests g c = let was = c.requires.rests in (memory_in c.args.self.now, was.0, was.1)
 
--- what it left where limbo is as it was
-frame : (g : _) (c : After-switch_in g) → Frame g.D.Disk.tells (files_of (parts g.D.Disk c.args.self.now)) (beside (seen g.D.Disk c.switch_in.new.store) c.args.self.now.store.limbo.items)
-frame g c = frame_with g.D.Disk.tells (files_of (parts g.D.Disk c.args.self.now)) (seen g.D.Disk c.switch_in.new.store) c.switch_in.new.store.limbo.items c.args.self.now.store.limbo.items (ap (λ l. l.items) c.switch_in.ensures.limbo) c.switch_in.ensures.frame
+pub returns-in_err-switch : goal.returns-in_err-switch
+returns-in_err-switch g c =
+    let e = err_from_is_err_and c.from_residual.result c.from_residual.ensures.1 in
+    let w = memory_in c.args.self.now in
+    let left = parts_beside g.D.Disk c.switch.new.self w in
+    let Changes : Result (Unit {0}) DiskErr → Type 0 = Changed g.D.Disk.tells (SetsState c.args.row (to_of c.args.switch)) (parts g.D.Disk c.args.self.now) left in
+    subst Changes (sym (e.1 ∙ ap (λ (d : DiskErr). Err d) e.2)) (subst (λ (x : Result (Unit {0}) DiskErr). ClearsRow c.args.row w w x → Changes x) c.in_err-switch.was (c.switch.ensures w w) refl)
 
--- with the stores' limbo and pins
-with_all : (g : _) (c : After-switch_in g) (P : Parts → Type 0) (q : Parts) → q.limbo ≡ c.args.self.now.store.limbo.items → q.pinned ≡ c.args.self.now.store.pinned → P q → P (record q { limbo = c.switch_in.new.store.limbo.items; pinned = c.switch_in.new.store.pinned })
-with_all g c P q limbo pinned is = with_same P q c.switch_in.new.store.limbo.items c.switch_in.new.store.pinned (ap (λ l. l.items) c.switch_in.ensures.limbo ∙ sym limbo) (c.switch_in.ensures.pins ∙ sym pinned) is
-
-pub switch_in-requires : goal.switch_in-requires
-switch_in-requires g c =
+-- the row's memory is there
+low : (g : _) (c : In_ok-switch g) → c.args.row < length c.args.self.now.rows.items
+low g c =
     let was = c.requires.rests in
-    record { row = slice_get_within c.args.self.now.store.catalogue.rows c.args.row c.requires.state.row c.requires.state.here; has = (was.1.stands.store.before, rests_has g.D.Disk.tells (parts g.D.Disk c.args.self.now) was.0 was.1) }
+    memory_there c.args.self.now.half.store.catalogue.rows _ _ was.0.rows was.1.stands.rows c.args.row (slice_get_within c.args.self.now.half.store.catalogue.rows c.args.row c.requires.state.row c.requires.state.here)
 
 pub index_mut-requires : goal.index_mut-requires
-index_mut-requires g c =
-    let was = c.requires.rests in
-    let low : c.args.row < length c.args.self.now.rows.items = memory_there c.args.self.now.store.catalogue.rows _ _ was.0.rows was.1.stands.rows c.args.row (slice_get_within c.args.self.now.store.catalogue.rows c.args.row c.requires.state.row c.requires.state.here) in
-    search rules
+index_mut-requires g c = let there = low g (goal.at.index_mut-requires g c).In_ok-switch in search rules
 
-pub unreachable-requires : goal.unreachable-requires
-unreachable-requires g c =
-    let was = c.requires.rests in
-    switch_unrefused g.D.Disk.tells (parts g.D.Disk c.args.self.now) was.0 was.1 c.args.row c.args.switch c.requires.state (seen g.D.Disk c.switch_in.new.store) NotRunning (told g (goal.at.unreachable-requires g c).After-switch_in (Err NotRunning) (c.in-Err-NotRunning.is ∙ ap (λ (e : StateErr). Err e) c.in-Err-NotRunning.field-0-is))
-
-pub unreachable-requires-in-Err-NotPaused : goal.unreachable-requires-in-Err-NotPaused
-unreachable-requires-in-Err-NotPaused g c =
-    let was = c.requires.rests in
-    switch_unrefused g.D.Disk.tells (parts g.D.Disk c.args.self.now) was.0 was.1 c.args.row c.args.switch c.requires.state (seen g.D.Disk c.switch_in.new.store) NotPaused (told g (goal.at.unreachable-requires-in-Err-NotPaused g c).After-switch_in (Err NotPaused) (c.in-Err-NotPaused.is ∙ ap (λ (e : StateErr). Err e) c.in-Err-NotPaused.field-0-is))
-
-pub returns-in-Ok : goal.returns-in-Ok
-returns-in-Ok g c =
-    let a = (goal.at.returns-in-Ok g c).After-switch_in in
-    let p = parts g.D.Disk c.args.self.now in
-    let new = seen g.D.Disk c.switch_in.new.store in
-    let call = switching c.args.switch c.args.row in
-    let change = SetsState c.args.row (to_of c.args.switch) in
-    let done = told g a (Ok tt) c.in-Ok.is in
-    record {
-      changes = λ m r.
-          let low = memory_there c.args.self.now.store.catalogue.rows _ _ m.rows r.stands.rows c.args.row (slice_get_within c.args.self.now.store.catalogue.rows c.args.row c.requires.state.row c.requires.state.here) in
-          let there = read_at c.args.self.now.rows.items c.args.row c.index_mut.result.now c.index_mut.ensures.value low in
-          subst (λ (w : RowMemory). ChangesTo {A = Unit {0}} g.D.Disk.tells change p m (record p { at = new; limbo = c.switch_in.new.store.limbo.items; pinned = c.switch_in.new.store.pinned; kept = slice_set c.args.self.now.rows.items c.args.row w }) (Ok tt)) (sym c.clear.ensures)
-          (with_all g a (λ (q : Parts). ChangesTo {A = Unit {0}} g.D.Disk.tells change p m q (Ok tt)) (record p { at = new; kept = slice_set c.args.self.now.rows.items c.args.row (cleared c.index_mut.result.now) }) refl refl
-          (call_done g.D.Disk.tells call change (kind.State c.args.row (to_of c.args.switch)) p.kept p m r (makes_switch g.D.Disk.tells p m r c.args.row c.args.switch c.requires.state) (λ at after grow. grow) new (frame g a) tt (slice_set p.kept c.args.row (cleared c.index_mut.result.now)) p.tails
-          (switch_clears g.D.Disk.tells p m r c.args.row c.args.switch c.requires.state new tt c.index_mut.result.now there done) refl (called g.D.Disk.tells call p.at new r.stands.store.before (end_of_switch (Ok tt)) (rests_has g.D.Disk.tells p m r) done)));
-      fronts = c.switch_in.ensures.frame.fronts;
-      tidy = call_tidy g.D.Disk.tells p _ c.switch_in.result tt c.in-Ok.is refl c.switch_in.ensures.tidy;
-    }
-
-pub returns-in-Err-Disk-Fault : goal.returns-in-Err-Disk-Fault
-returns-in-Err-Disk-Fault g c =
-    let a = (goal.at.returns-in-Err-Disk-Fault g c).After-switch_in in
-    let p = parts g.D.Disk c.args.self.now in
-    let new = seen g.D.Disk c.switch_in.new.store in
-    let call = switching c.args.switch c.args.row in
-    let change = SetsState c.args.row (to_of c.args.switch) in
-    let failed = told g a (Err (Disk Fault)) (c.in-Err-Disk-Fault.is ∙ ap (λ (e : StateErr). Err e) (c.in-Err-Disk-Fault.field-0-is ∙ ap (λ (e : DiskErr). Disk e) c.in-Err-Disk-Fault.field-0-0-is)) in
-    record {
-      changes = λ m r. subst (λ (to : State). ChangesTo {A = Unit {0}} g.D.Disk.tells change p m (record p { at = new; limbo = c.switch_in.new.store.limbo.items; pinned = c.switch_in.new.store.pinned; doubt = Some (kind.State c.args.row to) }) (Err Fault)) (sym c.to-to.ensures)
-          (with_all g a (λ (q : Parts). ChangesTo {A = Unit {0}} g.D.Disk.tells change p m q (Err Fault)) (record p { at = new; doubt = Some (kind.State c.args.row (to_of c.args.switch)) }) refl refl
-          (call_failed g.D.Disk.tells call change (kind.State c.args.row (to_of c.args.switch)) p.kept p m r (makes_switch g.D.Disk.tells p m r c.args.row c.args.switch c.requires.state) (λ at after grow. grow) new (frame g a) (called g.D.Disk.tells call p.at new r.stands.store.before (end_of_switch (Err (Disk Fault))) (rests_has g.D.Disk.tells p m r) failed)));
-      fronts = c.switch_in.ensures.frame.fronts;
-      tidy = tt;
-    }
-
-pub returns-in-Err-Disk-Memory : goal.returns-in-Err-Disk-Memory
-returns-in-Err-Disk-Memory g c =
-    let a = (goal.at.returns-in-Err-Disk-Memory g c).After-switch_in in
-    let p = parts g.D.Disk c.args.self.now in
-    let new = seen g.D.Disk c.switch_in.new.store in
-    let call = switching c.args.switch c.args.row in
-    let change = SetsState c.args.row (to_of c.args.switch) in
-    let spent = told g a (Err (Disk Memory)) (c.in-Err-Disk-Memory.is ∙ ap (λ (e : StateErr). Err e) (c.in-Err-Disk-Memory.field-0-is ∙ ap (λ (e : DiskErr). Disk e) c.in-Err-Disk-Memory.field-0-0-is)) in
-    record {
-      changes = λ m r. with_all g a (λ (q : Parts). ChangesTo {A = Unit {0}} g.D.Disk.tells change p m q (Err Memory)) (record p { at = new }) refl refl
-          (call_spent g.D.Disk.tells call change (kind.State c.args.row (to_of c.args.switch)) p.kept p m r (makes_switch g.D.Disk.tells p m r c.args.row c.args.switch c.requires.state) (λ at after grow. grow) new (frame g a) (called g.D.Disk.tells call p.at new r.stands.store.before (end_of_switch (Err (Disk Memory))) (rests_has g.D.Disk.tells p m r) spent));
-      fronts = c.switch_in.ensures.frame.fronts;
-      tidy = tt;
-    }
+pub returns : goal.returns
+returns g c =
+    let w = memory_in c.args.self.now in
+    let after : InMemory = record w { kept = slice_set w.kept c.args.row c.clear.new.memory } in
+    let there = read_at w.kept c.args.row c.index_mut.result.now c.index_mut.ensures.value (low g (goal.at.returns g c).In_ok-switch) in
+    let clears : ClearsRow {A = Unit {0}} c.args.row w after (Ok tt) =
+    λ memory here. ap (λ (x : RowMemory). let cleared_one : InMemory = record w { kept = slice_set w.kept c.args.row x } in cleared_one) (c.clear.ensures ∙ ap cleared (same_Some c.index_mut.result.now memory (sym there ∙ here))) in
+    subst (λ (x : Result (Unit {0}) DiskErr). ClearsRow c.args.row w after x → Changed g.D.Disk.tells (SetsState c.args.row (to_of c.args.switch)) (parts g.D.Disk c.args.self.now) (parts_beside g.D.Disk c.switch.new.self after) x) c.in_ok-switch.was (c.switch.ensures w after) clears
