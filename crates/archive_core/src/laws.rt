@@ -25,7 +25,7 @@ ghost use Rattle.tier_store.specs.Moving.{GoesBeside, ListsAlso};
 ghost use Rattle.tier_store.specs.Pinned.{beside};
 ghost use Rattle.tier_store.specs.Retiring.{without_oldest};
 ghost use Rattle.tier_store.specs.Revival.{AreWhole, FlushesOver};
-ghost use Rattle.tier_store.specs.Seen.{seen_on, granularities};
+ghost use Rattle.tier_store.specs.Seen.{seen_by, granularities};
 ghost use Rattle.tier_store.specs.Stores.{Stores, list_at};
 ghost use Rattle.tier_store.specs.declared.limbo.Retired.{Retired};
 ghost use Rattle.act_model.specs.Changes.{made};
@@ -68,9 +68,8 @@ pub fn a_crash_leaves_what_is_durable<D: Disk>()
     ensures { (disk : D) (catalogue : CatalogueState) (ms : List ManifestState) (limbo : List Retired)
         (pinned : FinMap nat_cmp PinOf) (tails : List TailState) (kept : List RowMemory) (doubt : Option Doubt)
         (doors : ℕ) (config : ConfigState) (slots : List (Option (Running MoveState))) (m : Machine) (image : Files)
-        → IsTrue D.tells
-        → Stands D.tells (record {
-          at = seen_on D.files D.opened D.past D.faults catalogue ms disk;
+        → IsTrue D.tells → Stands D.tells (record {
+          at = seen_by D.Disk catalogue ms disk;
           limbo = limbo;
           pinned = pinned;
           tails = tails;
@@ -80,8 +79,7 @@ pub fn a_crash_leaves_what_is_durable<D: Disk>()
           config = config;
           slots = slots;
         }) m
-        → MayLeave (D.past disk) image
-        → LeavesBetween (granularities ms) m image }
+        → MayLeave (D.past disk) image → LeavesBetween (granularities ms) m image }
 {}
 
 /// What one who acts alone knows, a chain of archives each an act further than the one before, is a run of the
@@ -141,15 +139,12 @@ pub fn changes_are_the_machines()
 /// is durable of a machine whose limbo is theirs, they hold what is durable of the machine with the batch appended.
 pub fn a_flush_goes_on_in_limbo<D: Disk>()
     ensures { (disk : D) (catalogue later : CatalogueState) (ms ns : List ManifestState) (limbo : List Retired)
-        (files : List Filed) (limit : ℕ) (old new : Stores) (m : Machine)
-        → IsSound m → m.told ≡ (D.tells && old.stands)
-        → Has D.tells (seen_on D.files D.opened D.past D.faults catalogue ms disk) old → HoldsDurable old m
-        → IsLimboOf D.tells
-        (beside (seen_on D.files D.opened D.past D.faults catalogue ms disk) limbo) m.told m.rows m.limbo
-        → AreWhole 0 D.tells (seen_on D.files D.opened D.past D.faults catalogue ms disk) limbo old.stands files
-        → FlushesOver limbo files (batch_of limit m) old new
-        → IsKnown later ns new → granularities ns ≡ granularities ms
-        → HoldsDurable new (made [] (Appends (batch_of limit m)) m) }
+        (files : List Filed) (limit : ℕ) (old new : Stores) (m : Machine) → IsSound m → m.told ≡ (D.tells && old.stands)
+        → Has D.tells (seen_by D.Disk catalogue ms disk) old → HoldsDurable old m
+        → IsLimboOf D.tells (beside (seen_by D.Disk catalogue ms disk) limbo) m.told m.rows m.limbo
+        → AreWhole 0 D.tells (seen_by D.Disk catalogue ms disk) limbo old.stands files
+        → FlushesOver limbo files (batch_of limit m) old new → IsKnown later ns new
+        → granularities ns ≡ granularities ms → HoldsDurable new (made [] (Appends (batch_of limit m)) m) }
 {}
 
 /// Each change of the stores goes beside a running move, of any row, to store 2 or 3: a new row, a row's state, a new

@@ -31,6 +31,7 @@ use Rattle.durable_write.specs.Writing.{set_of, Behind, IsStoredAs, IsDoubtedAs}
 use Rattle.std.proofs.lemmas.Bool.{cases_lt}
 use Rattle.durable_write.specs.Three.{Anything, Beside}
 use Rattle.gate_journal.specs.Kept as journal
+use Rattle.gate_journal.specs.Standing.{Standing}
 use Rattle.std.proofs.lemmas.Bool.Decides.{nat_tests}
 use Rattle.durable_write.proofs.Places.{rise_filter}
 
@@ -70,15 +71,15 @@ all_follow g (p ∷ ps) entries parts =
 -- WHAT THE COMMIT LEAVES
 
 -- a commit of the manifest that is to list other files of the same rows, all of them safe
-pub record Lists (g : Granularity) (catalogue manifest : JournalState) (files later : Files) (opened after : Name → ℕ) (old new : Past) (held next : Held) : Type 0 where
-  pub stored : IsStored g catalogue manifest files opened old held
+pub record Lists (g : Granularity) (catalogue manifest : JournalState) (old new : Standing) (held next : Held) : Type 0 where
+  pub stored : IsStored g catalogue manifest old held
   pub same_shelf : shelf_of next ≡ shelf_of held
   pub same_stands : next.stands ≡ held.stands
   pub valid : AreHeld g next
-  pub safe : AreSafe next files opened old
-  pub passes : Passes (AtOwn (manifest_name held.store) (SaysEither (Folds g) (map entry_of held.files) (map entry_of next.files) (manifest_name held.store))) old new
-  pub elsewhere : (n : Name) → (IsOwn (manifest_name held.store) n → ⊥) → later n ≡ files n
-  pub fewer : (n : Name) → after n ≤ opened n
+  pub safe : AreSafe next old
+  pub passes : Passes (AtOwn (manifest_name held.store) (SaysEither (Folds g) (map entry_of held.files) (map entry_of next.files) (manifest_name held.store))) old.past new.past
+  pub elsewhere : (n : Name) → (IsOwn (manifest_name held.store) n → ⊥) → new.files n ≡ old.files n
+  pub fewer : (n : Name) → new.opened n ≤ old.opened n
 
 abbrev Step : Granularity → Held → Held → Files → Files → Type 0
 Step g held next = AtOwn (manifest_name held.store) (SaysEither (Folds g) (map entry_of held.files) (map entry_of next.files) (manifest_name held.store))
@@ -97,10 +98,10 @@ in_elsewhere g held next kept b c numbered step =
     own_stay kept (manifest_name held.store) (SaysEither (Folds g) (map entry_of held.files) (map entry_of next.files) (manifest_name held.store)) b c (journal_out kept.store (manifest_name held.store) numbered refl) step
 
 -- within the commit and behind it
-pub lists_either : (g : Granularity) (catalogue manifest : JournalState) (files later : Files) (opened after : Name → ℕ) (first old new : Past) (held next : Held) → Lists g catalogue manifest files later opened after old new held next
-    → Passes (HoldsEither g held next) first old → Passes (HoldsEither g held next) first new
-lists_either g catalogue manifest files later opened after first old new held next commit before = passes_then (HoldsEither g held next) (Step g held next) first old new before commit.passes (λ a b c was one now two.
-    let holds = stored_left g catalogue manifest files opened old held commit.stored b now in
+pub lists_either : (g : Granularity) (catalogue manifest : JournalState) (first : Past) (old new : Standing) (held next : Held) → Lists g catalogue manifest old new held next
+    → Passes (HoldsEither g held next) first old.past → Passes (HoldsEither g held next) first new.past
+lists_either g catalogue manifest first old new held next commit before = passes_then (HoldsEither g held next) (Step g held next) first old.past new.past before commit.passes (λ a b c was one now two.
+    let holds = stored_left g catalogue manifest old held commit.stored b now in
     let rows : Says IsCatalogue held.rows catalogue_name c = says_stays IsCatalogue held.rows catalogue_name b c (λ n own. two.elsewhere n (other_journal held.store n own)) holds.rows in
     elim two.here [
       | inl lists ↦ inl (record {
@@ -117,51 +118,51 @@ lists_either g catalogue manifest files later opened after first old new held ne
       })
     ])
 
-still_there : (g : Granularity) (held next kept : Held) (numbered : 1 ≤ kept.store) (files later : Files) (opened after : Name → ℕ) (old new : Past) → Passes (Step g held next) old new → ((n : Name) → (IsOwn (manifest_name held.store) n → ⊥) → later n ≡ files n) → ((n : Name) → after n ≤ opened n)
-    → AreSafe kept files opened old → AreSafe kept later after new
-still_there g held next kept numbered files later opened after old new passes elsewhere fewer safe =
-    safe_stays kept (Step g held next) files later opened after old new safe passes (λ a c step. in_elsewhere g held next kept a c numbered step) (own_long kept (manifest_name held.store) files later (journal_out kept.store (manifest_name held.store) numbered refl) elsewhere safe.long) fewer
+still_there : (g : Granularity) (held next kept : Held) (numbered : 1 ≤ kept.store) (old new : Standing) → Passes (Step g held next) old.past new.past → ((n : Name) → (IsOwn (manifest_name held.store) n → ⊥) → new.files n ≡ old.files n) → ((n : Name) → new.opened n ≤ old.opened n)
+    → AreSafe kept old → AreSafe kept new
+still_there g held next kept numbered old new passes elsewhere fewer safe =
+    safe_stays kept (Step g held next) old new safe passes (λ a c step. in_elsewhere g held next kept a c numbered step) (own_long kept (manifest_name held.store) old.files new.files (journal_out kept.store (manifest_name held.store) numbered refl) elsewhere safe.long) fewer
 
-catalogue_still : (g : Granularity) (catalogue manifest : JournalState) (files later : Files) (opened after : Name → ℕ) (old new : Past) (held next : Held) → Lists g catalogue manifest files later opened after old new held next → CatalogueStored catalogue later after new held.rows
-catalogue_still g catalogue manifest files later opened after old new held next commit =
+catalogue_still : (g : Granularity) (catalogue manifest : JournalState) (old new : Standing) (held next : Held) → Lists g catalogue manifest old new held next → CatalogueStored catalogue new held.rows
+catalogue_still g catalogue manifest old new held next commit =
     let other = λ (n : Name) (own : IsOwn catalogue.name n). other_journal held.store n (subst (λ (m : Name). IsOwn m n) commit.stored.rows.named own) in
-    catalogue_stays (Step g held next) catalogue files later opened after old new commit.passes (record { step = λ a c step n own. step.elsewhere n (other n own); same = λ n own. commit.elsewhere n (other n own); fewer = λ n own. commit.fewer n }) held.rows
+    catalogue_stays (Step g held next) catalogue old new commit.passes (record { step = λ a c step n own. step.elsewhere n (other n own); same = λ n own. commit.elsewhere n (other n own); fewer = λ n own. commit.fewer n }) held.rows
     commit.stored.rows
 
-pub lists_stored : (g : Granularity) (catalogue manifest listing : JournalState) (files later : Files) (opened after : Name → ℕ) (old new : Past) (held next : Held) → Lists g catalogue manifest files later opened after old new held next
-    → listing.name ≡ manifest_name held.store → listing.sound ≡ true → IsKept (Configured g) listing later after new (map entry_of next.files) → IsStored g catalogue listing later after new next
-lists_stored g catalogue manifest listing files later opened after old new held next commit is sound kept = record {
-  rows = subst (λ (s : Shelf). CatalogueStored catalogue later after new s.1) (sym commit.same_shelf) (catalogue_still g catalogue manifest files later opened after old new held next commit);
-  tier = record { named = is ∙ ap (λ (s : Shelf). manifest_name s.0) (sym commit.same_shelf); sound = sound; kept = kept; valid = commit.valid; safe = still_there g held next next commit.valid.filed.numbered files later opened after old new commit.passes commit.elsewhere commit.fewer commit.safe };
+pub lists_stored : (g : Granularity) (catalogue manifest listing : JournalState) (old new : Standing) (held next : Held) → Lists g catalogue manifest old new held next
+    → listing.name ≡ manifest_name held.store → listing.sound ≡ true → IsKept (Configured g) listing new (map entry_of next.files) → IsStored g catalogue listing new next
+lists_stored g catalogue manifest listing old new held next commit is sound kept = record {
+  rows = subst (λ (s : Shelf). CatalogueStored catalogue new s.1) (sym commit.same_shelf) (catalogue_still g catalogue manifest old new held next commit);
+  tier = record { named = is ∙ ap (λ (s : Shelf). manifest_name s.0) (sym commit.same_shelf); sound = sound; kept = kept; valid = commit.valid; safe = still_there g held next next commit.valid.filed.numbered old new commit.passes commit.elsewhere commit.fewer commit.safe };
 }
 
 -- nothing was listed, and the manifest lists what it listed
-pub lists_unmade : (g : Granularity) (catalogue manifest listing : JournalState) (files later : Files) (opened after : Name → ℕ) (old new : Past) (held next : Held) → Lists g catalogue manifest files later opened after old new held next
-    → listing.name ≡ manifest_name held.store → listing.sound ≡ true → IsKept (Configured g) listing later after new (map entry_of held.files) → IsStored g catalogue listing later after new held
-lists_unmade g catalogue manifest listing files later opened after old new held next commit is sound kept = record {
-  rows = catalogue_still g catalogue manifest files later opened after old new held next commit;
+pub lists_unmade : (g : Granularity) (catalogue manifest listing : JournalState) (old new : Standing) (held next : Held) → Lists g catalogue manifest old new held next
+    → listing.name ≡ manifest_name held.store → listing.sound ≡ true → IsKept (Configured g) listing new (map entry_of held.files) → IsStored g catalogue listing new held
+lists_unmade g catalogue manifest listing old new held next commit is sound kept = record {
+  rows = catalogue_still g catalogue manifest old new held next commit;
   tier = record {
     named = is;
     sound = sound;
     kept = kept;
     valid = commit.stored.tier.valid;
-    safe = still_there g held next held commit.stored.tier.valid.filed.numbered files later opened after old new commit.passes commit.elsewhere commit.fewer commit.stored.tier.safe;
+    safe = still_there g held next held commit.stored.tier.valid.filed.numbered old new commit.passes commit.elsewhere commit.fewer commit.stored.tier.safe;
   };
 }
 
-pub lists_in_doubt : (g : Granularity) (catalogue manifest listing : JournalState) (files later : Files) (opened after : Name → ℕ) (old new : Past) (held next : Held) → Lists g catalogue manifest files later opened after old new held next
-    → listing.name ≡ manifest_name held.store → listing.sound ≡ false → IsUnsure (Configured g) listing later after new (map entry_of held.files) (map entry_of next.files) → IsInDoubt g catalogue listing later after new held next
-lists_in_doubt g catalogue manifest listing files later opened after old new held next commit is unsound unsure = record {
+pub lists_in_doubt : (g : Granularity) (catalogue manifest listing : JournalState) (old new : Standing) (held next : Held) → Lists g catalogue manifest old new held next
+    → listing.name ≡ manifest_name held.store → listing.sound ≡ false → IsUnsure (Configured g) listing new (map entry_of held.files) (map entry_of next.files) → IsInDoubt g catalogue listing new held next
+lists_in_doubt g catalogue manifest listing old new held next commit is unsound unsure = record {
   doubt = inr (record {
-    rows = catalogue_still g catalogue manifest files later opened after old new held next commit;
+    rows = catalogue_still g catalogue manifest old new held next commit;
     tier = record {
       named = is;
       unsound = unsound;
       unsure = unsure;
       valid = commit.stored.tier.valid;
       valid_after = commit.valid;
-      safe = still_there g held next held commit.stored.tier.valid.filed.numbered files later opened after old new commit.passes commit.elsewhere commit.fewer commit.stored.tier.safe;
-      safe_after = still_there g held next next commit.valid.filed.numbered files later opened after old new commit.passes commit.elsewhere commit.fewer commit.safe;
+      safe = still_there g held next held commit.stored.tier.valid.filed.numbered old new commit.passes commit.elsewhere commit.fewer commit.stored.tier.safe;
+      safe_after = still_there g held next next commit.valid.filed.numbered old new commit.passes commit.elsewhere commit.fewer commit.safe;
     };
     same = commit.same_shelf;
   });
@@ -170,56 +171,56 @@ lists_in_doubt g catalogue manifest listing files later opened after old new hel
 
 -- One commit that lists other files.
 
-pub relists : (catalogue : JournalState) (m : ManifestState) (rows : Shelf) (files later : Files) (opened after : Name → ℕ) (old new : Past) (held next : Held) (changes : List Change) → CanRelist catalogue m rows files opened old held next changes
-    → Passes (AtOwn m.journal.name (journal.SaysEither (Folds m.granularity) m.entries (all_changed m.entries changes) m.journal.name)) old new → ((n : Name) → (IsOwn m.journal.name n → ⊥) → later n ≡ files n) → ((n : Name) → after n ≤ opened n) → Lists m.granularity catalogue m.journal files later opened after old new held next
-relists catalogue m rows files later opened after old new held next changes can passes others fewer = record {
+pub relists : (catalogue : JournalState) (m : ManifestState) (rows : Shelf) (old new : Standing) (held next : Held) (changes : List Change) → CanRelist catalogue m rows old held next changes
+    → Passes (AtOwn m.journal.name (journal.SaysEither (Folds m.granularity) m.entries (all_changed m.entries changes) m.journal.name)) old.past new.past → ((n : Name) → (IsOwn m.journal.name n → ⊥) → new.files n ≡ old.files n) → ((n : Name) → new.opened n ≤ old.opened n) → Lists m.granularity catalogue m.journal old new held next
+relists catalogue m rows old new held next changes can passes others fewer = record {
   stored = can.stored.stored;
   same_shelf = can.same_shelf;
   same_stands = can.same_stands;
   valid = can.valid;
   safe = can.safe;
   passes =
-      let named = subst (λ (n : Name). Passes (AtOwn n (journal.SaysEither (Folds m.granularity) m.entries (all_changed m.entries changes) n)) old new) can.stored.stored.tier.named passes in
-      let both = subst (λ (es : List Entry). Passes (AtOwn (manifest_name held.store) (journal.SaysEither (Folds m.granularity) m.entries es (manifest_name held.store))) old new) can.lists named in
-      subst (λ (es : List Entry). Passes (AtOwn (manifest_name held.store) (journal.SaysEither (Folds m.granularity) es (map entry_of next.files) (manifest_name held.store))) old new) can.stored.entries both;
+      let named = subst (λ (n : Name). Passes (AtOwn n (journal.SaysEither (Folds m.granularity) m.entries (all_changed m.entries changes) n)) old.past new.past) can.stored.stored.tier.named passes in
+      let both = subst (λ (es : List Entry). Passes (AtOwn (manifest_name held.store) (journal.SaysEither (Folds m.granularity) m.entries es (manifest_name held.store))) old.past new.past) can.lists named in
+      subst (λ (es : List Entry). Passes (AtOwn (manifest_name held.store) (journal.SaysEither (Folds m.granularity) es (map entry_of next.files) (manifest_name held.store))) old.past new.past) can.stored.entries both;
   elsewhere = λ n other. others n (λ own. other (subst (λ (m : Name). IsOwn m n) can.stored.stored.tier.named own));
   fewer = fewer;
 }
 
-pub relist_moment : (catalogue : JournalState) (m : ManifestState) (rows : Shelf) (files later : Files) (opened after : Name → ℕ) (old new : Past) (held next : Held) (changes : List Change) → CanRelist catalogue m rows files opened old held next changes
-    → Lists m.granularity catalogue m.journal files later opened after old new held next → Passes (HoldsEither m.granularity held next) old new
-relist_moment catalogue m rows files later opened after old new held next changes can commit =
-    lists_either m.granularity catalogue m.journal files later opened after old old new held next commit (passes_none (HoldsEither m.granularity held next) old (λ a left. inl (stored_left m.granularity catalogue m.journal files opened old held can.stored.stored a left)))
+pub relist_moment : (catalogue : JournalState) (m : ManifestState) (rows : Shelf) (old new : Standing) (held next : Held) (changes : List Change) → CanRelist catalogue m rows old held next changes
+    → Lists m.granularity catalogue m.journal old new held next → Passes (HoldsEither m.granularity held next) old.past new.past
+relist_moment catalogue m rows old new held next changes can commit =
+    lists_either m.granularity catalogue m.journal old.past old new held next commit (passes_none (HoldsEither m.granularity held next) old.past (λ a left. inl (stored_left m.granularity catalogue m.journal old held can.stored.stored a left)))
 
-pub relist_made : (catalogue : JournalState) (m made : ManifestState) (rows : Shelf) (files later : Files) (opened after : Name → ℕ) (old new : Past) (held next : Held) (changes : List Change) → CanRelist catalogue m rows files opened old held next changes
-    → Lists m.granularity catalogue m.journal files later opened after old new held next → made.granularity ≡ m.granularity → made.journal.name ≡ m.journal.name → made.journal.sound ≡ true → made.entries ≡ all_changed m.entries changes → IsManifestKept made later after new → IsStoredAs catalogue made rows later after new next
-relist_made catalogue m made rows files later opened after old new held next changes can commit same_g name sound entries kept =
+pub relist_made : (catalogue : JournalState) (m made : ManifestState) (rows : Shelf) (old new : Standing) (held next : Held) (changes : List Change) → CanRelist catalogue m rows old held next changes
+    → Lists m.granularity catalogue m.journal old new held next → made.granularity ≡ m.granularity → made.journal.name ≡ m.journal.name → made.journal.sound ≡ true → made.entries ≡ all_changed m.entries changes → IsManifestKept made new → IsStoredAs catalogue made rows new next
+relist_made catalogue m made rows old new held next changes can commit same_g name sound entries kept =
     let now : made.entries ≡ map entry_of next.files = entries ∙ can.lists in
-    let k = subst (λ (g : Granularity). journal.IsKept (Configured g) made.journal later after new made.entries) same_g kept in
-    let stored = lists_stored m.granularity catalogue m.journal made.journal files later opened after old new held next commit (name ∙ can.stored.stored.tier.named) sound (subst (journal.IsKept (Configured m.granularity) made.journal later after new) now k) in
-    record { stored = subst (λ (g : Granularity). IsStored g catalogue made.journal later after new next) (sym same_g) stored; of_rows = can.same_shelf ∙ can.stored.of_rows; entries = now }
+    let k = subst (λ (g : Granularity). journal.IsKept (Configured g) made.journal new made.entries) same_g kept in
+    let stored = lists_stored m.granularity catalogue m.journal made.journal old new held next commit (name ∙ can.stored.stored.tier.named) sound (subst (journal.IsKept (Configured m.granularity) made.journal new) now k) in
+    record { stored = subst (λ (g : Granularity). IsStored g catalogue made.journal new next) (sym same_g) stored; of_rows = can.same_shelf ∙ can.stored.of_rows; entries = now }
 
 -- the commit took no effect
-pub relist_unmade : (catalogue : JournalState) (m made : ManifestState) (rows : Shelf) (files later : Files) (opened after : Name → ℕ) (old new : Past) (held next : Held) (changes : List Change) → CanRelist catalogue m rows files opened old held next changes
-    → Lists m.granularity catalogue m.journal files later opened after old new held next → made.granularity ≡ m.granularity → made.journal.name ≡ m.journal.name → made.journal.sound ≡ true → made.entries ≡ m.entries → IsManifestKept made later after new → IsStoredAs catalogue made rows later after new held
-relist_unmade catalogue m made rows files later opened after old new held next changes can commit same_g name sound entries kept =
+pub relist_unmade : (catalogue : JournalState) (m made : ManifestState) (rows : Shelf) (old new : Standing) (held next : Held) (changes : List Change) → CanRelist catalogue m rows old held next changes
+    → Lists m.granularity catalogue m.journal old new held next → made.granularity ≡ m.granularity → made.journal.name ≡ m.journal.name → made.journal.sound ≡ true → made.entries ≡ m.entries → IsManifestKept made new → IsStoredAs catalogue made rows new held
+relist_unmade catalogue m made rows old new held next changes can commit same_g name sound entries kept =
     let now : made.entries ≡ map entry_of held.files = entries ∙ can.stored.entries in
-    let k = subst (λ (g : Granularity). journal.IsKept (Configured g) made.journal later after new made.entries) same_g kept in
-    let stored = lists_unmade m.granularity catalogue m.journal made.journal files later opened after old new held next commit (name ∙ can.stored.stored.tier.named) sound (subst (journal.IsKept (Configured m.granularity) made.journal later after new) now k) in
-    record { stored = subst (λ (g : Granularity). IsStored g catalogue made.journal later after new held) (sym same_g) stored; of_rows = can.stored.of_rows; entries = now }
+    let k = subst (λ (g : Granularity). journal.IsKept (Configured g) made.journal new made.entries) same_g kept in
+    let stored = lists_unmade m.granularity catalogue m.journal made.journal old new held next commit (name ∙ can.stored.stored.tier.named) sound (subst (journal.IsKept (Configured m.granularity) made.journal new) now k) in
+    record { stored = subst (λ (g : Granularity). IsStored g catalogue made.journal new held) (sym same_g) stored; of_rows = can.stored.of_rows; entries = now }
 
-pub relist_doubted : (catalogue : JournalState) (m made : ManifestState) (rows : Shelf) (files later : Files) (opened after : Name → ℕ) (old new : Past) (held next : Held) (changes : List Change) → CanRelist catalogue m rows files opened old held next changes
-    → Lists m.granularity catalogue m.journal files later opened after old new held next → made.granularity ≡ m.granularity → made.journal.name ≡ m.journal.name → made.journal.sound ≡ false → (made.entries ≡ m.entries) × (made.next ≡ all_changed m.entries changes) → IsManifestUnsure made later after new
-    → IsDoubtedAs catalogue made rows later after new held next
-relist_doubted catalogue m made rows files later opened after old new held next changes can commit same_g name unsound entries unsure =
+pub relist_doubted : (catalogue : JournalState) (m made : ManifestState) (rows : Shelf) (old new : Standing) (held next : Held) (changes : List Change) → CanRelist catalogue m rows old held next changes
+    → Lists m.granularity catalogue m.journal old new held next → made.granularity ≡ m.granularity → made.journal.name ≡ m.journal.name → made.journal.sound ≡ false → (made.entries ≡ m.entries) × (made.next ≡ all_changed m.entries changes) → IsManifestUnsure made new
+    → IsDoubtedAs catalogue made rows new held next
+relist_doubted catalogue m made rows old new held next changes can commit same_g name unsound entries unsure =
     let now : made.entries ≡ map entry_of held.files = entries.0 ∙ can.stored.entries in
     let then : made.next ≡ map entry_of next.files = entries.1 ∙ can.lists in
-    let a = subst (λ (g : Granularity). journal.IsUnsure (Configured g) made.journal later after new made.entries made.next) same_g unsure in
-    let b = subst (λ (es : List Entry). journal.IsUnsure (Configured m.granularity) made.journal later after new es made.next) now a in
-    let c = subst (λ (es : List Entry). journal.IsUnsure (Configured m.granularity) made.journal later after new (map entry_of held.files) es) then b in
-    let doubt = lists_in_doubt m.granularity catalogue m.journal made.journal files later opened after old new held next commit (name ∙ can.stored.stored.tier.named) unsound c in
+    let a = subst (λ (g : Granularity). journal.IsUnsure (Configured g) made.journal new made.entries made.next) same_g unsure in
+    let b = subst (λ (es : List Entry). journal.IsUnsure (Configured m.granularity) made.journal new es made.next) now a in
+    let c = subst (λ (es : List Entry). journal.IsUnsure (Configured m.granularity) made.journal new (map entry_of held.files) es) then b in
+    let doubt = lists_in_doubt m.granularity catalogue m.journal made.journal old new held next commit (name ∙ can.stored.stored.tier.named) unsound c in
     record {
-      in_doubt = subst (λ (g : Granularity). IsInDoubt g catalogue made.journal later after new held next) (sym same_g) doubt;
+      in_doubt = subst (λ (g : Granularity). IsInDoubt g catalogue made.journal new held next) (sym same_g) doubt;
       of_rows = (can.stored.of_rows, can.same_shelf ∙ can.stored.of_rows);
       entries = (now, then);
     }
@@ -234,13 +235,13 @@ none_further name opened after others own n = elim (cases_lt (opened n) (after n
 ]
 
 -- whatever a commit of the manifest answers
-pub made_further : (made : ManifestState) (name : Name) (files : Files) (opened after : Name → ℕ) (past : Past) → made.journal.name ≡ name → ((n : Name) → (IsOwn name n → ⊥) → after n ≡ opened n) → IsManifestKept made files after past → (n : Name) → after n ≤ opened n
-made_further made name files opened after past is others kept =
-    none_further name opened after others (λ n own. kept_unopened (Configured made.granularity) made.journal files after past made.entries kept n (subst (λ (m : Name). IsOwn m n) (sym is) own))
+pub made_further : (made : ManifestState) (name : Name) (disk : Standing) (opened : Name → ℕ) → made.journal.name ≡ name → ((n : Name) → (IsOwn name n → ⊥) → disk.opened n ≡ opened n) → IsManifestKept made disk → (n : Name) → disk.opened n ≤ opened n
+made_further made name disk opened is others kept =
+    none_further name opened disk.opened others (λ n own. kept_unopened (Configured made.granularity) made.journal disk made.entries kept n (subst (λ (m : Name). IsOwn m n) (sym is) own))
 
-pub unsure_further : (made : ManifestState) (name : Name) (files : Files) (opened after : Name → ℕ) (past : Past) → made.journal.name ≡ name → ((n : Name) → (IsOwn name n → ⊥) → after n ≡ opened n) → IsManifestUnsure made files after past → (n : Name) → after n ≤ opened n
-unsure_further made name files opened after past is others unsure =
-    none_further name opened after others (λ n own. unsure_unopened (Configured made.granularity) made.journal files after past made.entries made.next unsure n (subst (λ (m : Name). IsOwn m n) (sym is) own))
+pub unsure_further : (made : ManifestState) (name : Name) (disk : Standing) (opened : Name → ℕ) → made.journal.name ≡ name → ((n : Name) → (IsOwn name n → ⊥) → disk.opened n ≡ opened n) → IsManifestUnsure made disk → (n : Name) → disk.opened n ≤ opened n
+unsure_further made name disk opened is others unsure =
+    none_further name opened disk.opened others (λ n own. unsure_unopened (Configured made.granularity) made.journal disk made.entries made.next unsure n (subst (λ (m : Name). IsOwn m n) (sym is) own))
 
 -- THE FLUSH
 
@@ -301,9 +302,9 @@ rise_without_all files [] rise = rise
 rise_without_all files (f ∷ fs) rise = rise_without_all (without filed_at (filed_at f) files) fs (rise_without (filed_at f) files rise)
 
 -- and what a move has copied may be listed
-pub can_publish : (catalogue : JournalState) (m : ManifestState) (rows : Shelf) (files : Files) (opened : Name → ℕ) (past : Past) (held ahead : Held) (changes : List Change) → HasCopied catalogue m rows files opened past held ahead → all_changed m.entries changes ≡ map entry_of ahead.files
-    → CanRelist catalogue m rows files opened past held ahead changes
-can_publish catalogue m rows files opened past held ahead changes has lists = record {
+pub can_publish : (catalogue : JournalState) (m : ManifestState) (rows : Shelf) (disk : Standing) (held ahead : Held) (changes : List Change) → HasCopied catalogue m rows disk held ahead → all_changed m.entries changes ≡ map entry_of ahead.files
+    → CanRelist catalogue m rows disk held ahead changes
+can_publish catalogue m rows disk held ahead changes has lists = record {
   stored = has.stored;
   same_shelf = has.leads.same_shelf;
   same_stands = has.leads.same_stands;

@@ -24,6 +24,7 @@ use Rattle.store_files.proofs.Stays.{keeps_shorter}
 use Rattle.store_manifest.specs.Entries.{Place}
 use Rattle.std.specs.Prelude.{All, Contains, slice_set, IsTrue}
 use Rattle.gate_journal.specs.Kept.{Says}
+use Rattle.gate_journal.specs.Standing.{Standing}
 use Rattle.durable_write.specs.Three.{Anything}
 use Rattle.gate_journal.proofs.Keeping.{kept_stays, unsure_stays, kept_left, says_stays, one_value}
 use Rattle.std.proofs.lemmas.Bool.{cases_eq, cases_lt}
@@ -106,35 +107,35 @@ pub record Untouched (R : Files → Files → Type 0) (journal : JournalState) (
   pub same : (n : Name) → IsOwn journal.name n → later n ≡ files n
   pub fewer : (n : Name) → IsOwn journal.name n → after n ≤ opened n
 
-module _ (R : Files → Files → Type 0) (journal : JournalState) (files later : Files) (opened after : Name → ℕ) (old new : Past) (passes : Passes R old new) (beside : Untouched R journal files later opened after) where
-  pub catalogue_stays : (rows : List Row) → CatalogueStored journal files opened old rows → CatalogueStored journal later after new rows
+module _ (R : Files → Files → Type 0) (journal : JournalState) (old new : Standing) (passes : Passes R old.past new.past) (beside : Untouched R journal old.files new.files old.opened new.opened) where
+  pub catalogue_stays : (rows : List Row) → CatalogueStored journal old rows → CatalogueStored journal new rows
   catalogue_stays rows stored = record {
     named = stored.named;
     sound = stored.sound;
-    kept = kept_stays IsCatalogue journal files opened old later after new R passes beside.step beside.same beside.fewer rows stored.kept;
+    kept = kept_stays IsCatalogue journal old new R passes beside.step beside.same beside.fewer rows stored.kept;
   }
 
-  pub catalogue_unsure_stays : (one other : List Row) → CatalogueUnsure journal files opened old one other → CatalogueUnsure journal later after new one other
+  pub catalogue_unsure_stays : (one other : List Row) → CatalogueUnsure journal old one other → CatalogueUnsure journal new one other
   catalogue_unsure_stays one other d = record {
     named = d.named;
     unsound = d.unsound;
-    unsure = unsure_stays IsCatalogue journal files opened old later after new R passes beside.step beside.same beside.fewer one other d.unsure;
+    unsure = unsure_stays IsCatalogue journal old new R passes beside.step beside.same beside.fewer one other d.unsure;
   }
 
-  pub tier_stays : (g : Granularity) (held : Held) → TierStored g journal files opened old held → AreSafe held later after new → TierStored g journal later after new held
+  pub tier_stays : (g : Granularity) (held : Held) → TierStored g journal old held → AreSafe held new → TierStored g journal new held
   tier_stays g held tier safe = record {
     named = tier.named;
     sound = tier.sound;
-    kept = kept_stays (Configured g) journal files opened old later after new R passes beside.step beside.same beside.fewer (map entry_of held.files) tier.kept;
+    kept = kept_stays (Configured g) journal old new R passes beside.step beside.same beside.fewer (map entry_of held.files) tier.kept;
     valid = tier.valid;
     safe = safe;
   }
 
-  pub tier_unsure_stays : (g : Granularity) (one other : Held) → TierUnsure g journal files opened old one other → AreSafe one later after new → AreSafe other later after new → TierUnsure g journal later after new one other
+  pub tier_unsure_stays : (g : Granularity) (one other : Held) → TierUnsure g journal old one other → AreSafe one new → AreSafe other new → TierUnsure g journal new one other
   tier_unsure_stays g one other d safe safe_after = record {
     named = d.named;
     unsound = d.unsound;
-    unsure = unsure_stays (Configured g) journal files opened old later after new R passes beside.step beside.same beside.fewer (map entry_of one.files) (map entry_of other.files) d.unsure;
+    unsure = unsure_stays (Configured g) journal old new R passes beside.step beside.same beside.fewer (map entry_of one.files) (map entry_of other.files) d.unsure;
     valid = d.valid;
     valid_after = d.valid_after;
     safe = safe;
@@ -192,14 +193,14 @@ in_grows g held later image keeps filed all stands k d lt =
     let f : Filed = get_or held.files k d in
     subst (λ (n : Name). Begins (bytes_of f) (image n)) (sym (file_grows g held.store held.rows later f keeps (filed.listed k d lt))) (all stands k d lt)
 
-pub safe_grows : (g : Granularity) (held : Held) (later : List Row) (files : Files) (opened : Name → ℕ) (past : Past) → KeepsRows held.rows later → AreFiled g held → AreSafe held files opened past → AreSafe (with_rows held later) files opened past
-safe_grows g held later files opened past keeps filed safe = record {
+pub safe_grows : (g : Granularity) (held : Held) (later : List Row) (disk : Standing) → KeepsRows held.rows later → AreFiled g held → AreSafe held disk → AreSafe (with_rows held later) disk
+safe_grows g held later disk keeps filed safe = record {
   long = λ k d lt.
       let f : Filed = get_or held.files k d in
-      subst (λ (n : Name). HasFile files n (λ b. f.entry.len ≤ length b)) (sym (file_grows g held.store held.rows later f keeps (filed.listed k d lt))) (safe.long k d lt);
+      subst (λ (n : Name). HasFile disk.files n (λ b. f.entry.len ≤ length b)) (sym (file_grows g held.store held.rows later f keeps (filed.listed k d lt))) (safe.long k d lt);
   unopened = λ k d lt.
       let f : Filed = get_or held.files k d in
-      subst (λ (n : Name). opened n ≤ f.entry.len) (sym (file_grows g held.store held.rows later f keeps (filed.listed k d lt))) (safe.unopened k d lt);
+      subst (λ (n : Name). disk.opened n ≤ f.entry.len) (sym (file_grows g held.store held.rows later f keeps (filed.listed k d lt))) (safe.unopened k d lt);
   left = λ image left. in_grows g held later image keeps filed (safe.left image left);
 }
 
@@ -367,27 +368,27 @@ pub still_unopened : (held : Held) (opened after : Name → ℕ) → ((n : Name)
 still_unopened held opened after fewer was k d lt = let le = was k d lt in omega (arith, le, fewer (file_of (shelf_of held) (get_or held.files k d).entry))
 
 -- calls that keep a relation between images keep files safe where it keeps them there
-pub safe_stays : (held : Held) (R : Files → Files → Type 0) (files later : Files) (opened after : Name → ℕ) (old new : Past) → AreSafe held files opened old → Passes R old new
-    → ((a c : Files) → R a c → AreIn held a → AreIn held c) → AreLong held later → ((n : Name) → after n ≤ opened n) → AreSafe held later after new
-safe_stays held R files later opened after old new safe passes stays long fewer = record {
+pub safe_stays : (held : Held) (R : Files → Files → Type 0) (old new : Standing) → AreSafe held old → Passes R old.past new.past
+    → ((a c : Files) → R a c → AreIn held a → AreIn held c) → AreLong held new.files → ((n : Name) → new.opened n ≤ old.opened n) → AreSafe held new
+safe_stays held R old new safe passes stays long fewer = record {
   long = long;
-  unopened = still_unopened held opened after fewer safe.unopened;
+  unopened = still_unopened held old.opened new.opened fewer safe.unopened;
   left = λ image left.
-      let come = passes.each new.now image passes.later (omega arith) left in stays come.0 image come.2 (safe.left come.0 come.1);
+      let come = passes.each new.past.now image passes.later (omega arith) left in stays come.0 image come.2 (safe.left come.0 come.1);
 }
 
-pub still_safe : (g : Granularity) (rows : Shelf) (files later : Files) (opened after : Name → ℕ) (old new : Past) (held : Held) → IsSafe g rows files opened old held → Passes (Behind held) old new → AreLong held later → ((n : Name) → after n ≤ opened n) → IsSafe g rows later after new held
-still_safe g rows files later opened after old new held safe passes long fewer = record {
+pub still_safe : (g : Granularity) (rows : Shelf) (old new : Standing) (held : Held) → IsSafe g rows old held → Passes (Behind held) old.past new.past → AreLong held new.files → ((n : Name) → new.opened n ≤ old.opened n) → IsSafe g rows new held
+still_safe g rows old new held safe passes long fewer = record {
   of_rows = safe.of_rows;
   valid = safe.valid;
-  safe = safe_stays held (Behind held) files later opened after old new safe.safe passes (λ a c step. step.stays) long fewer;
+  safe = safe_stays held (Behind held) old new safe.safe passes (λ a c step. step.stays) long fewer;
 }
 
 -- files that are safe, and others beside them
-pub safe_both : (held : Held) (fs : List Filed) (files : Files) (opened : Name → ℕ) (past : Past) → AreSafe held files opened past → AreSafe (having held fs) files opened past → AreSafe (with_files held fs) files opened past
-safe_both held fs files opened past one other = record {
-  long = all_put_all (λ (f : Filed). HasFile files (file_of (shelf_of held) f.entry) (λ b. f.entry.len ≤ length b)) held.files fs one.long other.long;
-  unopened = all_put_all (λ (f : Filed). opened (file_of (shelf_of held) f.entry) ≤ f.entry.len) held.files fs one.unopened other.unopened;
+pub safe_both : (held : Held) (fs : List Filed) (disk : Standing) → AreSafe held disk → AreSafe (having held fs) disk → AreSafe (with_files held fs) disk
+safe_both held fs disk one other = record {
+  long = all_put_all (λ (f : Filed). HasFile disk.files (file_of (shelf_of held) f.entry) (λ b. f.entry.len ≤ length b)) held.files fs one.long other.long;
+  unopened = all_put_all (λ (f : Filed). disk.opened (file_of (shelf_of held) f.entry) ≤ f.entry.len) held.files fs one.unopened other.unopened;
   left = λ image left stands. all_put_all (IsIn (shelf_of held) image) held.files fs (one.left image left stands) (other.left image left stands);
 }
 
@@ -433,11 +434,11 @@ pub not_own_in : (store : ℕ) (journal n : Name) → 1 ≤ store → journal.0 
 not_own_in store journal n numbered zero_store own one = let same = own_store journal n own in absurd (omega (arith, numbered, same, zero_store, one))
 
 -- whatever a crash leaves of a store holds what it holds
-pub stored_left : (g : Granularity) (catalogue manifest : JournalState) (files : Files) (opened : Name → ℕ) (past : Past) (held : Held) → IsStored g catalogue manifest files opened past held → (image : Files) → MayLeave past image → Holds g image held
-stored_left g catalogue manifest files opened past held stored image left = record {
-  rows = subst (λ (n : Name). Says IsCatalogue held.rows n image) stored.rows.named (kept_left IsCatalogue catalogue files opened past held.rows stored.rows.kept image left);
+pub stored_left : (g : Granularity) (catalogue manifest : JournalState) (disk : Standing) (held : Held) → IsStored g catalogue manifest disk held → (image : Files) → MayLeave disk.past image → Holds g image held
+stored_left g catalogue manifest disk held stored image left = record {
+  rows = subst (λ (n : Name). Says IsCatalogue held.rows n image) stored.rows.named (kept_left IsCatalogue catalogue disk held.rows stored.rows.kept image left);
   lists = folds_says g (map entry_of held.files) (manifest_name held.store) image
-      (subst (λ (n : Name). Says (Configured g) (map entry_of held.files) n image) stored.tier.named (kept_left (Configured g) manifest files opened past (map entry_of held.files) stored.tier.kept image left));
+      (subst (λ (n : Name). Says (Configured g) (map entry_of held.files) n image) stored.tier.named (kept_left (Configured g) manifest disk (map entry_of held.files) stored.tier.kept image left));
   filed = stored.tier.valid.filed;
   files = stored.tier.safe.left image left;
 }
@@ -454,81 +455,72 @@ holds_behind g held a c step holds = record {
   files = step.stays holds.files;
 }
 
-pub still_stored : (g : Granularity) (catalogue manifest : JournalState) (files later : Files) (opened after : Name → ℕ) (old new : Past) (held : Held) → IsStored g catalogue manifest files opened old held → Passes (Behind held) old new
-    → AreLong held later → ((n : Name) → n.0 ≢ held.store → later n ≡ files n) → ((n : Name) → after n ≤ opened n) → IsStored g catalogue manifest later after new held
-still_stored g catalogue manifest files later opened after old new held stored passes long same fewer =
-    let out : (journal : JournalState) (name : Name) → journal.name ≡ name → name.0 ≡ 0 → Untouched (Behind held) journal files later opened after = λ journal name is zero_store.
+pub still_stored : (g : Granularity) (catalogue manifest : JournalState) (old new : Standing) (held : Held) → IsStored g catalogue manifest old held → Passes (Behind held) old.past new.past
+    → AreLong held new.files → ((n : Name) → n.0 ≢ held.store → new.files n ≡ old.files n) → ((n : Name) → new.opened n ≤ old.opened n) → IsStored g catalogue manifest new held
+still_stored g catalogue manifest old new held stored passes long same fewer =
+    let out : (journal : JournalState) (name : Name) → journal.name ≡ name → name.0 ≡ 0 → Untouched (Behind held) journal old.files new.files old.opened new.opened = λ journal name is zero_store.
     let far = λ (n : Name) (own : IsOwn journal.name n). not_own_in held.store journal.name n stored.tier.valid.filed.numbered (ap (λ (m : Name). m.0) is ∙ zero_store) own in
     record { step = λ a c step n own. step.elsewhere n (far n own); same = λ n own. same n (far n own); fewer = λ n own. fewer n } in
     record {
-      rows = catalogue_stays (Behind held) catalogue files later opened after old new passes (out catalogue catalogue_name stored.rows.named refl) held.rows stored.rows;
-      tier = tier_stays (Behind held) manifest files later opened after old new passes (out manifest (manifest_name held.store) stored.tier.named refl) g held stored.tier (safe_stays held (Behind held) files later opened after old new stored.tier.safe passes (λ a c step. step.stays) long fewer);
+      rows = catalogue_stays (Behind held) catalogue old new passes (out catalogue catalogue_name stored.rows.named refl) held.rows stored.rows;
+      tier = tier_stays (Behind held) manifest old new passes (out manifest (manifest_name held.store) stored.tier.named refl) g held stored.tier (safe_stays held (Behind held) old new stored.tier.safe passes (λ a c step. step.stays) long fewer);
     }
 
 -- Calls that only read, and calls on the files of one journal alone.
 
--- calls that only read
-pub record Quiet (files later : Files) (opened after : Name → ℕ) (old new : Past) : Type 0 where
-  pub passes : Passes (λ a b. b ≡ a) old new
-  pub same : later ≡ files
-  pub unopened : after ≡ opened
-
-pub quiet : (files later : Files) (opened after : Name → ℕ) (old new : Past) → Passes (λ a b. b ≡ a) old new → later ≡ files → after ≡ opened → Quiet files later opened after old new
-quiet files later opened after old new passes same unopened = record { passes = passes; same = same; unopened = unopened }
-
 -- a call on the files of one journal alone
-pub record Alone (name : Name) (files later : Files) (opened after : Name → ℕ) (old new : Past) : Type 0 where
-  pub passes : Passes (AtOwn name Anything) old new
-  pub elsewhere : (n : Name) → (IsOwn name n → ⊥) → later n ≡ files n
-  pub fewer : (n : Name) → after n ≤ opened n
+pub record Alone (name : Name) (old new : Standing) : Type 0 where
+  pub passes : Passes (AtOwn name Anything) old.past new.past
+  pub elsewhere : (n : Name) → (IsOwn name n → ⊥) → new.files n ≡ old.files n
+  pub fewer : (n : Name) → new.opened n ≤ old.opened n
 
-pub alone : (name : Name) (R : Files → Files → Type 0) (files later : Files) (opened after : Name → ℕ) (old new : Past) → Passes (AtOwn name R) old new → ((n : Name) → (IsOwn name n → ⊥) → later n ≡ files n) → ((n : Name) → after n ≤ opened n) → Alone name files later opened after old new
-alone name R files later opened after old new passes elsewhere fewer = record {
-  passes = passes_weaker (AtOwn name R) (AtOwn name Anything) old new passes (λ a c was step. record { here = tt; elsewhere = step.elsewhere });
+pub alone : (name : Name) (R : Files → Files → Type 0) (old new : Standing) → Passes (AtOwn name R) old.past new.past → ((n : Name) → (IsOwn name n → ⊥) → new.files n ≡ old.files n) → ((n : Name) → new.opened n ≤ old.opened n) → Alone name old new
+alone name R old new passes elsewhere fewer = record {
+  passes = passes_weaker (AtOwn name R) (AtOwn name Anything) old.past new.past passes (λ a c was step. record { here = tt; elsewhere = step.elsewhere });
   elsewhere = elsewhere;
   fewer = fewer;
 }
 
 -- A store stays as it is while calls only read, also where they open its listed files.
 
-pub safe_read : (held : Held) (files later : Files) (opened after : Name → ℕ) (old new : Past) → AreSafe held files opened old → Passes (λ a b. b ≡ a) old new → later ≡ files → AreUnopened held after → AreSafe held later after new
-safe_read held files later opened after old new safe passes same unopened = record {
+pub safe_read : (held : Held) (old new : Standing) → AreSafe held old → Passes (λ a b. b ≡ a) old.past new.past → new.files ≡ old.files → AreUnopened held new.opened → AreSafe held new
+safe_read held old new safe passes same unopened = record {
   long = subst (AreLong held) (sym same) safe.long;
   unopened = unopened;
   left = λ image left.
-      let come = passes.each new.now image passes.later (omega arith) left in subst (AreIn held) (sym come.2) (safe.left come.0 come.1);
+      let come = passes.each new.past.now image passes.later (omega arith) left in subst (AreIn held) (sym come.2) (safe.left come.0 come.1);
 }
 
 -- calls that read, and open no journal and no file beyond its listed length
-pub record Reads (files later : Files) (opened after : Name → ℕ) (old new : Past) : Type 0 where
-  pub passes : Passes (λ a b. b ≡ a) old new
-  pub same : later ≡ files
-  pub journals : (n : Name) → n.0 ≡ 0 → after n ≤ opened n
+pub record Reads (old new : Standing) : Type 0 where
+  pub passes : Passes (λ a b. b ≡ a) old.past new.past
+  pub same : new.files ≡ old.files
+  pub journals : (n : Name) → n.0 ≡ 0 → new.opened n ≤ old.opened n
 
 -- no file is opened
-pub unopened_same : (held : Held) (files : Files) (opened after : Name → ℕ) (past : Past) → after ≡ opened → AreSafe held files opened past → AreUnopened held after
-unopened_same held files opened after past same safe = subst (AreUnopened held) (sym same) safe.unopened
+pub unopened_same : (held : Held) (disk : Standing) (after : Name → ℕ) → after ≡ disk.opened → AreSafe held disk → AreUnopened held after
+unopened_same held disk after same safe = subst (AreUnopened held) (sym same) safe.unopened
 
-module _ (files later : Files) (opened after : Name → ℕ) (old new : Past) (reads : Reads files later opened after old new) where
-  pub quietly : (journal : JournalState) (name : Name) → journal.name ≡ name → name.0 ≡ 0 → Untouched (λ a b. b ≡ a) journal files later opened after
+module _ (old new : Standing) (reads : Reads old new) where
+  pub quietly : (journal : JournalState) (name : Name) → journal.name ≡ name → name.0 ≡ 0 → Untouched (λ a b. b ≡ a) journal old.files new.files old.opened new.opened
   quietly journal name is zero_store = record {
     step = λ a c same n own. ap (λ (f : Files). f n) same;
     same = λ n own. ap (λ (f : Files). f n) reads.same;
     fewer = λ n own. reads.journals n (own_store journal.name n own ∙ ap (λ (m : Name). m.0) is ∙ zero_store);
   }
 
-  pub catalogue_read : (c : JournalState) (rows : List Row) → CatalogueStored c files opened old rows → CatalogueStored c later after new rows
-  catalogue_read c rows stored = catalogue_stays (λ a b. b ≡ a) c files later opened after old new reads.passes (quietly c catalogue_name stored.named refl) rows stored
+  pub catalogue_read : (c : JournalState) (rows : List Row) → CatalogueStored c old rows → CatalogueStored c new rows
+  catalogue_read c rows stored = catalogue_stays (λ a b. b ≡ a) c old new reads.passes (quietly c catalogue_name stored.named refl) rows stored
 
-  pub tier_read : (g : Granularity) (m : JournalState) (held : Held) → TierStored g m files opened old held → AreUnopened held after → TierStored g m later after new held
-  tier_read g m held tier unopened = tier_stays (λ a b. b ≡ a) m files later opened after old new reads.passes (quietly m (manifest_name held.store) tier.named refl) g held tier (safe_read held files later opened after old new tier.safe reads.passes reads.same unopened)
+  pub tier_read : (g : Granularity) (m : JournalState) (held : Held) → TierStored g m old held → AreUnopened held new.opened → TierStored g m new held
+  tier_read g m held tier unopened = tier_stays (λ a b. b ≡ a) m old new reads.passes (quietly m (manifest_name held.store) tier.named refl) g held tier (safe_read held old new tier.safe reads.passes reads.same unopened)
 
 -- a listed file is opened, at most as far as it is listed
-pub unopened_listed : (g : Granularity) (held : Held) (f : Filed) (files : Files) (opened after : Name → ℕ) (past : Past) → AreHeld g held → AreSafe held files opened past → Contains held.files f
-    → after (file_of (shelf_of held) f.entry) ≤ max (opened (file_of (shelf_of held) f.entry)) f.entry.len → ((n : Name) → n ≢ file_of (shelf_of held) f.entry → after n ≡ opened n) → AreUnopened held after
-unopened_listed g held f files opened after past valid safe listed here others k d lt =
+pub unopened_listed : (g : Granularity) (held : Held) (f : Filed) (disk : Standing) (after : Name → ℕ) → AreHeld g held → AreSafe held disk → Contains held.files f
+    → after (file_of (shelf_of held) f.entry) ≤ max (disk.opened (file_of (shelf_of held) f.entry)) f.entry.len → ((n : Name) → n ≢ file_of (shelf_of held) f.entry → after n ≡ disk.opened n) → AreUnopened held after
+unopened_listed g held f disk after valid safe listed here others k d lt =
     let h : Filed = get_or held.files k d in
-    let was : opened (file_of (shelf_of held) h.entry) ≤ h.entry.len = safe.unopened k d lt in
+    let was : disk.opened (file_of (shelf_of held) h.entry) ≤ h.entry.len = safe.unopened k d lt in
     elim (name_cases (file_of (shelf_of held) h.entry) (file_of (shelf_of held) f.entry)) [
       | inl same ↦
           let listed_too : IsListed g held.rows f = All-contains (IsListed g held.rows) held.files f valid.filed.listed listed in
@@ -537,16 +529,16 @@ unopened_listed g held f files opened after past valid safe listed here others k
           let theirs : file_at (filed_at f) held.files ≡ Some f = All-contains (λ (x : Filed). file_at (filed_at x) held.files ≡ Some x) held.files f (found held.files valid.apart) listed in
           let one : ◌≡◌ {A = Option Filed} (Some h) (Some f) = sym mine ∙ ap (λ (p : Place). file_at p held.files) place ∙ theirs in
           let len : h.entry.len ≡ f.entry.len = let is : h ≡ f = cc (one) in ap (λ (x : Filed). x.entry.len) is in
-          let there : after (file_of (shelf_of held) h.entry) ≤ max (opened (file_of (shelf_of held) h.entry)) f.entry.len = subst (λ (n : Name). after n ≤ max (opened n) f.entry.len) (sym same) here in
+          let there : after (file_of (shelf_of held) h.entry) ≤ max (disk.opened (file_of (shelf_of held) h.entry)) f.entry.len = subst (λ (n : Name). after n ≤ max (disk.opened n) f.entry.len) (sym same) here in
           omega (arith, len, there, was)
-      | inr apart ↦ let same : after (file_of (shelf_of held) h.entry) ≡ opened (file_of (shelf_of held) h.entry) = others (file_of (shelf_of held) h.entry) apart in omega (arith, same, was)
+      | inr apart ↦ let same : after (file_of (shelf_of held) h.entry) ≡ disk.opened (file_of (shelf_of held) h.entry) = others (file_of (shelf_of held) h.entry) apart in omega (arith, same, was)
     ]
 
-pub reads_all : (files later : Files) (opened after : Name → ℕ) (old new : Past) → Passes (λ a b. b ≡ a) old new → later ≡ files → after ≡ opened → Reads files later opened after old new
-reads_all files later opened after old new passes same same_opened = record {
+pub reads_all : (old new : Standing) → Passes (λ a b. b ≡ a) old.past new.past → new.files ≡ old.files → new.opened ≡ old.opened → Reads old new
+reads_all old new passes same same_opened = record {
   passes = passes;
   same = same;
-  journals = λ n other. let is : after n ≡ opened n = ap (λ (o : Name → ℕ). o n) same_opened in omega (arith, is);
+  journals = λ n other. let is : new.opened n ≡ old.opened n = ap (λ (o : Name → ℕ). o n) same_opened in omega (arith, is);
 }
 
 -- A count of faults that rose, seen from earlier.
@@ -657,15 +649,15 @@ sets_long [] = refl
 sets_long (p ∷ ps) = omega (arith, length-append (2 ∷ members_of p.entry) (batch_of (map set_of ps)), members_long p.entry, sets_long ps)
 
 -- up to the commit
-pub still_held : (catalogue : JournalState) (m : ManifestState) (rows : Shelf) (files : Files) (opened : Name → ℕ) (old new : Past) (held next : Held) → IsStoredAs catalogue m rows files opened old held → Passes (Behind held) old new
-    → Passes (HoldsEither m.granularity held next) old new
-still_held catalogue m rows files opened old new held next store passes =
-    passes_weaker (Behind held) (HoldsEither m.granularity held next) old new passes (λ a c was step. inl (holds_behind m.granularity held a c step (stored_left m.granularity catalogue m.journal files opened old held store.stored a was)))
+pub still_held : (catalogue : JournalState) (m : ManifestState) (rows : Shelf) (old : Standing) (new : Past) (held next : Held) → IsStoredAs catalogue m rows old held → Passes (Behind held) old.past new
+    → Passes (HoldsEither m.granularity held next) old.past new
+still_held catalogue m rows old new held next store passes =
+    passes_weaker (Behind held) (HoldsEither m.granularity held next) old.past new passes (λ a c was step. inl (holds_behind m.granularity held a c step (stored_left m.granularity catalogue m.journal old held store.stored a was)))
 
-pub still_stored_as : (catalogue : JournalState) (m : ManifestState) (rows : Shelf) (files later : Files) (opened after : Name → ℕ) (old new : Past) (held : Held) → IsStoredAs catalogue m rows files opened old held → Passes (Behind held) old new
-    → AreLong held later → ((n : Name) → n.0 ≢ rows.0 → later n ≡ files n) → ((n : Name) → after n ≤ opened n) → IsStoredAs catalogue m rows later after new held
-still_stored_as catalogue m rows files later opened after old new held store passes long same fewer = record {
-  stored = still_stored m.granularity catalogue m.journal files later opened after old new held store.stored passes long (λ n other. same n (λ is. other (is ∙ sym (ap (λ (s : Shelf). s.0) store.of_rows)))) fewer;
+pub still_stored_as : (catalogue : JournalState) (m : ManifestState) (rows : Shelf) (old new : Standing) (held : Held) → IsStoredAs catalogue m rows old held → Passes (Behind held) old.past new.past
+    → AreLong held new.files → ((n : Name) → n.0 ≢ rows.0 → new.files n ≡ old.files n) → ((n : Name) → new.opened n ≤ old.opened n) → IsStoredAs catalogue m rows new held
+still_stored_as catalogue m rows old new held store passes long same fewer = record {
+  stored = still_stored m.granularity catalogue m.journal old new held store.stored passes long (λ n other. same n (λ is. other (is ∙ sym (ap (λ (s : Shelf). s.0) store.of_rows)))) fewer;
   of_rows = store.of_rows;
   entries = store.entries;
 }
@@ -673,12 +665,12 @@ still_stored_as catalogue m rows files later opened after old new held store pas
 -- THE LISTED BYTES
 
 -- what is listed of it, by the rows and the manifest
-pub listed_as : (catalogue : JournalState) (m : ManifestState) (shelf : Shelf) (files : Files) (opened : Name → ℕ) (past : Past) (held : Held) → IsStoredAs catalogue m shelf files opened past held → (P : Listing → Type 0) → P (listing_of held) → P (shelf, m.entries)
-listed_as catalogue m shelf files opened past held store P holds = subst P (λ i. (store.of_rows i, sym store.entries i)) holds
+pub listed_as : (catalogue : JournalState) (m : ManifestState) (shelf : Shelf) (disk : Standing) (held : Held) → IsStoredAs catalogue m shelf disk held → (P : Listing → Type 0) → P (listing_of held) → P (shelf, m.entries)
+listed_as catalogue m shelf disk held store P holds = subst P (λ i. (store.of_rows i, sym store.entries i)) holds
 
 -- and where the manifest alone is changed
-pub leaves_committed : (catalogue : JournalState) (m : ManifestState) (shelf : Shelf) (files between later : Files) (opened : Name → ℕ) (old mid new : Past) (held : Held) → IsStoredAs catalogue m shelf files opened old held → ((n : Name) → (IsOwn m.journal.name n → ⊥) → later n ≡ between n)
+pub leaves_committed : (catalogue : JournalState) (m : ManifestState) (shelf : Shelf) (old : Standing) (between later : Files) (mid new : Past) (held : Held) → IsStoredAs catalogue m shelf old held → ((n : Name) → (IsOwn m.journal.name n → ⊥) → later n ≡ between n)
     → Passes (AtOwn m.journal.name Anything) mid new → LeavesListed (shelf, m.entries) between later mid new
-leaves_committed catalogue m shelf files between later opened old mid new held store elsewhere passes =
-    listed_as catalogue m shelf files opened old held store (λ l. LeavesListed l between later mid new)
+leaves_committed catalogue m shelf old between later mid new held store elsewhere passes =
+    listed_as catalogue m shelf old held store (λ l. LeavesListed l between later mid new)
     (leaves_own (listing_of held) m.journal.name Anything between later mid new (not_in held.store m.journal.name (manifest_name held.store) store.stored.tier.valid.filed.numbered store.stored.tier.named refl) elsewhere passes)

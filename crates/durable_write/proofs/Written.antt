@@ -26,6 +26,7 @@ use Rattle.std.proofs.lemmas.Bool.Decides.{nat_tests}
 use Rattle.store_files.proofs.Stays.{front_file}
 use Rattle.std.proofs.lemmas.Option.{same_Some}
 use Rattle.gate_journal.specs.Generations.{IsOwn, AtOwn}
+use Rattle.gate_journal.specs.Standing.{Standing}
 use Rattle.pv_catalog.specs.declared.row.Row.{Row}
 use Rattle.series_model.specs.declared.batch.RowSamples.{RowSamples}
 use Rattle.store_manifest.specs.declared.entry.Change.{Change}
@@ -62,8 +63,8 @@ leads_still held ahead leads =
     record { entry = led.file.entry; within = contains_entry ahead.files led.file led.within; named = ap (λ (r : Shelf). file_of r led.file.entry) leads.same_shelf ∙ led.name; longer = led.longer })
 
 -- so calls that leave what is ahead leave what is listed
-pub leads_behind : (held ahead : Held) (files : Files) (opened : Name → ℕ) (old new : Past) → Leads held ahead → AreSafe ahead files opened old → Passes (Behind ahead) old new → Passes (Behind held) old new
-leads_behind held ahead files opened old new leads safe passes = passes_weaker (Behind ahead) (Behind held) old new passes (λ a c was step. record {
+pub leads_behind : (held ahead : Held) (old : Standing) (new : Past) → Leads held ahead → AreSafe ahead old → Passes (Behind ahead) old.past new → Passes (Behind held) old.past new
+leads_behind held ahead old new leads safe passes = passes_weaker (Behind ahead) (Behind held) old.past new passes (λ a c was step. record {
   elsewhere = λ n other. step.elsewhere n (λ is. other (is ∙ ap (λ (s : Shelf). s.0) leads.same_shelf));
   stays = λ listed. leads_in held ahead c leads (step.stays (safe.left a was));
   listed = keeps_earlier (listing_of held) (listing_of ahead) a c (leads_still held ahead leads) step.listed;
@@ -194,22 +195,22 @@ leads_with g held ps fs are apart makes = record {
 
 -- A STEP OF COPYING
 
-pub still_copied : (catalogue : JournalState) (m : ManifestState) (rows : Shelf) (files later : Files) (opened after : Name → ℕ) (old new : Past) (held ahead : Held) → HasCopied catalogue m rows files opened old held ahead → Passes (Behind ahead) old new → AreLong ahead later
-    → ((n : Name) → n.0 ≢ rows.0 → later n ≡ files n) → ((n : Name) → after n ≤ opened n) → IsStoredAs catalogue m rows later after new held
-still_copied catalogue m rows files later opened after old new held ahead has passes long same fewer =
-    still_stored_as catalogue m rows files later opened after old new held has.stored (leads_behind held ahead files opened old new has.leads has.safe.safe passes) (leads_long held ahead later has.leads long) same fewer
+pub still_copied : (catalogue : JournalState) (m : ManifestState) (rows : Shelf) (old new : Standing) (held ahead : Held) → HasCopied catalogue m rows old held ahead → Passes (Behind ahead) old.past new.past → AreLong ahead new.files
+    → ((n : Name) → n.0 ≢ rows.0 → new.files n ≡ old.files n) → ((n : Name) → new.opened n ≤ old.opened n) → IsStoredAs catalogue m rows new held
+still_copied catalogue m rows old new held ahead has passes long same fewer =
+    still_stored_as catalogue m rows old new held has.stored (leads_behind held ahead old new.past has.leads has.safe.safe passes) (leads_long held ahead new.files has.leads long) same fewer
 
-pub copied_moment : (catalogue : JournalState) (m : ManifestState) (rows : Shelf) (files : Files) (opened : Name → ℕ) (old new : Past) (held ahead : Held) → HasCopied catalogue m rows files opened old held ahead → Passes (Behind ahead) old new → Passes (λ a c. Holds m.granularity c held) old new
-copied_moment catalogue m rows files opened old new held ahead has passes =
-    passes_weaker (Behind held) (λ a c. Holds m.granularity c held) old new (leads_behind held ahead files opened old new has.leads has.safe.safe passes) (λ a c was step. holds_behind m.granularity held a c step (stored_left m.granularity catalogue m.journal files opened old held has.stored.stored a was))
+pub copied_moment : (catalogue : JournalState) (m : ManifestState) (rows : Shelf) (old : Standing) (new : Past) (held ahead : Held) → HasCopied catalogue m rows old held ahead → Passes (Behind ahead) old.past new → Passes (λ a c. Holds m.granularity c held) old.past new
+copied_moment catalogue m rows old new held ahead has passes =
+    passes_weaker (Behind held) (λ a c. Holds m.granularity c held) old.past new (leads_behind held ahead old new has.leads has.safe.safe passes) (λ a c was step. holds_behind m.granularity held a c step (stored_left m.granularity catalogue m.journal old held has.stored.stored a was))
 
 -- the bytes of what is listed stay while files go on behind what is ahead
-pub leaves_copied : (catalogue : JournalState) (m : ManifestState) (shelf : Shelf) (files later : Files) (opened : Name → ℕ) (old new : Past) (held ahead : Held) → HasCopied catalogue m shelf files opened old held ahead → Behind ahead files later → Passes (Behind ahead) old new
-    → LeavesListed (shelf, m.entries) files later old new
-leaves_copied catalogue m shelf files later opened old new held ahead has now passes =
-    listed_as catalogue m shelf files opened old held has.stored (λ l. LeavesListed l files later old new)
-    (leaves_earlier (listing_of held) (listing_of ahead) files later old new (leads_still held ahead has.leads)
-    (record { now = now.listed; any_moment = passes_weaker (Behind ahead) (KeepsListed (listing_of ahead)) old new passes (λ a c was step. step.listed) }))
+pub leaves_copied : (catalogue : JournalState) (m : ManifestState) (shelf : Shelf) (old : Standing) (later : Files) (new : Past) (held ahead : Held) → HasCopied catalogue m shelf old held ahead → Behind ahead old.files later → Passes (Behind ahead) old.past new
+    → LeavesListed (shelf, m.entries) old.files later old.past new
+leaves_copied catalogue m shelf old later new held ahead has now passes =
+    listed_as catalogue m shelf old held has.stored (λ l. LeavesListed l old.files later old.past new)
+    (leaves_earlier (listing_of held) (listing_of ahead) old.files later old.past new (leads_still held ahead has.leads)
+    (record { now = now.listed; any_moment = passes_weaker (Behind ahead) (KeepsListed (listing_of ahead)) old.past new passes (λ a c was step. step.listed) }))
 
 -- One piece more.
 
@@ -249,19 +250,19 @@ goes_on g held p f at valid grows some = elim (listed_at held.files (filed_at f)
 ]
 
 -- it is there, and wasn't opened further
-pub can_go_on : (g : Granularity) (held : Held) (files : Files) (opened : Name → ℕ) (past : Past) (p : Piece) (f : Filed) (at : ℕ) → AreHeld g held → AreSafe held files opened past → Grows g held p f → p.at ≡ Some at
-    → HasFile files (file_of (shelf_of held) f.entry) (λ b. (opened (file_of (shelf_of held) f.entry) ≤ at) × (at ≤ length b))
-can_go_on g held files opened past p f at valid safe grows some =
+pub can_go_on : (g : Granularity) (held : Held) (disk : Standing) (p : Piece) (f : Filed) (at : ℕ) → AreHeld g held → AreSafe held disk → Grows g held p f → p.at ≡ Some at
+    → HasFile disk.files (file_of (shelf_of held) f.entry) (λ b. (disk.opened (file_of (shelf_of held) f.entry) ≤ at) × (at ≤ length b))
+can_go_on g held disk p f at valid safe grows some =
     let on = goes_on g held p f at valid grows some in
-    let P : Filed → Type 0 = λ h. HasFile files (file_of (shelf_of held) h.entry) (λ b. h.entry.len ≤ length b) in
-    let file = subst (λ (n : Name). HasFile files n (λ b. on.file.entry.len ≤ length b)) on.name (All-contains P held.files on.file safe.long on.within) in
-    let unopened : opened (file_of (shelf_of held) f.entry) ≤ on.file.entry.len =
-    subst (λ (n : Name). opened n ≤ on.file.entry.len) on.name (All-contains (λ (h : Filed). opened (file_of (shelf_of held) h.entry) ≤ h.entry.len) held.files on.file safe.unopened on.within) in
+    let P : Filed → Type 0 = λ h. HasFile disk.files (file_of (shelf_of held) h.entry) (λ b. h.entry.len ≤ length b) in
+    let file = subst (λ (n : Name). HasFile disk.files n (λ b. on.file.entry.len ≤ length b)) on.name (All-contains P held.files on.file safe.long on.within) in
+    let unopened : disk.opened (file_of (shelf_of held) f.entry) ≤ on.file.entry.len =
+    subst (λ (n : Name). disk.opened n ≤ on.file.entry.len) on.name (All-contains (λ (h : Filed). disk.opened (file_of (shelf_of held) h.entry) ≤ h.entry.len) held.files on.file safe.unopened on.within) in
     record { bytes = file.bytes; file = file.file; holds = (omega (arith, on.len, unopened), omega (arith, on.len, file.holds)) }
 
 -- the name that a piece's file has by the rows that the code sees
-pub piece_name : (g : Granularity) (rows : Shelf) (held : Held) (files : Files) (opened : Name → ℕ) (past : Past) (p : Piece) (f : Filed) → IsSafe g rows files opened past held → Grows g held p f → file_of (shelf_of held) f.entry ≡ file_of rows p.entry
-piece_name g rows held files opened past p f safe grows = ap (λ (r : Shelf). file_of r f.entry) safe.of_rows ∙ ap (λ (e : Entry). file_of rows e) (sym grows.entry)
+pub piece_name : (g : Granularity) (rows : Shelf) (held : Held) (disk : Standing) (p : Piece) (f : Filed) → IsSafe g rows disk held → Grows g held p f → file_of (shelf_of held) f.entry ≡ file_of rows p.entry
+piece_name g rows held disk p f safe grows = ap (λ (r : Shelf). file_of r f.entry) safe.of_rows ∙ ap (λ (e : Entry). file_of rows e) (sym grows.entry)
 
 -- WHAT IS WRITTEN
 
@@ -285,9 +286,9 @@ made_written g held p f later after grows none made closed =
     unlisted (Some h) is = absurd (cc (is))
 
 -- a file that has the listed bytes and the piece's
-pub grown_written : (g : Granularity) (held : Held) (p : Piece) (f : Filed) (at : ℕ) (b : List ℕ) (files later : Files) (opened after : Name → ℕ) (old : Past) → AreHeld g held → AreSafe held files opened old → MayLeave old files → Grows g held p f → p.at ≡ Some at
-    → files (file_of (shelf_of held) f.entry) ≡ Some b → at ≤ length b → later (file_of (shelf_of held) f.entry) ≡ Some (take at b ++ p.bytes.items) → after (file_of (shelf_of held) f.entry) ≤ at → IsWritten held later after f
-grown_written g held p f at b files later opened after old valid safe seen grows some file enough grown open_to =
+pub grown_written : (g : Granularity) (held : Held) (p : Piece) (f : Filed) (at : ℕ) (b : List ℕ) (old : Standing) (later : Files) (after : Name → ℕ) → AreHeld g held → AreSafe held old → MayLeave old.past old.files → Grows g held p f → p.at ≡ Some at
+    → old.files (file_of (shelf_of held) f.entry) ≡ Some b → at ≤ length b → later (file_of (shelf_of held) f.entry) ≡ Some (take at b ++ p.bytes.items) → after (file_of (shelf_of held) f.entry) ≤ at → IsWritten held later after f
+grown_written g held p f at b old later after valid safe seen grows some file enough grown open_to =
     let name : Name = file_of (shelf_of held) f.entry in
     let start = ap start_of some in
     let same = ap (λ (e : Entry). e.len) grows.entry in
@@ -299,8 +300,8 @@ grown_written g held p f at b files later opened after old valid safe seen grows
           let on = goes_on g held p f at valid grows some in
           let h : Filed = on.file in
           let filed : IsFiled g held.rows h = All-contains (IsFiled g held.rows) held.files h (valid.filed.filed stands) on.within in
-          let began : Begins (bytes_of h) (files name) = subst (λ (n : Name). Begins (bytes_of h) (files n)) on.name (All-contains (IsIn (shelf_of held) files) held.files h (safe.left files seen stands) on.within) in
-          let front = front_file files name (bytes_of h) began in
+          let began : Begins (bytes_of h) (old.files name) = subst (λ (n : Name). Begins (bytes_of h) (old.files n)) on.name (All-contains (IsIn (shelf_of held) old.files) held.files h (safe.left old.files seen stands) on.within) in
+          let front = front_file old.files name (bytes_of h) began in
           let one : front.bytes ≡ b = let both : ◌≡◌ {A = Option (List ℕ)} (Some front.bytes) (Some b) = sym front.file ∙ file in cc (both) in
           let len : length (bytes_of h) ≡ at = sym filed.len ∙ on.len in
           let listed : take at b ≡ bytes_of h = ap (λ (l : List ℕ). take at l) (sym one) ∙ ap (λ (n : ℕ). take n front.bytes) (sym len) ∙ front.holds.1 in
@@ -347,20 +348,20 @@ pub all_filed : (g : Granularity) (held : Held) (ps : List Piece) (fs : List Fil
 all_filed g held ps fs each stands = all_made (IsFiled g held.rows) (Grows g held) ps fs (λ p f grows. (grows.own stands).filed) each
 
 -- what is listed of the piece's file ends where the piece begins
-allowed : (g : Granularity) (rows : Shelf) (held : Held) (p : Piece) (f : Filed) (files : Files) (opened : Name → ℕ) (past : Past) → IsSafe g rows files opened past held → Grows g held p f → AllowTo (shelf_of held) (start_of p.at) (file_of rows p.entry) held.files
-allowed g rows held p f files opened past safe grows = subst (λ (n : Name). AllowTo (shelf_of held) (start_of p.at) n held.files) (piece_name g rows held files opened past p f safe grows) (behind_held g held p f safe.valid grows)
+allowed : (g : Granularity) (rows : Shelf) (held : Held) (p : Piece) (f : Filed) (disk : Standing) → IsSafe g rows disk held → Grows g held p f → AllowTo (shelf_of held) (start_of p.at) (file_of rows p.entry) held.files
+allowed g rows held p f disk safe grows = subst (λ (n : Name). AllowTo (shelf_of held) (start_of p.at) n held.files) (piece_name g rows held disk p f safe grows) (behind_held g held p f safe.valid grows)
 
 -- one piece more leaves what was held
-pub more_behind : (g : Granularity) (rows : Shelf) (held : Held) (p : Piece) (f : Filed) (files : Files) (opened : Name → ℕ) (old mid new : Past) → IsSafe g rows files opened old held → Grows g held p f → Passes (Behind held) old mid
-    → Passes (At (file_of rows p.entry) (Keeps (start_of p.at))) mid new → Passes (Behind held) old new
-more_behind g rows held p f files opened old mid new safe grows before call =
-    behind_then held old mid new before (call_behind g held (file_of rows p.entry) (start_of p.at) mid new safe.valid.filed (sym (ap (λ (s : Shelf). s.0) safe.of_rows)) (allowed g rows held p f files opened old safe grows) call)
+pub more_behind : (g : Granularity) (rows : Shelf) (held : Held) (p : Piece) (f : Filed) (old : Standing) (mid new : Past) → IsSafe g rows old held → Grows g held p f → Passes (Behind held) old.past mid
+    → Passes (At (file_of rows p.entry) (Keeps (start_of p.at))) mid new → Passes (Behind held) old.past new
+more_behind g rows held p f old mid new safe grows before call =
+    behind_then held old.past mid new before (call_behind g held (file_of rows p.entry) (start_of p.at) mid new safe.valid.filed (sym (ap (λ (s : Shelf). s.0) safe.of_rows)) (allowed g rows held p f old safe grows) call)
 
 -- reads still give it
-pub reads_behind : (g : Granularity) (rows : Shelf) (held : Held) (p : Piece) (f : Filed) (files between later : Files) (opened : Name → ℕ) (past : Past) → IsSafe g rows files opened past held → Grows g held p f → Behind held files between
-    → At (file_of rows p.entry) (Keeps (start_of p.at)) between later → Behind held files later
-reads_behind g rows held p f files between later opened past safe grows before call =
-    behind_on held files between later before (step_behind g held (file_of rows p.entry) (start_of p.at) between later safe.valid.filed (sym (ap (λ (s : Shelf). s.0) safe.of_rows)) (allowed g rows held p f files opened past safe grows) call)
+pub reads_behind : (g : Granularity) (rows : Shelf) (held : Held) (p : Piece) (f : Filed) (disk : Standing) (between later : Files) → IsSafe g rows disk held → Grows g held p f → Behind held disk.files between
+    → At (file_of rows p.entry) (Keeps (start_of p.at)) between later → Behind held disk.files later
+reads_behind g rows held p f disk between later safe grows before call =
+    behind_on held disk.files between later before (step_behind g held (file_of rows p.entry) (start_of p.at) between later safe.valid.filed (sym (ap (λ (s : Shelf). s.0) safe.of_rows)) (allowed g rows held p f disk safe grows) call)
 
 -- the files of the first pieces aren't that of a later one
 others_apart : (g : Granularity) (held : Held) (fs : List Filed) (i : ℕ) (f : Filed) → KeysDiffer held.rows → All (IsListed g held.rows) fs → PlacesRise fs → i < length fs → get_or fs i f ≡ f → AreApart (shelf_of held) (file_of (shelf_of held) f.entry) (take i fs)
@@ -394,12 +395,12 @@ more_written g held fs i f files later opened after keys listed rise within here
 -- FILE AFTER FILE
 
 -- the files of all pieces are written and synced, so they are safe
-pub synced_safe : (g : Granularity) (shelf : Shelf) (held : Held) (ps : List Piece) (fs : List Filed) (files : Files) (opened : Name → ℕ) (past : Past) → shelf_of held ≡ shelf → AllZip (Grows g held) ps fs → All (IsWritten held files opened) fs
-    → All (IsSynced shelf files past) ps → AreSafe (having held fs) files opened past
-synced_safe g shelf held ps fs files opened past of_rows each written synced =
-    let Kept : Filed → Type 0 = λ f. Only past (file_of (shelf_of held) f.entry) (files (file_of (shelf_of held) f.entry)) in
-    let kept : All Kept fs = all_made_of (IsSynced shelf files past) Kept (Grows g held) ps fs (λ p f grows one.
-    subst (λ (n : Name). Only past n (files n)) (ap (λ (e : Entry). file_of shelf e) grows.entry ∙ ap (λ (s : Shelf). file_of s f.entry) (sym of_rows)) one) each synced in
+pub synced_safe : (g : Granularity) (shelf : Shelf) (held : Held) (ps : List Piece) (fs : List Filed) (disk : Standing) → shelf_of held ≡ shelf → AllZip (Grows g held) ps fs → All (IsWritten held disk.files disk.opened) fs
+    → All (IsSynced shelf disk.files disk.past) ps → AreSafe (having held fs) disk
+synced_safe g shelf held ps fs disk of_rows each written synced =
+    let Kept : Filed → Type 0 = λ f. Only disk.past (file_of (shelf_of held) f.entry) (disk.files (file_of (shelf_of held) f.entry)) in
+    let kept : All Kept fs = all_made_of (IsSynced shelf disk.files disk.past) Kept (Grows g held) ps fs (λ p f grows one.
+    subst (λ (n : Name). Only disk.past n (disk.files n)) (ap (λ (e : Entry). file_of shelf e) grows.entry ∙ ap (λ (s : Shelf). file_of s f.entry) (sym of_rows)) one) each synced in
     record {
       long = λ k d lt. (written k d lt).long;
       unopened = λ k d lt. (written k d lt).unopened;
@@ -468,15 +469,15 @@ one_of_place files f h rise f_in h_in same =
     same_Some h f (sym theirs ∙ ap (λ (p : Place). file_at p files) same ∙ mine)
 
 -- they stand ahead of what is listed, as what a move has copied does
-pub copied_beside : (catalogue : JournalState) (m : ManifestState) (shelf : Shelf) (files : Files) (opened : Name → ℕ) (past : Past) (held : Held) (limbo : List Filed) → IsStoredAs catalogue m shelf files opened past held → AreInLimbo m.granularity held limbo → AreSafe (having held limbo) files opened past
-    → HasCopied catalogue m shelf files opened past held (with_files held limbo)
-copied_beside catalogue m shelf files opened past held limbo store in_limbo safe = record {
+pub copied_beside : (catalogue : JournalState) (m : ManifestState) (shelf : Shelf) (disk : Standing) (held : Held) (limbo : List Filed) → IsStoredAs catalogue m shelf disk held → AreInLimbo m.granularity held limbo → AreSafe (having held limbo) disk
+    → HasCopied catalogue m shelf disk held (with_files held limbo)
+copied_beside catalogue m shelf disk held limbo store in_limbo safe = record {
   stored = store;
   leads = leads_beside held limbo store.stored.tier.valid.apart in_limbo.unlisted;
   safe = record {
     of_rows = store.of_rows;
     valid = both_held m.granularity held limbo store.stored.tier.valid in_limbo;
-    safe = safe_both held limbo files opened past store.stored.tier.safe safe;
+    safe = safe_both held limbo disk store.stored.tier.safe safe;
   };
 }
 
@@ -591,16 +592,16 @@ put_all_new (x ∷ fs) files f rise (zero, low, is) = subst (λ (y : Filed). Con
 put_all_new (x ∷ fs) files f rise (suc k, low, is) = put_all_new fs (put filed_at x files) f rise.1 (k, omega (arith, low), is)
 
 -- what is safe ahead is safe where it is listed
-safe_over : (held ahead : Held) (fs : List Filed) (files : Files) (opened : Name → ℕ) (past : Past) → shelf_of ahead ≡ shelf_of held → ahead.stands ≡ held.stands → PlacesRise fs → AreSafe held files opened past → AreSafe (with_files ahead fs) files opened past → AreSafe (with_files held fs) files opened past
-safe_over held ahead fs files opened past shelf stands rise own safe = safe_both held fs files opened past own (record {
+safe_over : (held ahead : Held) (fs : List Filed) (disk : Standing) → shelf_of ahead ≡ shelf_of held → ahead.stands ≡ held.stands → PlacesRise fs → AreSafe held disk → AreSafe (with_files ahead fs) disk → AreSafe (with_files held fs) disk
+safe_over held ahead fs disk shelf stands rise own safe = safe_both held fs disk own (record {
   long = λ k d lt.
       let f : Filed = get_or fs k d in
-      subst (λ (s : Shelf). HasFile files (file_of s f.entry) (λ b. f.entry.len ≤ length b)) shelf
-      (All-contains (λ (x : Filed). HasFile files (file_of (shelf_of ahead) x.entry) (λ b. x.entry.len ≤ length b)) (put_all ahead.files fs) f safe.long (put_all_new fs ahead.files f rise (Contains-get_or fs k d lt)));
+      subst (λ (s : Shelf). HasFile disk.files (file_of s f.entry) (λ b. f.entry.len ≤ length b)) shelf
+      (All-contains (λ (x : Filed). HasFile disk.files (file_of (shelf_of ahead) x.entry) (λ b. x.entry.len ≤ length b)) (put_all ahead.files fs) f safe.long (put_all_new fs ahead.files f rise (Contains-get_or fs k d lt)));
   unopened = λ k d lt.
       let f : Filed = get_or fs k d in
-      subst (λ (s : Shelf). opened (file_of s f.entry) ≤ f.entry.len) shelf
-      (All-contains (λ (x : Filed). opened (file_of (shelf_of ahead) x.entry) ≤ x.entry.len) (put_all ahead.files fs) f safe.unopened (put_all_new fs ahead.files f rise (Contains-get_or fs k d lt)));
+      subst (λ (s : Shelf). disk.opened (file_of s f.entry) ≤ f.entry.len) shelf
+      (All-contains (λ (x : Filed). disk.opened (file_of (shelf_of ahead) x.entry) ≤ x.entry.len) (put_all ahead.files fs) f safe.unopened (put_all_new fs ahead.files f rise (Contains-get_or fs k d lt)));
   left = λ image left is_so k d lt.
       let f : Filed = get_or fs k d in
       subst (λ (s : Shelf). IsIn s image f) shelf
@@ -608,16 +609,16 @@ safe_over held ahead fs files opened past shelf stands rise own safe = safe_both
 })
 
 -- what was written ahead may be listed
-pub can_relist_over : (catalogue : JournalState) (m : ManifestState) (shelf : Shelf) (files later : Files) (opened after : Name → ℕ) (old mid : Past) (held ahead : Held) (ps : List Piece) (fs : List Filed) (changes : List Change) → HasCopied catalogue m shelf files opened old held ahead → MakesFiles m.granularity ahead ps fs
-    → changes ≡ map set_of ps → Passes (Behind ahead) old mid → AreLong ahead later → ((n : Name) → n.0 ≢ shelf.0 → later n ≡ files n) → ((n : Name) → after n ≤ opened n) → AreSafe (with_files ahead fs) later after mid → CanRelist catalogue m shelf later after mid held (with_files held fs) changes
-can_relist_over catalogue m shelf files later opened after old mid held ahead ps fs changes has makes are behind long elsewhere fewer safe =
-    let stored = still_copied catalogue m shelf files later opened after old mid held ahead has behind long elsewhere fewer in
+pub can_relist_over : (catalogue : JournalState) (m : ManifestState) (shelf : Shelf) (old mid : Standing) (held ahead : Held) (ps : List Piece) (fs : List Filed) (changes : List Change) → HasCopied catalogue m shelf old held ahead → MakesFiles m.granularity ahead ps fs
+    → changes ≡ map set_of ps → Passes (Behind ahead) old.past mid.past → AreLong ahead mid.files → ((n : Name) → n.0 ≢ shelf.0 → mid.files n ≡ old.files n) → ((n : Name) → mid.opened n ≤ old.opened n) → AreSafe (with_files ahead fs) mid → CanRelist catalogue m shelf mid held (with_files held fs) changes
+can_relist_over catalogue m shelf old mid held ahead ps fs changes has makes are behind long elsewhere fewer safe =
+    let stored = still_copied catalogue m shelf old mid held ahead has behind long elsewhere fewer in
     record {
       stored = stored;
       same_shelf = refl;
       same_stands = refl;
       valid = valid_over m.granularity held ahead ps fs has.leads has.stored.stored.tier.valid makes;
-      safe = safe_over held ahead fs later after mid has.leads.same_shelf has.leads.same_stands makes.apart stored.stored.tier.safe safe;
+      safe = safe_over held ahead fs mid has.leads.same_shelf has.leads.same_stands makes.apart stored.stored.tier.safe safe;
       lists = entries_over m held ahead ps fs changes has.stored.entries are makes;
     }
 
@@ -628,15 +629,15 @@ leaves_ahead ahead files later old new now passes =
     record { now = now.listed; any_moment = passes_weaker (Behind ahead) (KeepsListed (listing_of ahead)) old new passes (λ a c was step. step.listed) }
 
 -- where the manifest alone is changed
-pub ahead_committed : (catalogue : JournalState) (m : ManifestState) (shelf : Shelf) (files between later : Files) (opened : Name → ℕ) (old mid new : Past) (held ahead : Held) → HasCopied catalogue m shelf files opened old held ahead → ((n : Name) → (IsOwn m.journal.name n → ⊥) → later n ≡ between n) → Passes (AtOwn m.journal.name Anything) mid new
+pub ahead_committed : (catalogue : JournalState) (m : ManifestState) (shelf : Shelf) (old : Standing) (between later : Files) (mid new : Past) (held ahead : Held) → HasCopied catalogue m shelf old held ahead → ((n : Name) → (IsOwn m.journal.name n → ⊥) → later n ≡ between n) → Passes (AtOwn m.journal.name Anything) mid new
     → LeavesListed (listing_of ahead) between later mid new
-ahead_committed catalogue m shelf files between later opened old mid new held ahead has elsewhere passes =
+ahead_committed catalogue m shelf old between later mid new held ahead has elsewhere passes =
     let tier = has.stored.stored.tier in
     let other : m.journal.name.0 ≢ held.store = not_in held.store m.journal.name (manifest_name held.store) tier.valid.filed.numbered tier.named refl in
     leaves_own (listing_of ahead) m.journal.name Anything between later mid new (λ is. other (is ∙ ap (λ (s : Shelf). s.0) has.leads.same_shelf)) elsewhere passes
 
-pub ahead_long : (catalogue : JournalState) (m : ManifestState) (shelf : Shelf) (files between later : Files) (opened : Name → ℕ) (past : Past) (held ahead : Held) → HasCopied catalogue m shelf files opened past held ahead → ((n : Name) → (IsOwn m.journal.name n → ⊥) → later n ≡ between n) → AreLong ahead between → AreLong ahead later
-ahead_long catalogue m shelf files between later opened past held ahead has elsewhere long =
+pub ahead_long : (catalogue : JournalState) (m : ManifestState) (shelf : Shelf) (disk : Standing) (between later : Files) (held ahead : Held) → HasCopied catalogue m shelf disk held ahead → ((n : Name) → (IsOwn m.journal.name n → ⊥) → later n ≡ between n) → AreLong ahead between → AreLong ahead later
+ahead_long catalogue m shelf disk between later held ahead has elsewhere long =
     let tier = has.stored.stored.tier in
     let numbered : 1 ≤ ahead.store = (let own = tier.valid.filed.numbered in let same = ap (λ (s : Shelf). s.0) has.leads.same_shelf in omega (arith, own, same)) in
     own_long ahead m.journal.name between later (not_in ahead.store m.journal.name (manifest_name held.store) numbered tier.named refl) elsewhere long

@@ -1,8 +1,7 @@
 -- What was written ahead of what is listed: bytes behind the listed lengths, and files that aren't listed yet.
 use Rattle.std.specs.Prelude.{◌≡◌, ◌≤◌, ℕ, List, [], ◌∷◌, length, map, take, All, Contains, IsTrue}
-use Rattle.disk_model.specs.Files.{Name, Files}
-use Rattle.disk_model.specs.Past.{Past}
 use Rattle.gate_journal.specs.Journal.{JournalState}
+use Rattle.gate_journal.specs.Standing.{Standing}
 use Rattle.store_manifest.specs.Manifest.{ManifestState}
 use Rattle.store_manifest.specs.declared.entry.Change.{Change}
 use Rattle.store_manifest.specs.declared.entry.Change.TheVariants.{Drop}
@@ -26,19 +25,19 @@ pub record Leads (held ahead : Held) : Type 0 where
   pub each : All (IsLed held ahead.files) held.files
 
 -- A move has come so far: the store has what it had, and what is to be listed is written and safe.
-pub record HasCopied (catalogue : JournalState) (m : ManifestState) (shelf : Shelf) (files : Files) (opened : Name → ℕ) (past : Past) (held ahead : Held) : Type 0 where
-  pub stored : IsStoredAs catalogue m shelf files opened past held
+pub record HasCopied (catalogue : JournalState) (m : ManifestState) (shelf : Shelf) (disk : Standing) (held ahead : Held) : Type 0 where
+  pub stored : IsStoredAs catalogue m shelf disk held
   pub leads : Leads held ahead
-  pub safe : IsSafe m.granularity shelf files opened past ahead
+  pub safe : IsSafe m.granularity shelf disk ahead
 
 -- These changes of what is stored list the files of what is next, which are all safe on the disk: those that a flush wrote or a move copied,
 -- or what is left without the parts that a move retires.
-pub record CanRelist (catalogue : JournalState) (m : ManifestState) (shelf : Shelf) (files : Files) (opened : Name → ℕ) (past : Past) (held next : Held) (changes : List Change) : Type 0 where
-  pub stored : IsStoredAs catalogue m shelf files opened past held
+pub record CanRelist (catalogue : JournalState) (m : ManifestState) (shelf : Shelf) (disk : Standing) (held next : Held) (changes : List Change) : Type 0 where
+  pub stored : IsStoredAs catalogue m shelf disk held
   pub same_shelf : shelf_of next ≡ shelf_of held
   pub same_stands : next.stands ≡ held.stands
   pub valid : AreHeld m.granularity next
-  pub safe : AreSafe next files opened past
+  pub safe : AreSafe next disk
   pub lists : all_changed m.entries changes ≡ map entry_of next.files
 
 -- the change that drops a file

@@ -3,9 +3,10 @@ use Rattle.std.specs.Prelude.{◌≡◌, ◌⊎◌, ◌≤◌, ℕ, true, false,
 use Rattle.pv_name.specs.Key.{key_of}
 use Rattle.partition_names.specs.declared.granularity.Granularity.{Granularity}
 use Rattle.disk_model.specs.Files.{Name, Files, HasFile}
-use Rattle.disk_model.specs.Past.{Past, MayLeave}
+use Rattle.disk_model.specs.Past.{MayLeave}
 use Rattle.gate_journal.specs.Journal.{JournalState}
 use Rattle.gate_journal.specs.Kept.{Says, IsKept, IsUnsure}
+use Rattle.gate_journal.specs.Standing.{Standing}
 use Rattle.pv_catalog.specs.declared.row.Row.{Row}
 use Rattle.pv_catalog.specs.Rows.{IsCatalogue}
 use Rattle.pv_catalog.specs.Catalogue.{catalogue_name}
@@ -39,10 +40,10 @@ abbrev pub AreUnopened : Held → (Name → ℕ) → Type 0
 AreUnopened held opened = All (λ (f : Filed). opened (file_of (shelf_of held) f.entry) ≤ f.entry.len) held.files
 
 -- The listed files are long enough, and none was opened too far. Where they stand, each image that a crash now may leave has them.
-pub record AreSafe (held : Held) (files : Files) (opened : Name → ℕ) (past : Past) : Type 0 where
-  pub long : AreLong held files
-  pub unopened : AreUnopened held opened
-  pub left : (image : Files) → MayLeave past image → AreIn held image
+pub record AreSafe (held : Held) (disk : Standing) : Type 0 where
+  pub long : AreLong held disk.files
+  pub unopened : AreUnopened held disk.opened
+  pub left : (image : Files) → MayLeave disk.past image → AreIn held image
 
 -- what is known of rows and files apart from any disk
 pub record AreHeld (g : Granularity) (held : Held) : Type 0 where
@@ -51,54 +52,54 @@ pub record AreHeld (g : Granularity) (held : Held) : Type 0 where
   pub apart : PlacesRise held.files
 
 -- the catalogue is settled: it has these rows, and all of it is on the disk
-pub record CatalogueStored (catalogue : JournalState) (files : Files) (opened : Name → ℕ) (past : Past) (rows : List Row) : Type 0 where
+pub record CatalogueStored (catalogue : JournalState) (disk : Standing) (rows : List Row) : Type 0 where
   pub named : catalogue.name ≡ catalogue_name
   pub sound : catalogue.sound ≡ true
-  pub kept : IsKept IsCatalogue catalogue files opened past rows
+  pub kept : IsKept IsCatalogue catalogue disk rows
 
 -- one store is settled: its manifest lists these files, which are safe, and all of it is on the disk
-pub record TierStored (g : Granularity) (manifest : JournalState) (files : Files) (opened : Name → ℕ) (past : Past) (held : Held) : Type 0 where
+pub record TierStored (g : Granularity) (manifest : JournalState) (disk : Standing) (held : Held) : Type 0 where
   pub named : manifest.name ≡ manifest_name held.store
   pub sound : manifest.sound ≡ true
-  pub kept : IsKept (Configured g) manifest files opened past (map entry_of held.files)
+  pub kept : IsKept (Configured g) manifest disk (map entry_of held.files)
   pub valid : AreHeld g held
-  pub safe : AreSafe held files opened past
+  pub safe : AreSafe held disk
 
 -- Between calls: all that a crash now may leave holds this.
-pub record IsStored (g : Granularity) (catalogue manifest : JournalState) (files : Files) (opened : Name → ℕ) (past : Past) (held : Held) : Type 0 where
-  pub rows : CatalogueStored catalogue files opened past held.rows
-  pub tier : TierStored g manifest files opened past held
+pub record IsStored (g : Granularity) (catalogue manifest : JournalState) (disk : Standing) (held : Held) : Type 0 where
+  pub rows : CatalogueStored catalogue disk held.rows
+  pub tier : TierStored g manifest disk held
 
 -- a commit of the catalogue failed: it has the rows from before, or those after the change
-pub record CatalogueUnsure (catalogue : JournalState) (files : Files) (opened : Name → ℕ) (past : Past) (before after : List Row) : Type 0 where
+pub record CatalogueUnsure (catalogue : JournalState) (disk : Standing) (before after : List Row) : Type 0 where
   pub named : catalogue.name ≡ catalogue_name
   pub unsound : catalogue.sound ≡ false
-  pub unsure : IsUnsure IsCatalogue catalogue files opened past before after
+  pub unsure : IsUnsure IsCatalogue catalogue disk before after
 
 -- a commit of a manifest failed: it lists the files from before or those after the change, which are all safe
-pub record TierUnsure (g : Granularity) (manifest : JournalState) (files : Files) (opened : Name → ℕ) (past : Past) (before after : Held) : Type 0 where
+pub record TierUnsure (g : Granularity) (manifest : JournalState) (disk : Standing) (before after : Held) : Type 0 where
   pub named : manifest.name ≡ manifest_name before.store
   pub unsound : manifest.sound ≡ false
-  pub unsure : IsUnsure (Configured g) manifest files opened past (map entry_of before.files) (map entry_of after.files)
+  pub unsure : IsUnsure (Configured g) manifest disk (map entry_of before.files) (map entry_of after.files)
   pub valid : AreHeld g before
   pub valid_after : AreHeld g after
-  pub safe : AreSafe before files opened past
-  pub safe_after : AreSafe after files opened past
+  pub safe : AreSafe before disk
+  pub safe_after : AreSafe after disk
 
 -- the rows are in doubt: the store is settled under those from before and under those after the change
-pub record RowsInDoubt (g : Granularity) (catalogue manifest : JournalState) (files : Files) (opened : Name → ℕ) (past : Past) (before after : Held) : Type 0 where
-  pub rows : CatalogueUnsure catalogue files opened past before.rows after.rows
-  pub tier : TierStored g manifest files opened past before
-  pub tier_after : TierStored g manifest files opened past after
+pub record RowsInDoubt (g : Granularity) (catalogue manifest : JournalState) (disk : Standing) (before after : Held) : Type 0 where
+  pub rows : CatalogueUnsure catalogue disk before.rows after.rows
+  pub tier : TierStored g manifest disk before
+  pub tier_after : TierStored g manifest disk after
   pub same : after.files ≡ before.files
 
 -- the lists are in doubt, under the same rows
-pub record ListsInDoubt (g : Granularity) (catalogue manifest : JournalState) (files : Files) (opened : Name → ℕ) (past : Past) (before after : Held) : Type 0 where
-  pub rows : CatalogueStored catalogue files opened past before.rows
-  pub tier : TierUnsure g manifest files opened past before after
+pub record ListsInDoubt (g : Granularity) (catalogue manifest : JournalState) (disk : Standing) (before after : Held) : Type 0 where
+  pub rows : CatalogueStored catalogue disk before.rows
+  pub tier : TierUnsure g manifest disk before after
   pub same : shelf_of after ≡ shelf_of before
 
 -- After a commit that failed: it is in doubt whether the change was made, of the rows or of the lists, and both are safe.
-pub record IsInDoubt (g : Granularity) (catalogue manifest : JournalState) (files : Files) (opened : Name → ℕ) (past : Past) (before after : Held) : Type 0 where
-  pub doubt : RowsInDoubt g catalogue manifest files opened past before after ⊎ ListsInDoubt g catalogue manifest files opened past before after
+pub record IsInDoubt (g : Granularity) (catalogue manifest : JournalState) (disk : Standing) (before after : Held) : Type 0 where
+  pub doubt : RowsInDoubt g catalogue manifest disk before after ⊎ ListsInDoubt g catalogue manifest disk before after
   pub stand : after.stands ≡ before.stands

@@ -4,6 +4,7 @@ use Rattle.partition_names.specs.declared.granularity.Granularity.{Granularity}
 use Rattle.disk_model.specs.Files.{Name, Files, HasFile}
 use Rattle.disk_model.specs.Past.{Past, Passes, Only}
 use Rattle.gate_journal.specs.Journal.{JournalState}
+use Rattle.gate_journal.specs.Standing.{Standing}
 use Rattle.store_manifest.specs.Manifest.{ManifestState}
 use Rattle.store_manifest.specs.declared.entry.Change.{Change}
 use Rattle.store_manifest.specs.declared.entry.Change.TheVariants.{Set}
@@ -24,10 +25,10 @@ pub record LeavesListed (listing : Listing) (files later : Files) (old new : Pas
   pub any_moment : Passes (KeepsListed listing) old new
 
 -- what is held is of this store and these rows, and its files are safe on the disk
-pub record IsSafe (g : Granularity) (shelf : Shelf) (files : Files) (opened : Name → ℕ) (past : Past) (held : Held) : Type 0 where
+pub record IsSafe (g : Granularity) (shelf : Shelf) (disk : Standing) (held : Held) : Type 0 where
   pub of_rows : shelf_of held ≡ shelf
   pub valid : AreHeld g held
-  pub safe : AreSafe held files opened past
+  pub safe : AreSafe held disk
 
 -- A file is written as it is to be listed: it is long enough and wasn't opened too far, and where what is held stands, it has just
 -- its bytes. What a crash leaves of them isn't said.
@@ -49,13 +50,13 @@ abbrev pub set_of : Piece → Change
 set_of p = Set p.entry
 
 -- Between calls: the store's rows and its manifest's entries are those of what is stored.
-pub record IsStoredAs (catalogue : JournalState) (manifest : ManifestState) (shelf : Shelf) (files : Files) (opened : Name → ℕ) (past : Past) (held : Held) : Type 0 where
-  pub stored : IsStored manifest.granularity catalogue manifest.journal files opened past held
+pub record IsStoredAs (catalogue : JournalState) (manifest : ManifestState) (shelf : Shelf) (disk : Standing) (held : Held) : Type 0 where
+  pub stored : IsStored manifest.granularity catalogue manifest.journal disk held
   pub of_rows : shelf_of held ≡ shelf
   pub entries : manifest.entries ≡ map entry_of held.files
 
 -- After a commit of the manifest that failed: it is in doubt whether the change was made, and the manifest knows the entries from before and after.
-pub record IsDoubtedAs (catalogue : JournalState) (manifest : ManifestState) (shelf : Shelf) (files : Files) (opened : Name → ℕ) (past : Past) (before after : Held) : Type 0 where
-  pub in_doubt : IsInDoubt manifest.granularity catalogue manifest.journal files opened past before after
+pub record IsDoubtedAs (catalogue : JournalState) (manifest : ManifestState) (shelf : Shelf) (disk : Standing) (before after : Held) : Type 0 where
+  pub in_doubt : IsInDoubt manifest.granularity catalogue manifest.journal disk before after
   pub of_rows : (shelf_of before ≡ shelf) × (shelf_of after ≡ shelf)
   pub entries : (manifest.entries ≡ map entry_of before.files) × (manifest.next ≡ map entry_of after.files)

@@ -6,6 +6,7 @@ ghost use Rattle.disk_model.specs.Past.{Passes};
 ghost use Rattle.gate_journal.specs.Batches.{greatest_batch};
 ghost use Rattle.gate_journal.specs.Generations.{IsOwn};
 ghost use Rattle.gate_journal.specs.Journal.{JournalState};
+ghost use Rattle.gate_journal.specs.Standing.{standing};
 ghost use Rattle.partition_names.specs.Part.{IsPart};
 ghost use Rattle.store_manifest.specs.Entries.{all_changed};
 ghost use Rattle.durable_write.specs.Held.{Filed, Held, listing_of};
@@ -56,46 +57,36 @@ pub fn flush_pieces<D: Disk>(
     requires rows { All (λ p. p.entry.series < length rows.now) pieces.now }
     requires few { length pieces.now * SET_BYTES ≤ greatest_batch }
     requires stored { IsTrue D.tells → (catalogue : JournalState) × (held : Held) × (ahead : Held) × (fs : List Filed)
-        × HasCopied catalogue manifest.old (store, rows.now) (D.files disk.old) (D.opened disk.old)
-        (D.past disk.old) held ahead
+        × HasCopied catalogue manifest.old (store, rows.now) (standing D.Disk disk.old) held ahead
         × MakesFiles manifest.old.granularity ahead pieces.now fs }
 
     ensures any_moment { IsTrue D.tells → (catalogue : JournalState) (held ahead : Held) (fs : List Filed)
-        → HasCopied catalogue manifest.old (store, rows.now) (D.files disk.old) (D.opened disk.old)
-        (D.past disk.old) held ahead
+        → HasCopied catalogue manifest.old (store, rows.now) (standing D.Disk disk.old) held ahead
         → MakesFiles manifest.old.granularity ahead pieces.now fs
         → Passes (HoldsEither manifest.old.granularity held (with_files held fs)) (D.past disk.old) (D.past disk.new) }
     ensures made { IsTrue D.tells → (catalogue : JournalState) (held ahead : Held) (fs : List Filed)
-        → HasCopied catalogue manifest.old (store, rows.now) (D.files disk.old) (D.opened disk.old)
-        (D.past disk.old) held ahead
+        → HasCopied catalogue manifest.old (store, rows.now) (standing D.Disk disk.old) held ahead
         → MakesFiles manifest.old.granularity ahead pieces.now fs
-        → OnOk result (IsStoredAs catalogue manifest.new (store, rows.now) (D.files disk.new) (D.opened disk.new)
-        (D.past disk.new) (with_files held fs)) }
+        → OnOk result (IsStoredAs catalogue manifest.new (store, rows.now) (standing D.Disk disk.new)
+        (with_files held fs)) }
     ensures unmade { IsTrue D.tells → (catalogue : JournalState) (held ahead : Held) (fs : List Filed)
-        → HasCopied catalogue manifest.old (store, rows.now) (D.files disk.old) (D.opened disk.old)
-        (D.past disk.old) held ahead
+        → HasCopied catalogue manifest.old (store, rows.now) (standing D.Disk disk.old) held ahead
         → MakesFiles manifest.old.granularity ahead pieces.now fs
         → OnErr result (manifest.new.journal.sound ≡ true
-        → IsStoredAs catalogue manifest.new (store, rows.now) (D.files disk.new)
-        (D.opened disk.new) (D.past disk.new) held) }
+        → IsStoredAs catalogue manifest.new (store, rows.now) (standing D.Disk disk.new) held) }
     ensures in_doubt { IsTrue D.tells → (catalogue : JournalState) (held ahead : Held) (fs : List Filed)
-        → HasCopied catalogue manifest.old (store, rows.now) (D.files disk.old) (D.opened disk.old)
-        (D.past disk.old) held ahead
+        → HasCopied catalogue manifest.old (store, rows.now) (standing D.Disk disk.old) held ahead
         → MakesFiles manifest.old.granularity ahead pieces.now fs
         → OnErr result (manifest.new.journal.sound ≡ false
-        → IsDoubtedAs catalogue manifest.new (store, rows.now) (D.files disk.new) (D.opened disk.new)
-        (D.past disk.new) held (with_files held fs)) }
+        → IsDoubtedAs catalogue manifest.new (store, rows.now) (standing D.Disk disk.new) held (with_files held fs)) }
 
     ensures ahead { IsTrue D.tells → (catalogue : JournalState) (held ahead : Held) (fs : List Filed)
-        → HasCopied catalogue manifest.old (store, rows.now) (D.files disk.old) (D.opened disk.old)
-        (D.past disk.old) held ahead
+        → HasCopied catalogue manifest.old (store, rows.now) (standing D.Disk disk.old) held ahead
         → MakesFiles manifest.old.granularity ahead pieces.now fs
         → LeavesListed (listing_of ahead) (D.files disk.old) (D.files disk.new) (D.past disk.old) (D.past disk.new) }
     ensures long { IsTrue D.tells → (catalogue : JournalState) (held ahead : Held) (fs : List Filed)
-        → HasCopied catalogue manifest.old (store, rows.now) (D.files disk.old) (D.opened disk.old)
-        (D.past disk.old) held ahead
-        → MakesFiles manifest.old.granularity ahead pieces.now fs
-        → AreLong ahead (D.files disk.new) }
+        → HasCopied catalogue manifest.old (store, rows.now) (standing D.Disk disk.old) held ahead
+        → MakesFiles manifest.old.granularity ahead pieces.now fs → AreLong ahead (D.files disk.new) }
     ensures listed { IsTrue D.tells → LeavesListed ((store, rows.now), manifest.old.entries)
         (D.files disk.old) (D.files disk.new) (D.past disk.old) (D.past disk.new) }
     ensures elsewhere { IsTrue D.tells → (n : Name) → n.0 ≢ store → (IsOwn manifest.old.journal.name n → ⊥)

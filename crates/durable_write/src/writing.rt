@@ -4,6 +4,7 @@ ghost use Rattle.std.specs.Prelude.{◌≡◌, ◌≢◌, ◌≤◌, ◌<◌, �
 ghost use Rattle.std.specs.Prelude.{IsTrue, Some};
 ghost use Rattle.disk_model.specs.Files.{Name, Rose, At, HasFile};
 ghost use Rattle.disk_model.specs.Past.{Passes};
+ghost use Rattle.gate_journal.specs.Standing.{standing};
 ghost use Rattle.store_files.specs.Fronts.{Keeps};
 ghost use Rattle.partition_names.specs.declared.granularity.Granularity.{Granularity};
 ghost use Rattle.durable_write.specs.Held.{Filed, Held, file_of};
@@ -77,15 +78,13 @@ fn write_piece<D: Disk>(
 ) -> Result<(), DiskErr>
     requires row { piece.now.entry.series < length rows.now }
     requires can { IsTrue D.tells → (g : Granularity) × (held : Held) × (f : Filed)
-        × IsSafe g (store, rows.now) (D.files disk.old) (D.opened disk.old) (D.past disk.old) held
-        × Grows g held piece.now f }
+        × IsSafe g (store, rows.now) (standing D.Disk disk.old) held × Grows g held piece.now f }
     ensures written { IsTrue D.tells → (g : Granularity) (held : Held) (f : Filed)
-        → IsSafe g (store, rows.now) (D.files disk.old) (D.opened disk.old) (D.past disk.old) held
-        → Grows g held piece.now f
+        → IsSafe g (store, rows.now) (standing D.Disk disk.old) held → Grows g held piece.now f
         → OnOk result (IsWritten held (D.files disk.new) (D.opened disk.new) f) }
     ensures still { IsTrue D.tells → (g : Granularity) (held : Held) (f : Filed)
-        → IsSafe g (store, rows.now) (D.files disk.old) (D.opened disk.old) (D.past disk.old) held
-        → Grows g held piece.now f → AreLong held (D.files disk.new) }
+        → IsSafe g (store, rows.now) (standing D.Disk disk.old) held → Grows g held piece.now f
+        → AreLong held (D.files disk.new) }
     ensures kept { IsTrue D.tells → At (file_of (store, rows.now) piece.now.entry) (Keeps (start_of piece.now.at))
         (D.files disk.old) (D.files disk.new) }
     ensures any_moment { IsTrue D.tells
@@ -113,23 +112,18 @@ fn write_pieces<D: Disk>(
 ) -> Result<(), DiskErr>
     requires rows { All (λ p. p.entry.series < length rows.now) pieces.now }
     requires can { IsTrue D.tells → (g : Granularity) × (held : Held) × (fs : List Filed)
-        × IsSafe g (store, rows.now) (D.files disk.old) (D.opened disk.old) (D.past disk.old) held
-        × MakesFiles g held pieces.now fs }
+        × IsSafe g (store, rows.now) (standing D.Disk disk.old) held × MakesFiles g held pieces.now fs }
     ensures any_moment { IsTrue D.tells → (g : Granularity) (held : Held) (fs : List Filed)
-        → IsSafe g (store, rows.now) (D.files disk.old) (D.opened disk.old) (D.past disk.old) held
-        → MakesFiles g held pieces.now fs
+        → IsSafe g (store, rows.now) (standing D.Disk disk.old) held → MakesFiles g held pieces.now fs
         → Passes (Behind held) (D.past disk.old) (D.past disk.new) }
     ensures behind { IsTrue D.tells → (g : Granularity) (held : Held) (fs : List Filed)
-        → IsSafe g (store, rows.now) (D.files disk.old) (D.opened disk.old) (D.past disk.old) held
-        → MakesFiles g held pieces.now fs
+        → IsSafe g (store, rows.now) (standing D.Disk disk.old) held → MakesFiles g held pieces.now fs
         → Behind held (D.files disk.old) (D.files disk.new) }
     ensures still { IsTrue D.tells → (g : Granularity) (held : Held) (fs : List Filed)
-        → IsSafe g (store, rows.now) (D.files disk.old) (D.opened disk.old) (D.past disk.old) held
-        → MakesFiles g held pieces.now fs
+        → IsSafe g (store, rows.now) (standing D.Disk disk.old) held → MakesFiles g held pieces.now fs
         → AreLong held (D.files disk.new) }
     ensures written { IsTrue D.tells → (g : Granularity) (held : Held) (fs : List Filed)
-        → IsSafe g (store, rows.now) (D.files disk.old) (D.opened disk.old) (D.past disk.old) held
-        → MakesFiles g held pieces.now fs
+        → IsSafe g (store, rows.now) (standing D.Disk disk.old) held → MakesFiles g held pieces.now fs
         → OnOk result (All (IsWritten held (D.files disk.new) (D.opened disk.new)) fs) }
     ensures elsewhere { IsTrue D.tells → (n : Name) → n.0 ≢ store → D.files disk.new n ≡ D.files disk.old n }
     ensures others { IsTrue D.tells → (n : Name) → IsOfNone (store, rows.now) pieces.now n
@@ -202,25 +196,20 @@ pub(crate) fn write_all<D: Disk>(
 ) -> Result<(), DiskErr>
     requires rows { All (λ p. p.entry.series < length rows.now) pieces.now }
     requires can { IsTrue D.tells → (g : Granularity) × (held : Held) × (fs : List Filed)
-        × IsSafe g (store, rows.now) (D.files disk.old) (D.opened disk.old) (D.past disk.old) held
-        × MakesFiles g held pieces.now fs }
+        × IsSafe g (store, rows.now) (standing D.Disk disk.old) held × MakesFiles g held pieces.now fs }
 
     ensures any_moment { IsTrue D.tells → (g : Granularity) (held : Held) (fs : List Filed)
-        → IsSafe g (store, rows.now) (D.files disk.old) (D.opened disk.old) (D.past disk.old) held
-        → MakesFiles g held pieces.now fs
+        → IsSafe g (store, rows.now) (standing D.Disk disk.old) held → MakesFiles g held pieces.now fs
         → Passes (Behind held) (D.past disk.old) (D.past disk.new) }
     ensures behind { IsTrue D.tells → (g : Granularity) (held : Held) (fs : List Filed)
-        → IsSafe g (store, rows.now) (D.files disk.old) (D.opened disk.old) (D.past disk.old) held
-        → MakesFiles g held pieces.now fs
+        → IsSafe g (store, rows.now) (standing D.Disk disk.old) held → MakesFiles g held pieces.now fs
         → Behind held (D.files disk.old) (D.files disk.new) }
     ensures still { IsTrue D.tells → (g : Granularity) (held : Held) (fs : List Filed)
-        → IsSafe g (store, rows.now) (D.files disk.old) (D.opened disk.old) (D.past disk.old) held
-        → MakesFiles g held pieces.now fs
+        → IsSafe g (store, rows.now) (standing D.Disk disk.old) held → MakesFiles g held pieces.now fs
         → AreLong held (D.files disk.new) }
     ensures written { IsTrue D.tells → (g : Granularity) (held : Held) (fs : List Filed)
-        → IsSafe g (store, rows.now) (D.files disk.old) (D.opened disk.old) (D.past disk.old) held
-        → MakesFiles g held pieces.now fs
-        → OnOk result (AreSafe (with_files held fs) (D.files disk.new) (D.opened disk.new) (D.past disk.new)) }
+        → IsSafe g (store, rows.now) (standing D.Disk disk.old) held → MakesFiles g held pieces.now fs
+        → OnOk result (AreSafe (with_files held fs) (standing D.Disk disk.new)) }
 
     ensures elsewhere { IsTrue D.tells → (n : Name) → n.0 ≢ store → D.files disk.new n ≡ D.files disk.old n }
     ensures others { IsTrue D.tells → (n : Name) → IsOfNone (store, rows.now) pieces.now n

@@ -8,7 +8,6 @@ use Rattle.partition_names.specs.declared.granularity.Granularity.{Granularity}
 use Rattle.etl_mover.specs.Move.{MoveState, IsMove, part_file, FewPending, OfNext, IsAhead, StillLists}
 use Rattle.etl_mover.specs.Step.{Advances, GoesTo, CanRevive, finished, with_pending, Takes, Copies, between, target_file, IsLongUnopened, CopiesPart, SetsPart, written_at, IsToRow, HasTargets}
 use Rattle.disk_model.specs.Files.{Name, Files, HasFile, At}
-use Rattle.disk_model.specs.Past.{Past}
 use Rattle.std.proofs.lemmas.Bool.{cases_lt, eqb-true}
 use Rattle.std.proofs.lemmas.List.{length-append, length-set, length-take, take_all}
 use Rattle.std.proofs.lemmas.List.Elements.{All-contains, All-append, All-nil, All-cons, All-head, All-tail, All-set, Contains-get_or, filter-append}
@@ -26,10 +25,10 @@ use Rattle.disk_model.proofs.Passing.{passes_none, passes_weaker}
 use Rattle.store_files.specs.Fronts.{Begins, Keeps}
 use Rattle.store_files.proofs.Stays.{keeps_more}
 use Rattle.durable_write.specs.Flush.{start_of, put_all, with_files}
-use Rattle.etl_mover.specs.Reading.{OnlyReads}
 use Rattle.etl_mover.proofs.Written.{same_opened}
 use Rattle.std.proofs.lemmas.Bool.Decides.{nat_tests}
 use Rattle.gate_journal.specs.Journal.{JournalState}
+use Rattle.gate_journal.specs.Standing.{Standing, ReadsDisk}
 use Rattle.partition_names.specs.Path.{path_of}
 use Rattle.pv_catalog.specs.declared.row.Row.{Row}
 use Rattle.store_manifest.specs.Manifest.{ManifestState}
@@ -245,8 +244,8 @@ none_between from len b same = go (len - from) (omega (arith, same)) (drop from 
     go (suc n) is l = absurd (omega (arith, is))
 
 -- nothing of the part was left
-pub ends_covered : (move : MoveState) (start : Start) (p part : Entry) (from len most : ℕ) (b : List ℕ) (files : Files) (after : Name → ℕ) (past : Past) → from ≡ len → CopiesPart move (finished move p len) start part from len most b files files after past
-ends_covered move start p part from len most b files after past same = (
+pub ends_covered : (move : MoveState) (start : Start) (p part : Entry) (from len most : ℕ) (b : List ℕ) (disk : Standing) → from ≡ len → CopiesPart move (finished move p len) start part from len most b disk.files disk
+ends_covered move start p part from len most b disk same = (
   [],
   record {
     entry = start.entry;
@@ -262,18 +261,18 @@ few_taken : (from len : ℕ) (b head lines : List ℕ) (most : ℕ) (old new : E
 few_taken from len b head lines most old new within takes = let long = ap length takes.front in omega (arith, long, within, length-take (length lines) (between from len b), length-take (len - from) (drop from b))
 
 -- some of it is left
-pub ends_more : (move new : MoveState) (start : Start) (part : Entry) (from len most n : ℕ) (b lines : List ℕ) (files later : Files) (after : Name → ℕ) (past : Past) → new ≡ with_pending move new.pending → length lines ≡ n → n < len - from → Copies (target_file move start) start part from len most b move.pending new.pending files later after past lines
-    → CopiesPart move new start part from len most b files later after past
-ends_more move new start part from len most n b lines files later after past same long fewer copies = (
+pub ends_more : (move new : MoveState) (start : Start) (part : Entry) (from len most n : ℕ) (b lines : List ℕ) (files : Files) (later : Standing) → new ≡ with_pending move new.pending → length lines ≡ n → n < len - from → Copies (target_file move start) start part from len most b move.pending new.pending files later lines
+    → CopiesPart move new start part from len most b files later
+ends_more move new start part from len most n b lines files later same long fewer copies = (
   lines,
   copies,
   (λ is. let at = ap (λ (m : MoveState). m.at) same in absurd (omega (arith, is, at)), λ is. absurd (omega (arith, is, long, fewer))),
 )
 
 -- or all is copied
-pub ends_whole : (move mid : MoveState) (start : Start) (p part : Entry) (from len most n : ℕ) (b lines : List ℕ) (files later : Files) (after : Name → ℕ) (past : Past) → from ≤ len → mid ≡ with_pending move mid.pending → length lines ≡ n → len - from ≤ n → Copies (target_file move start) start part from len most b move.pending mid.pending files later after past lines
-    → CopiesPart move (finished mid p len) start part from len most b files later after past
-ends_whole move mid start p part from len most n b lines files later after past within same long all copies = (
+pub ends_whole : (move mid : MoveState) (start : Start) (p part : Entry) (from len most n : ℕ) (b lines : List ℕ) (files : Files) (later : Standing) → from ≤ len → mid ≡ with_pending move mid.pending → length lines ≡ n → len - from ≤ n → Copies (target_file move start) start part from len most b move.pending mid.pending files later lines
+    → CopiesPart move (finished mid p len) start part from len most b files later
+ends_whole move mid start p part from len most n b lines files later within same long all copies = (
   lines,
   copies,
   (λ is. omega (arith, long, all, within, few_taken from len b (take part.head_len b) lines most start.entry copies.entry within copies.takes), λ is. ap (λ (m : MoveState). m.at + 1) same),
@@ -334,8 +333,8 @@ all_copied fine move is none = elim (cases_lt move.at (length move.parts)) [
 
 -- WHERE THE DISK IS ONLY READ
 
-pub reads_none : (files : Files) (opened : Name → ℕ) (past : Past) → OnlyReads files files opened opened past past
-reads_none files opened past = record { same = refl; same_opened = refl; any_moment = passes_none (λ a b. b ≡ a) past (λ a left. refl) }
+pub reads_none : (disk : Standing) → ReadsDisk disk disk
+reads_none disk = record { same = refl; same_opened = refl; any_moment = passes_none (λ a b. b ≡ a) disk.past (λ a left. refl) }
 
 keeps_itself : (name : Name) (n : ℕ) (a b : Files) → b ≡ a → At name (Keeps n) a b
 keeps_itself name n a b same = record {
@@ -344,58 +343,58 @@ keeps_itself name n a b same = record {
 }
 
 -- each file stays as it is
-pub reads_leave : (name : Name) (at : Option ℕ) (files later : Files) (opened after : Name → ℕ) (old new : Past) → ((n : ℕ) → at ≡ Some n → IsLongUnopened n name files opened) → OnlyReads files later opened after old new → LeavesFile name at files later opened after old new
-reads_leave name at files later opened after old new room reads = record {
-  any_moment = passes_weaker (λ a b. b ≡ a) (At name (Keeps (start_of at))) old new reads.any_moment (λ a c left same. keeps_itself name (start_of at) a c same);
-  front = (keeps_itself name (start_of at) files later reads.same).here;
+pub reads_leave : (name : Name) (at : Option ℕ) (old new : Standing) → ((n : ℕ) → at ≡ Some n → IsLongUnopened n name old.files old.opened) → ReadsDisk old new → LeavesFile name at old new
+reads_leave name at old new room reads = record {
+  any_moment = passes_weaker (λ a b. b ≡ a) (At name (Keeps (start_of at))) old.past new.past reads.any_moment (λ a c left same. keeps_itself name (start_of at) a c same);
+  front = (keeps_itself name (start_of at) old.files new.files reads.same).here;
   long = λ n is. let was = room n is in record { bytes = was.bytes; file = ap (λ (f : Files). f name) reads.same ∙ was.file; holds = was.holds.1 };
   elsewhere = λ n apart. ap (λ (f : Files). f n) reads.same;
-  fewer = same_opened opened after reads.same_opened;
+  fewer = same_opened old.opened new.opened reads.same_opened;
 }
 
 -- and a write behind it is as one from before it
-pub reads_then_leave : (name : Name) (at : Option ℕ) (files mid later : Files) (opened between after : Name → ℕ) (old now new : Past) → OnlyReads files mid opened between old now → LeavesFile name at mid later between after now new → LeavesFile name at files later opened after old new
-reads_then_leave name at files mid later opened between after old now new reads leaves = record {
-  any_moment = keeps_more name (start_of at) old now new (passes_weaker (λ a b. b ≡ a) (At name (Keeps (start_of at))) old now reads.any_moment (λ a c left same. keeps_itself name (start_of at) a c same)) leaves.any_moment;
+pub reads_then_leave : (name : Name) (at : Option ℕ) (old now new : Standing) → ReadsDisk old now → LeavesFile name at now new → LeavesFile name at old new
+reads_then_leave name at old now new reads leaves = record {
+  any_moment = keeps_more name (start_of at) old.past now.past new.past (passes_weaker (λ a b. b ≡ a) (At name (Keeps (start_of at))) old.past now.past reads.any_moment (λ a c left same. keeps_itself name (start_of at) a c same)) leaves.any_moment;
   front = λ front some low begins. leaves.front front some low (subst (λ (f : Files). Begins front (f name)) (sym reads.same) begins);
   long = leaves.long;
   elsewhere = λ n apart. leaves.elsewhere n apart ∙ ap (λ (f : Files). f n) reads.same;
   fewer = λ n. let same = ap (λ (o : Name → ℕ). o n) reads.same_opened in omega (arith, leaves.fewer n, same);
 }
 
-pub reads_room : (name : Name) (n : ℕ) (files later : Files) (opened after : Name → ℕ) (old new : Past) → OnlyReads files later opened after old new → IsLongUnopened n name files opened → HasFile later name (λ b. (after name ≤ n) × (n ≤ length b))
-reads_room name n files later opened after old new reads was =
+pub reads_room : (name : Name) (n : ℕ) (old new : Standing) → ReadsDisk old new → IsLongUnopened n name old.files old.opened → HasFile new.files name (λ b. (new.opened name ≤ n) × (n ≤ length b))
+reads_room name n old new reads was =
     let same = ap (λ (o : Name → ℕ). o name) reads.same_opened in
     record { bytes = was.bytes; file = ap (λ (f : Files). f name) reads.same ∙ was.file; holds = (omega (arith, was.holds.0, same), was.holds.1) }
 
 -- WHAT IS WRITTEN
 
 -- behind a listed length the lines, in a file made anew the header before them
-wrote_at : (name : Name) (at : Option ℕ) (head lines : List ℕ) (files later : Files) (after : Name → ℕ) (past : Past) → ((len : ℕ) → at ≡ Some len → WritesFile name at lines files later after past) → (at ≡ None → WritesFile name at (head ++ lines) files later after past) → WritesFile name at (written_at at head lines) files later after past
-wrote_at name None head lines files later after past grows makes = makes refl
-wrote_at name (Some len) head lines files later after past grows makes = grows len refl
+wrote_at : (name : Name) (at : Option ℕ) (head lines : List ℕ) (files : Files) (later : Standing) → ((len : ℕ) → at ≡ Some len → WritesFile name at lines files later) → (at ≡ None → WritesFile name at (head ++ lines) files later) → WritesFile name at (written_at at head lines) files later
+wrote_at name None head lines files later grows makes = makes refl
+wrote_at name (Some len) head lines files later grows makes = grows len refl
 
 -- a call that wrote them after it had read
-pub has_copied : (name : Name) (start : Start) (part entry : Entry) (from len most : ℕ) (b head lines : List ℕ) (old pending : List Entry) (files mid later : Files) (opened between_opened after : Name → ℕ) (before now past : Past)
-    → OnlyReads files mid opened between_opened before now → entry.part ≡ start.entry.part → entry.series ≡ start.entry.series → head ≡ take part.head_len b → Takes (take part.head_len b) (between from len b) most lines start.entry entry
-    → ((n : ℕ) → start.at ≡ Some n → WritesFile name start.at lines mid later after past) → (start.at ≡ None → WritesFile name start.at (head ++ lines) mid later after past) → SetsLast entry old pending
-    → Copies name start part from len most b old pending files later after past lines
-has_copied name start part entry from len most b head lines old pending files mid later opened between_opened after before now past reads part_is series_is head_is takes grows makes sets = record {
+pub has_copied : (name : Name) (start : Start) (part entry : Entry) (from len most : ℕ) (b head lines : List ℕ) (old pending : List Entry) (disk mid later : Standing)
+    → ReadsDisk disk mid → entry.part ≡ start.entry.part → entry.series ≡ start.entry.series → head ≡ take part.head_len b → Takes (take part.head_len b) (between from len b) most lines start.entry entry
+    → ((n : ℕ) → start.at ≡ Some n → WritesFile name start.at lines mid.files later) → (start.at ≡ None → WritesFile name start.at (head ++ lines) mid.files later) → SetsLast entry old pending
+    → Copies name start part from len most b old pending disk.files later lines
+has_copied name start part entry from len most b head lines old pending disk mid later reads part_is series_is head_is takes grows makes sets = record {
   entry = entry;
   part_is = part_is;
   series_is = series_is;
   takes = takes;
   writes = inl (record {
-    wrote = subst (λ (f : Files). WritesFile name start.at (written_at start.at (take part.head_len b) lines) f later after past) reads.same
-        (subst (λ (h : List ℕ). WritesFile name start.at (written_at start.at h lines) mid later after past) head_is (wrote_at name start.at head lines mid later after past grows makes));
+    wrote = subst (λ (f : Files). WritesFile name start.at (written_at start.at (take part.head_len b) lines) f later) reads.same
+        (subst (λ (h : List ℕ). WritesFile name start.at (written_at start.at h lines) mid.files later) head_is (wrote_at name start.at head lines mid.files later grows makes));
     set = sets;
   });
 }
 
 -- one that found no line
-pub copied_none : (name : Name) (start : Start) (part entry : Entry) (from len most : ℕ) (b lines : List ℕ) (pending : List Entry) (files later : Files) (after : Name → ℕ) (past : Past)
-    → entry.part ≡ start.entry.part → entry.series ≡ start.entry.series → Takes (take part.head_len b) (between from len b) most lines start.entry entry → length lines ≡ 0 → later ≡ files → Copies name start part from len most b pending pending files later after past lines
-copied_none name start part entry from len most b lines pending files later after past part_is series_is takes none same = record { entry = entry; part_is = part_is; series_is = series_is; takes = takes; writes = inr (record { none = empty lines none; same = refl; same_files = same }) }
+pub copied_none : (name : Name) (start : Start) (part entry : Entry) (from len most : ℕ) (b lines : List ℕ) (pending : List Entry) (files : Files) (later : Standing)
+    → entry.part ≡ start.entry.part → entry.series ≡ start.entry.series → Takes (take part.head_len b) (between from len b) most lines start.entry entry → length lines ≡ 0 → later.files ≡ files → Copies name start part from len most b pending pending files later lines
+copied_none name start part entry from len most b lines pending files later part_is series_is takes none same = record { entry = entry; part_is = part_is; series_is = series_is; takes = takes; writes = inr (record { none = empty lines none; same = refl; same_files = same }) }
   where
     empty : (l : List ℕ) → length l ≡ 0 → l ≡ []
     empty [] is = refl
@@ -566,14 +565,14 @@ to_name move shelf e row own =
     ∙ (ap (λ (o : Option Row). (move.destination, path_of (name_of o) e.part.name)) row.stands ∙ ap (λ (t : List ℕ). (move.destination, path_of t e.part.name)) row.name))
 
 -- each file that may go on stands on the disk
-pub targets : (fine : Granularity) (catalogue : JournalState) (m : ManifestState) (shelf : Shelf) (files : Files) (opened : Name → ℕ) (past : Past) (held ahead : Held) (move : MoveState) (revived : Option Entry) → IsMove fine move → HasCopied catalogue m shelf files opened past held ahead → IsAhead move held ahead → IsLastOf m.entries move.series move.listed → IsToRow move shelf
-    → ((e : Entry) → revived ≡ Some e → IsLongUnopened e.len (part_file move.destination move.name e) files opened) → HasTargets move revived files opened
-targets fine catalogue m shelf files opened past held ahead move revived is has at last row old part start n goes some = go (last_of move.pending move.listed) refl goes.begins
+pub targets : (fine : Granularity) (catalogue : JournalState) (m : ManifestState) (shelf : Shelf) (disk : Standing) (held ahead : Held) (move : MoveState) (revived : Option Entry) → IsMove fine move → HasCopied catalogue m shelf disk held ahead → IsAhead move held ahead → IsLastOf m.entries move.series move.listed → IsToRow move shelf
+    → ((e : Entry) → revived ≡ Some e → IsLongUnopened e.len (part_file move.destination move.name e) disk.files disk.opened) → HasTargets move revived disk.files disk.opened
+targets fine catalogue m shelf disk held ahead move revived is has at last row old part start n goes some = go (last_of move.pending move.listed) refl goes.begins
   where
-    of_fresh : start ≡ fresh move.series goes.to part.head_len revived → IsLongUnopened n (target_file move start) files opened
+    of_fresh : start ≡ fresh move.series goes.to part.head_len revived → IsLongUnopened n (target_file move start) disk.files disk.opened
     of_fresh same = by_old revived refl
       where
-        by_old : (o : Option Entry) → revived ≡ o → IsLongUnopened n (target_file move start) files opened
+        by_old : (o : Option Entry) → revived ≡ o → IsLongUnopened n (target_file move start) disk.files disk.opened
         by_old None none =
             let no : ◌≡◌ {A = Option ℕ} None (Some n) = sym (ap (λ (s : Start). s.at) (same ∙ ap (fresh move.series goes.to part.head_len) none)) ∙ some in
             absurd (cc (no))
@@ -581,22 +580,22 @@ targets fine catalogue m shelf files opened past held ahead move revived is has 
             let start_is : start ≡ fresh move.series goes.to part.head_len (Some e) = same ∙ ap (fresh move.series goes.to part.head_len) one in
             let len : ◌≡◌ {A = Option ℕ} (Some e.len) (Some n) = sym (ap (λ (s : Start). s.at) start_is) ∙ some in
             let long : e.len ≡ n = cc (len) in
-            subst (λ (s : Start). IsLongUnopened n (target_file move s) files opened) (sym start_is) (subst (λ (k : ℕ). IsLongUnopened k (part_file move.destination move.name e) files opened) long (old e one))
+            subst (λ (s : Start). IsLongUnopened n (target_file move s) disk.files disk.opened) (sym start_is) (subst (λ (k : ℕ). IsLongUnopened k (part_file move.destination move.name e) disk.files disk.opened) long (old e one))
 
-    of_last : (e : Entry) → last_of move.pending move.listed ≡ Some e → start ≡ record { entry = e; at = Some e.len } → IsLongUnopened n (target_file move start) files opened
+    of_last : (e : Entry) → last_of move.pending move.listed ≡ Some e → start ≡ record { entry = e; at = Some e.len } → IsLongUnopened n (target_file move start) disk.files disk.opened
     of_last e here same =
         let file = last_entry m held ahead move e has.stored.entries at last here in
         let len : ◌≡◌ {A = Option ℕ} (Some e.len) (Some n) = sym (ap (λ (s : Start). s.at) same) ∙ some in
         let long : e.len ≡ n = cc (len) in
         let own = last_all (λ (x : Entry). IsPart move.granularity x.part × (x.series ≡ move.series)) move.pending move.listed e is.pending is.listed here in
         let name : file_of (shelf_of ahead) file.file.entry ≡ part_file move.destination move.name e = ap (λ (s : Shelf). file_of s file.file.entry) has.safe.of_rows ∙ (ap (file_of shelf) file.entry ∙ to_name move shelf e row own.1) in
-        let was = All-contains (λ (h : Filed). HasFile files (file_of (shelf_of ahead) h.entry) (λ b. h.entry.len ≤ length b)) ahead.files file.file has.safe.safe.long file.within in
-        let low = All-contains (λ (h : Filed). opened (file_of (shelf_of ahead) h.entry) ≤ h.entry.len) ahead.files file.file has.safe.safe.unopened file.within in
+        let was = All-contains (λ (h : Filed). HasFile disk.files (file_of (shelf_of ahead) h.entry) (λ b. h.entry.len ≤ length b)) ahead.files file.file has.safe.safe.long file.within in
+        let low = All-contains (λ (h : Filed). disk.opened (file_of (shelf_of ahead) h.entry) ≤ h.entry.len) ahead.files file.file has.safe.safe.unopened file.within in
         let size = ap (λ (x : Entry). x.len) file.entry in
-        subst (λ (s : Start). IsLongUnopened n (target_file move s) files opened) (sym same)
-        (subst (λ (x : Name). IsLongUnopened n x files opened) name (record { bytes = was.bytes; file = was.file; holds = (omega (arith, low, size, long), omega (arith, was.holds, size, long)) }))
+        subst (λ (s : Start). IsLongUnopened n (target_file move s) disk.files disk.opened) (sym same)
+        (subst (λ (x : Name). IsLongUnopened n x disk.files disk.opened) name (record { bytes = was.bytes; file = was.file; holds = (omega (arith, low, size, long), omega (arith, was.holds, size, long)) }))
 
-    go : (o : Option Entry) → last_of move.pending move.listed ≡ o → starts o move.series goes.to part.head_len revived ≡ Some start → IsLongUnopened n (target_file move start) files opened
+    go : (o : Option Entry) → last_of move.pending move.listed ≡ o → starts o move.series goes.to part.head_len revived ≡ Some start → IsLongUnopened n (target_file move start) disk.files disk.opened
     go None none begins = of_fresh (sym (cc (begins)))
     go (Some e) here begins = elim (after_cases e goes.to.start (fresh move.series goes.to part.head_len revived) start begins) [
       | inl (begin, same) ↦ of_last e here same
@@ -606,8 +605,8 @@ targets fine catalogue m shelf files opened past held ahead move revived is has 
 -- FROM THE BEGINNING ON
 
 -- nothing is ahead when a move begins
-pub begins_ahead : (catalogue : JournalState) (m : ManifestState) (shelf : Shelf) (files : Files) (opened : Name → ℕ) (past : Past) (held : Held) (move : MoveState) → IsStoredAs catalogue m shelf files opened past held → move.pending ≡ [] → HasCopied catalogue m shelf files opened past held held × IsAhead move held held
-begins_ahead catalogue m shelf files opened past held move stored none = (
+pub begins_ahead : (catalogue : JournalState) (m : ManifestState) (shelf : Shelf) (disk : Standing) (held : Held) (move : MoveState) → IsStoredAs catalogue m shelf disk held → move.pending ≡ [] → HasCopied catalogue m shelf disk held held × IsAhead move held held
+begins_ahead catalogue m shelf disk held move stored none = (
   record {
     stored = stored;
     leads = record {
@@ -634,8 +633,8 @@ still_lists move new revived len m goes lists = elim goes.is [
       })
 ]
 
-pub leaves_here : (s t : Shelf) (e : Entry) (at : Option ℕ) (files later : Files) (opened after : Name → ℕ) (old new : Past) → s ≡ t → LeavesFile (file_of s e) at files later opened after old new → LeavesFile (file_of t e) at files later opened after old new
-leaves_here s t e at files later opened after old new same = subst (λ (x : Shelf). LeavesFile (file_of x e) at files later opened after old new) same
+pub leaves_here : (s t : Shelf) (e : Entry) (at : Option ℕ) (old new : Standing) → s ≡ t → LeavesFile (file_of s e) at old new → LeavesFile (file_of t e) at old new
+leaves_here s t e at old new same = subst (λ (x : Shelf). LeavesFile (file_of x e) at old new) same
 
-pub writes_here : (s t : Shelf) (e : Entry) (at : Option ℕ) (bytes : List ℕ) (files later : Files) (after : Name → ℕ) (past : Past) → s ≡ t → WritesFile (file_of s e) at bytes files later after past → WritesFile (file_of t e) at bytes files later after past
-writes_here s t e at bytes files later after past same = subst (λ (x : Shelf). WritesFile (file_of x e) at bytes files later after past) same
+pub writes_here : (s t : Shelf) (e : Entry) (at : Option ℕ) (bytes : List ℕ) (files : Files) (later : Standing) → s ≡ t → WritesFile (file_of s e) at bytes files later → WritesFile (file_of t e) at bytes files later
+writes_here s t e at bytes files later same = subst (λ (x : Shelf). WritesFile (file_of x e) at bytes files later) same

@@ -4,6 +4,7 @@ use Rattle.disk_model.specs.Files.{Name, Files, HasFile, Content, At, Overwritte
 use Rattle.disk_model.specs.Past.{Past, Passes, MayLeave, Only}
 use Rattle.std.proofs.lemmas.List.{length-take, length-append, take_all, take_at}
 use Rattle.gate_journal.specs.Journal.{JournalState}
+use Rattle.gate_journal.specs.Standing.{Standing}
 use Rattle.partition_names.specs.declared.granularity.Granularity.{Granularity}
 use Rattle.store_manifest.specs.Manifest.{ManifestState}
 use Rattle.durable_write.specs.Held.{Filed, Held, filed_at, Shelf, IsFiled, IsListed, IsIn, file_of, bytes_of, shelf_of, entry_of}
@@ -114,8 +115,8 @@ module _ (g : Granularity) (base : Held) (at : Option ℕ) (bytes : List ℕ) (f
 
 -- WHAT A CALL WROTE
 
-module _ (catalogue : JournalState) (m : ManifestState) (shelf : Shelf) (files later : Files) (opened after : Name → ℕ) (old new : Past) (held base : Held) (at : Option ℕ) (f : Filed) (has : HasCopied catalogue m shelf files opened old held base)
-    (placed : IsPlaced m.granularity base at f) (call : LeavesFile (file_of (shelf_of base) f.entry) at files later opened after old new) where
+module _ (catalogue : JournalState) (m : ManifestState) (shelf : Shelf) (old new : Standing) (held base : Held) (at : Option ℕ) (f : Filed) (has : HasCopied catalogue m shelf old held base)
+    (placed : IsPlaced m.granularity base at f) (call : LeavesFile (file_of (shelf_of base) f.entry) at old new) where
   name : Name
   name = file_of (shelf_of base) f.entry
 
@@ -123,56 +124,56 @@ module _ (catalogue : JournalState) (m : ManifestState) (shelf : Shelf) (files l
   valid = has.safe.valid
 
   -- what is ahead stays
-  pub stays_ahead : Passes (Behind base) old new
-  stays_ahead = call_behind m.granularity base (file_of (shelf_of base) f.entry) (start_of at) old new valid.filed refl (allows m.granularity base at f valid placed) call.any_moment
+  pub stays_ahead : Passes (Behind base) old.past new.past
+  stays_ahead = call_behind m.granularity base (file_of (shelf_of base) f.entry) (start_of at) old.past new.past valid.filed refl (allows m.granularity base at f valid placed) call.any_moment
 
-  pub stays_long : AreLong base later
+  pub stays_long : AreLong base new.files
   stays_long k d lt =
       let h : Filed = get_or base.files k d in
       elim (name_cases (file_of (shelf_of base) h.entry) (file_of (shelf_of base) f.entry)) [
-        | inl same ↦ subst (λ (n : Name). HasFile later n (λ b. h.entry.len ≤ length b)) (sym same) (call.long h.entry.len (same_listed m.granularity base at f valid placed k d lt same))
+        | inl same ↦ subst (λ (n : Name). HasFile new.files n (λ b. h.entry.len ≤ length b)) (sym same) (call.long h.entry.len (same_listed m.granularity base at f valid placed k d lt same))
         | inr apart ↦
             let was = has.safe.safe.long k d lt in
             record { bytes = was.bytes; file = call.elsewhere (file_of (shelf_of base) h.entry) apart ∙ was.file; holds = was.holds }
       ]
 
-  others : (n : Name) → n.0 ≢ shelf.0 → later n ≡ files n
+  others : (n : Name) → n.0 ≢ shelf.0 → new.files n ≡ old.files n
   others n other = call.elsewhere n (λ same. other (ap (λ (x : Name). x.0) same ∙ ap (λ (s : Shelf). s.0) has.safe.of_rows))
 
-  still_safe_ahead : IsSafe m.granularity shelf later after new base
-  still_safe_ahead = still_safe m.granularity shelf files later opened after old new base has.safe stays_ahead stays_long call.fewer
+  still_safe_ahead : IsSafe m.granularity shelf new base
+  still_safe_ahead = still_safe m.granularity shelf old new base has.safe stays_ahead stays_long call.fewer
 
-  still_listed : IsStoredAs catalogue m shelf later after new held
-  still_listed = still_stored_as catalogue m shelf files later opened after old new held has.stored (leads_behind held base files opened old new has.leads has.safe.safe stays_ahead) (leads_long held base later has.leads stays_long) others call.fewer
+  still_listed : IsStoredAs catalogue m shelf new held
+  still_listed = still_stored_as catalogue m shelf old new held has.stored (leads_behind held base old new.past has.leads has.safe.safe stays_ahead) (leads_long held base new.files has.leads stays_long) others call.fewer
 
   -- whatever the call answers, what was ahead is ahead still
-  pub still_ahead : HasCopied catalogue m shelf later after new held base
+  pub still_ahead : HasCopied catalogue m shelf new held base
   still_ahead = record { stored = still_listed; leads = has.leads; safe = still_safe_ahead }
 
   -- and at each moment a crash leaves what is listed
-  pub still_holds : Passes (λ a b. Holds m.granularity b held) old new
-  still_holds = copied_moment catalogue m shelf files opened old new held base has stays_ahead
+  pub still_holds : Passes (λ a b. Holds m.granularity b held) old.past new.past
+  still_holds = copied_moment catalogue m shelf old new.past held base has stays_ahead
 
   -- and the file is safe once it is written
-  module _ (bytes : List ℕ) (is : BecomesFile m.granularity base at bytes f) (wrote : WritesFile (file_of (shelf_of base) f.entry) at bytes files later after new) (seen : MayLeave old files) where
-    long_file : (o : Option ℕ) → at ≡ o → HasFile later (file_of (shelf_of base) f.entry) (λ b. f.entry.len ≤ length b)
+  module _ (bytes : List ℕ) (is : BecomesFile m.granularity base at bytes f) (wrote : WritesFile (file_of (shelf_of base) f.entry) at bytes old.files new) (seen : MayLeave old.past old.files) where
+    long_file : (o : Option ℕ) → at ≡ o → HasFile new.files (file_of (shelf_of base) f.entry) (λ b. f.entry.len ≤ length b)
     long_file None none = let start = ap start_of none in record { bytes = bytes; file = wrote.made none; holds = omega (arith, is.len, start) }
     long_file (Some len) some =
         let on = goes_on m.granularity base at f valid placed len some in
-        let P : Filed → Type 0 = λ h. HasFile files (file_of (shelf_of base) h.entry) (λ b. h.entry.len ≤ length b) in
-        let was = subst (λ (n : Name). HasFile files n (λ b. on.file.entry.len ≤ length b)) on.name (All-contains P base.files on.file has.safe.safe.long on.within) in
+        let P : Filed → Type 0 = λ h. HasFile old.files (file_of (shelf_of base) h.entry) (λ b. h.entry.len ≤ length b) in
+        let was = subst (λ (n : Name). HasFile old.files n (λ b. on.file.entry.len ≤ length b)) on.name (All-contains P base.files on.file has.safe.safe.long on.within) in
         let start = ap start_of some in
         record { bytes = take len was.bytes ++ bytes; file = wrote.grown len was.bytes some was.file; holds = omega (arith, is.len, start, on.long, was.holds, length-append (take len was.bytes) bytes, length-take len was.bytes) }
 
-    low_file : (o : Option ℕ) → at ≡ o → after (file_of (shelf_of base) f.entry) ≤ f.entry.len
+    low_file : (o : Option ℕ) → at ≡ o → new.opened (file_of (shelf_of base) f.entry) ≤ f.entry.len
     low_file None none = omega (arith, wrote.closed none)
     low_file (Some len) some =
         let on = goes_on m.granularity base at f valid placed len some in
         let start = ap start_of some in
-        let was : opened (file_of (shelf_of base) f.entry) ≤ on.file.entry.len = subst (λ (n : Name). opened n ≤ on.file.entry.len) on.name (All-contains (λ (h : Filed). opened (file_of (shelf_of base) h.entry) ≤ h.entry.len) base.files on.file has.safe.safe.unopened on.within) in
+        let was : old.opened (file_of (shelf_of base) f.entry) ≤ on.file.entry.len = subst (λ (n : Name). old.opened n ≤ on.file.entry.len) on.name (All-contains (λ (h : Filed). old.opened (file_of (shelf_of base) h.entry) ≤ h.entry.len) base.files on.file has.safe.safe.unopened on.within) in
         omega (arith, was, on.long, start, is.len, call.fewer (file_of (shelf_of base) f.entry))
 
-    just_file : (stands : IsTrue base.stands) (o : Option ℕ) → at ≡ o → later (file_of (shelf_of base) f.entry) ≡ Some (bytes_of f)
+    just_file : (stands : IsTrue base.stands) (o : Option ℕ) → at ≡ o → new.files (file_of (shelf_of base) f.entry) ≡ Some (bytes_of f)
     just_file stands None none =
         let whole : bytes_of f ≡ bytes = (is.own stands).are ∙ ap (λ (o : Option Filed). listed_bytes o ++ bytes) (unlisted m.granularity base at f valid placed (file_at (filed_at f) base.files) (sym placed.place ∙ none)) in
         wrote.made none ∙ ap (λ (l : List ℕ). Some l) (sym whole)
@@ -180,26 +181,26 @@ module _ (catalogue : JournalState) (m : ManifestState) (shelf : Shelf) (files l
         let on = goes_on m.granularity base at f valid placed len some in
         let h : Filed = on.file in
         let filed : IsFiled m.granularity base.rows h = All-contains (IsFiled m.granularity base.rows) base.files h (valid.filed.filed stands) on.within in
-        let began : Begins (bytes_of h) (files (file_of (shelf_of base) f.entry)) = subst (λ (n : Name). Begins (bytes_of h) (files n)) on.name (All-contains (IsIn (shelf_of base) files) base.files h (has.safe.safe.left files seen stands) on.within) in
-        let front = front_file files (file_of (shelf_of base) f.entry) (bytes_of h) began in
+        let began : Begins (bytes_of h) (old.files (file_of (shelf_of base) f.entry)) = subst (λ (n : Name). Begins (bytes_of h) (old.files n)) on.name (All-contains (IsIn (shelf_of base) old.files) base.files h (has.safe.safe.left old.files seen stands) on.within) in
+        let front = front_file old.files (file_of (shelf_of base) f.entry) (bytes_of h) began in
         let long : length (bytes_of h) ≡ len = sym filed.len ∙ on.long in
         let listed : take len front.bytes ≡ bytes_of h = ap (λ (n : ℕ). take n front.bytes) (sym long) ∙ front.holds.1 in
         let whole : bytes_of f ≡ take len front.bytes ++ bytes = (is.own stands).are ∙ ap (λ (o : Option Filed). listed_bytes o ++ bytes) on.there ∙ ap (λ (l : List ℕ). l ++ bytes) (sym listed) in
         wrote.grown len front.bytes some front.file ∙ ap (λ (l : List ℕ). Some l) (sym whole)
 
-    safe_file : AreSafe (having base (f ∷ [])) later after new
+    safe_file : AreSafe (having base (f ∷ [])) new
     safe_file = record {
-      long = All-cons (λ (x : Filed). HasFile later (file_of (shelf_of base) x.entry) (λ b. x.entry.len ≤ length b)) f [] (long_file at refl) (All-nil (λ (x : Filed). HasFile later (file_of (shelf_of base) x.entry) (λ b. x.entry.len ≤ length b)));
-      unopened = All-cons (λ (x : Filed). after (file_of (shelf_of base) x.entry) ≤ x.entry.len) f [] (low_file at refl) (All-nil (λ (x : Filed). after (file_of (shelf_of base) x.entry) ≤ x.entry.len));
+      long = All-cons (λ (x : Filed). HasFile new.files (file_of (shelf_of base) x.entry) (λ b. x.entry.len ≤ length b)) f [] (long_file at refl) (All-nil (λ (x : Filed). HasFile new.files (file_of (shelf_of base) x.entry) (λ b. x.entry.len ≤ length b)));
+      unopened = All-cons (λ (x : Filed). new.opened (file_of (shelf_of base) x.entry) ≤ x.entry.len) f [] (low_file at refl) (All-nil (λ (x : Filed). new.opened (file_of (shelf_of base) x.entry) ≤ x.entry.len));
       left = λ image left stands. All-cons (IsIn (shelf_of base) image) f [] (whole_in (shelf_of base) image f (wrote.durable image left ∙ just_file stands at refl)) (All-nil (IsIn (shelf_of base) image));
     }
 
     -- so the move has it ahead too
-    pub copied_more : HasCopied catalogue m shelf later after new held (with_files base (f ∷ []))
+    pub copied_more : HasCopied catalogue m shelf new held (with_files base (f ∷ []))
     copied_more = record {
       stored = still_listed;
       leads = leads_on held base (with_files base (f ∷ [])) has.leads (leads_more m.granularity base at bytes f valid is);
-      safe = record { of_rows = has.safe.of_rows; valid = valid_more m.granularity base at bytes f valid is; safe = safe_both base (f ∷ []) later after new still_safe_ahead.safe safe_file };
+      safe = record { of_rows = has.safe.of_rows; valid = valid_more m.granularity base at bytes f valid is; safe = safe_both base (f ∷ []) new still_safe_ahead.safe safe_file };
     }
 
 -- One commit that lists other files, and how it ends.
@@ -212,9 +213,9 @@ entries_with files [] = refl
 entries_with files (f ∷ fs) = ap (λ (es : List Entry). all_changed es (map set_entry (map entry_of fs))) (sym (map-put f files)) ∙ entries_with (put filed_at f files) fs
 
 -- what a move has copied may be listed by its pending entries
-pub may_publish : (catalogue : JournalState) (m : ManifestState) (shelf : Shelf) (files : Files) (opened : Name → ℕ) (past : Past) (held ahead : Held) (move : MoveState) → HasCopied catalogue m shelf files opened past held ahead → IsAhead move held ahead → CanRelist catalogue m shelf files opened past held ahead (map set_entry move.pending)
-may_publish catalogue m shelf files opened past held ahead move has is =
-    can_publish catalogue m shelf files opened past held ahead (map set_entry move.pending) has
+pub may_publish : (catalogue : JournalState) (m : ManifestState) (shelf : Shelf) (disk : Standing) (held ahead : Held) (move : MoveState) → HasCopied catalogue m shelf disk held ahead → IsAhead move held ahead → CanRelist catalogue m shelf disk held ahead (map set_entry move.pending)
+may_publish catalogue m shelf disk held ahead move has is =
+    can_publish catalogue m shelf disk held ahead (map set_entry move.pending) has
     (ap (λ (es : List Entry). all_changed es (map set_entry move.pending)) has.stored.entries
     ∙ ap (λ (es : List Entry). all_changed (map entry_of held.files) (map set_entry es)) is.pending
     ∙ entries_with held.files is.files
@@ -228,18 +229,18 @@ sets_follow g (e ∷ es) entries parts = (All-head (λ (x : Entry). IsPart g x.p
 -- HOW IT ENDS
 
 -- nothing has changed
-pub nothing_listed : (catalogue : JournalState) (m : ManifestState) (shelf : Shelf) (files : Files) (opened : Name → ℕ) (past : Past) (held next : Held) → IsStoredAs catalogue m shelf files opened past held → Relists catalogue m m shelf files opened past past held next Unmade
-nothing_listed catalogue m shelf files opened past held next store = record {
-  any_moment = passes_none (HoldsEither m.granularity held next) past (λ a left. inl (stored_left m.granularity catalogue m.journal files opened past held store.stored a left));
+pub nothing_listed : (catalogue : JournalState) (m : ManifestState) (shelf : Shelf) (disk : Standing) (held next : Held) → IsStoredAs catalogue m shelf disk held → Relists catalogue m m shelf disk.past disk held next Unmade
+nothing_listed catalogue m shelf disk held next store = record {
+  any_moment = passes_none (HoldsEither m.granularity held next) disk.past (λ a left. inl (stored_left m.granularity catalogue m.journal disk held store.stored a left));
   stands = store;
 }
 
 -- a commit that failed wasn't made, or it isn't known whether it was
-pub failed_listing : (catalogue : JournalState) (m made : ManifestState) (shelf : Shelf) (files : Files) (opened : Name → ℕ) (old new : Past) (held next : Held) (e : DiskErr) → Passes (HoldsEither m.granularity held next) old new → (made.journal.sound ≡ true → IsStoredAs catalogue made shelf files opened new held)
-    → (made.journal.sound ≡ false → IsDoubtedAs catalogue made shelf files opened new held next) → Relists catalogue m made shelf files opened old new held next (published (Err e) made.journal.sound)
-failed_listing catalogue m made shelf files opened old new held next e passes unmade doubted = record { any_moment = passes; stands = go made.journal.sound refl }
+pub failed_listing : (catalogue : JournalState) (m made : ManifestState) (shelf : Shelf) (old : Past) (new : Standing) (held next : Held) (e : DiskErr) → Passes (HoldsEither m.granularity held next) old new.past → (made.journal.sound ≡ true → IsStoredAs catalogue made shelf new held)
+    → (made.journal.sound ≡ false → IsDoubtedAs catalogue made shelf new held next) → Relists catalogue m made shelf old new held next (published (Err e) made.journal.sound)
+failed_listing catalogue m made shelf old new held next e passes unmade doubted = record { any_moment = passes; stands = go made.journal.sound refl }
   where
-    go : (b : Bool) → made.journal.sound ≡ b → Stands catalogue made shelf files opened new held next (published (Err e) b)
+    go : (b : Bool) → made.journal.sound ≡ b → Stands catalogue made shelf new held next (published (Err e) b)
     go true is = unmade is
     go false is = doubted is
 
@@ -307,61 +308,61 @@ written_long name len bytes mid later was step = go (mid name) (later name) refl
 
 -- WHAT THE CALLS LEAVE
 
-pub settled_leaves : (name : Name) (len : ℕ) (files later : Files) (opened after : Name → ℕ) (old new : Past) → IsCutTo name len files later → Passes (At name (Keeps len)) old new → after ≡ opened → LeavesFile name (Some len) files later opened after old new
-settled_leaves name len files later opened after old new cut passes same = record {
+pub settled_leaves : (name : Name) (len : ℕ) (old new : Standing) → IsCutTo name len old.files new.files → Passes (At name (Keeps len)) old.past new.past → new.opened ≡ old.opened → LeavesFile name (Some len) old new
+settled_leaves name len old new cut passes same = record {
   any_moment = passes;
   front = cut.front;
-  long = λ n is. let at : len ≡ n = cc (is) in subst (λ (k : ℕ). HasFile later name (λ b. k ≤ length b)) at cut.long;
+  long = λ n is. let at : len ≡ n = cc (is) in subst (λ (k : ℕ). HasFile new.files name (λ b. k ≤ length b)) at cut.long;
   elsewhere = cut.elsewhere;
-  fewer = same_opened opened after same;
+  fewer = same_opened old.opened new.opened same;
 }
 
 -- a cut, and then a write behind it, whatever that answers
-pub appended_leaves : (name : Name) (len : ℕ) (files mid later : Files) (opened after_mid after : Name → ℕ) (old now new : Past) → IsCutTo name len files mid → Keeps len (mid name) (later name) → HasFile later name (λ b. len ≤ length b) → ((n : Name) → n ≢ name → later n ≡ mid n) → Passes (At name (Keeps len)) old now → Passes (At name (Keeps len)) now new → after_mid ≡ opened → after ≡ after_mid
-    → LeavesFile name (Some len) files later opened after old new
-appended_leaves name len files mid later opened after_mid after old now new cut front long others first second same same₂ = record {
-  any_moment = keeps_more name len old now new first second;
+pub appended_leaves : (name : Name) (len : ℕ) (old now new : Standing) → IsCutTo name len old.files now.files → Keeps len (now.files name) (new.files name) → HasFile new.files name (λ b. len ≤ length b) → ((n : Name) → n ≢ name → new.files n ≡ now.files n) → Passes (At name (Keeps len)) old.past now.past → Passes (At name (Keeps len)) now.past new.past → now.opened ≡ old.opened → new.opened ≡ now.opened
+    → LeavesFile name (Some len) old new
+appended_leaves name len old now new cut front long others first second same same₂ = record {
+  any_moment = keeps_more name len old.past now.past new.past first second;
   front = λ bytes some low begins. front bytes some low (cut.front bytes some low begins);
-  long = λ n is. let at : len ≡ n = cc (is) in subst (λ (k : ℕ). HasFile later name (λ b. k ≤ length b)) at long;
+  long = λ n is. let at : len ≡ n = cc (is) in subst (λ (k : ℕ). HasFile new.files name (λ b. k ≤ length b)) at long;
   elsewhere = λ n apart. others n apart ∙ cut.elsewhere n apart;
-  fewer = same_opened opened after (same₂ ∙ same);
+  fewer = same_opened old.opened new.opened (same₂ ∙ same);
 }
 
-pub torn_leaves : (name : Name) (len n : ℕ) (files mid later : Files) (opened after_mid after : Name → ℕ) (old now new : Past) → IsCutTo name len files mid → At name (Torn len n) mid later → Passes (At name (Keeps len)) old now → Passes (At name (Keeps len)) now new → after_mid ≡ opened → after ≡ after_mid
-    → LeavesFile name (Some len) files later opened after old new
-torn_leaves name len n files mid later opened after_mid after old now new cut torn first second same same₂ =
-    appended_leaves name len files mid later opened after_mid after old now new cut (torn_keeps len n (mid name) (later name) torn.here) (torn_long name len len n mid later cut.long torn) torn.elsewhere first second same same₂
+pub torn_leaves : (name : Name) (len n : ℕ) (old now new : Standing) → IsCutTo name len old.files now.files → At name (Torn len n) now.files new.files → Passes (At name (Keeps len)) old.past now.past → Passes (At name (Keeps len)) now.past new.past → now.opened ≡ old.opened → new.opened ≡ now.opened
+    → LeavesFile name (Some len) old new
+torn_leaves name len n old now new cut torn first second same same₂ =
+    appended_leaves name len old now new cut (torn_keeps len n (now.files name) (new.files name) torn.here) (torn_long name len len n now.files new.files cut.long torn) torn.elsewhere first second same same₂
 
-pub written_leaves : (name : Name) (len : ℕ) (bytes : List ℕ) (files mid later : Files) (opened after_mid after : Name → ℕ) (old now new : Past) → IsCutTo name len files mid → At name (Overwritten len bytes) mid later → Passes (At name (Keeps len)) old now → Passes (At name (Keeps len)) now new → after_mid ≡ opened → after ≡ after_mid
-    → LeavesFile name (Some len) files later opened after old new
-written_leaves name len bytes files mid later opened after_mid after old now new cut written first second same same₂ =
-    appended_leaves name len files mid later opened after_mid after old now new cut (written_keeps len bytes (mid name) (later name) written.here) (written_long name len bytes mid later cut.long written) written.elsewhere first second same same₂
+pub written_leaves : (name : Name) (len : ℕ) (bytes : List ℕ) (old now new : Standing) → IsCutTo name len old.files now.files → At name (Overwritten len bytes) now.files new.files → Passes (At name (Keeps len)) old.past now.past → Passes (At name (Keeps len)) now.past new.past → now.opened ≡ old.opened → new.opened ≡ now.opened
+    → LeavesFile name (Some len) old new
+written_leaves name len bytes old now new cut written first second same same₂ =
+    appended_leaves name len old now new cut (written_keeps len bytes (now.files name) (new.files name) written.here) (written_long name len bytes now.files new.files cut.long written) written.elsewhere first second same same₂
 
-pub written_grows : (name : Name) (len : ℕ) (bytes : List ℕ) (files mid later : Files) (after : Name → ℕ) (new : Past) → HasFile files name (λ b. len ≤ length b) → At name (Cut len) files mid → At name (Overwritten len bytes) mid later → Only new name (later name) → WritesFile name (Some len) bytes files later after new
-written_grows name len bytes files mid later after new was cut written durable = record {
+pub written_grows : (name : Name) (len : ℕ) (bytes : List ℕ) (files mid : Files) (new : Standing) → HasFile files name (λ b. len ≤ length b) → At name (Cut len) files mid → At name (Overwritten len bytes) mid new.files → Only new.past name (new.files name) → WritesFile name (Some len) bytes files new
+written_grows name len bytes files mid new was cut written durable = record {
   grown = λ n b at file.
       let one : len ≡ n = cc (at) in
       let same : ◌≡◌ {A = Content} (Some was.bytes) (Some b) = sym was.file ∙ file in
       let bytes_are : was.bytes ≡ b = cc (same) in
       let long = ap length bytes_are in
-      subst (λ (k : ℕ). later name ≡ Some (take k b ++ bytes)) one (appended len bytes b (files name) (mid name) (later name) file (omega (arith, long, was.holds)) cut.here written.here);
+      subst (λ (k : ℕ). new.files name ≡ Some (take k b ++ bytes)) one (appended len bytes b (files name) (mid name) (new.files name) file (omega (arith, long, was.holds)) cut.here written.here);
   made = λ none. absurd (cc (none));
   closed = λ none. absurd (cc (none));
   durable = durable;
 }
 
 -- and of a file that is made anew
-pub made_leaves : (name : Name) (files later : Files) (opened after : Name → ℕ) (old new : Past) → At name (Keeps 0) files later → Passes (At name (Keeps 0)) old new → after name ≤ opened name → ((n : Name) → n ≢ name → after n ≡ opened n) → LeavesFile name None files later opened after old new
-made_leaves name files later opened after old new kept passes low same = record {
+pub made_leaves : (name : Name) (old new : Standing) → At name (Keeps 0) old.files new.files → Passes (At name (Keeps 0)) old.past new.past → new.opened name ≤ old.opened name → ((n : Name) → n ≢ name → new.opened n ≡ old.opened n) → LeavesFile name None old new
+made_leaves name old new kept passes low same = record {
   any_moment = passes;
   front = kept.here;
   long = λ n is. absurd (cc (is));
   elsewhere = kept.elsewhere;
-  fewer = all_names name opened after same low;
+  fewer = all_names name old.opened new.opened same low;
 }
 
-pub made_makes : (name : Name) (bytes : List ℕ) (files later : Files) (after : Name → ℕ) (new : Past) → later name ≡ Some bytes → after name ≤ 0 → Only new name (later name) → WritesFile name None bytes files later after new
-made_makes name bytes files later after new made closed durable = record { grown = λ n b at file. absurd (cc (at)); made = λ none. made; closed = λ none. closed; durable = durable }
+pub made_makes : (name : Name) (bytes : List ℕ) (files : Files) (new : Standing) → new.files name ≡ Some bytes → new.opened name ≤ 0 → Only new.past name (new.files name) → WritesFile name None bytes files new
+made_makes name bytes files new made closed durable = record { grown = λ n b at file. absurd (cc (at)); made = λ none. made; closed = λ none. closed; durable = durable }
 
 -- the place where bytes go on
 pub there_long : (files : Files) (name : Name) (opened : Name → ℕ) (len : ℕ) → HasFile files name (λ b. (opened name ≤ len) × (len ≤ length b)) → HasFile files name (λ b. len ≤ length b)

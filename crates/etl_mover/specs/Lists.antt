@@ -1,9 +1,9 @@
 -- How a call ends that lists other files in one commit of a manifest.
 use Rattle.std.specs.Prelude.{◌≡◌, ℕ, Bool, true, false, List, Result, Ok, Err}
-use Rattle.disk_model.specs.Files.{Name, Files}
 use Rattle.disk_model.specs.Past.{Past, Passes}
 use Rattle.disk_model.specs.declared.disk.DiskErr.{DiskErr}
 use Rattle.gate_journal.specs.Journal.{JournalState}
+use Rattle.gate_journal.specs.Standing.{Standing}
 use Rattle.store_manifest.specs.declared.entry.Entry.{Entry}
 use Rattle.store_manifest.specs.Manifest.{ManifestState}
 use Rattle.durable_write.specs.Held.{Held, Shelf}
@@ -23,15 +23,15 @@ published (Err e) true = Unmade
 published (Err e) false = Doubtful
 
 -- what the store has then, of what it had and what it was to have
-abbrev pub Stands : JournalState → ManifestState → Shelf → Files → (Name → ℕ) → Past → Held → Held → Outcome → Type 0
-Stands catalogue made shelf files opened past held next Unmade = IsStoredAs catalogue made shelf files opened past held
-Stands catalogue made shelf files opened past held next Made = IsStoredAs catalogue made shelf files opened past next
-Stands catalogue made shelf files opened past held next Doubtful = IsDoubtedAs catalogue made shelf files opened past held next
+abbrev pub Stands : JournalState → ManifestState → Shelf → Standing → Held → Held → Outcome → Type 0
+Stands catalogue made shelf disk held next Unmade = IsStoredAs catalogue made shelf disk held
+Stands catalogue made shelf disk held next Made = IsStoredAs catalogue made shelf disk next
+Stands catalogue made shelf disk held next Doubtful = IsDoubtedAs catalogue made shelf disk held next
 
 -- A crash at any moment of the call leaves what was held or what is next, and the call ends so.
-pub record Relists (catalogue : JournalState) (m made : ManifestState) (shelf : Shelf) (files : Files) (opened : Name → ℕ) (old new : Past) (held next : Held) (outcome : Outcome) : Type 0 where
-  pub any_moment : Passes (HoldsEither m.granularity held next) old new
-  pub stands : Stands catalogue made shelf files opened new held next outcome
+pub record Relists (catalogue : JournalState) (m made : ManifestState) (shelf : Shelf) (old : Past) (new : Standing) (held next : Held) (outcome : Outcome) : Type 0 where
+  pub any_moment : Passes (HoldsEither m.granularity held next) old new.past
+  pub stands : Stands catalogue made shelf new held next outcome
 
 -- what the manifest in memory lists then
 abbrev pub Knows : ManifestState → ManifestState → List Entry → Outcome → Type 0

@@ -1,18 +1,10 @@
 -- Reads of a file.
 use Rattle.std.specs.Prelude.{◌≡◌, ◌⊎◌, ◌≤◌, ℕ, List, [], ◌∷◌, ◌++◌, ◌+◌, ◌&&◌, nat_lt, if◌then◌else◌, Contains, length, take}
-use Rattle.disk_model.specs.Files.{Name, Files}
-use Rattle.disk_model.specs.Past.{Past, Passes}
 use Rattle.line_escape.specs.Unescaping.{HasNoNewline}
 
 -- as many bytes as one step of copying appends, but for a line that is longer
 abbrev pub most_copied : ℕ
 most_copied = 1_048_576
-
--- the disk was only read
-pub record OnlyReads (files later : Files) (opened after : Name → ℕ) (old new : Past) : Type 0 where
-  pub same : later ≡ files
-  pub same_opened : after ≡ opened
-  pub any_moment : Passes (λ a b. b ≡ a) old new
 
 -- Bytes from the front of others, of which `rest` count: they have a newline, or are all that counts. They are at most so many, or
 -- one line.

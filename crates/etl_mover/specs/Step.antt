@@ -1,7 +1,7 @@
 -- One step of copying: lines of one part of a move go to the destination's file of its partition, ahead of what is listed there.
 use Rattle.std.specs.Prelude.{◌≡◌, ◌≢◌, ◌⊎◌, ◌↔◌, ◌≤◌, ◌+◌, ◌-◌, ℕ, List, [], ◌∷◌, ◌++◌, length, take, drop, Option, None, Some, slice_get, slice_set}
 use Rattle.disk_model.specs.Files.{Name, Files, HasFile}
-use Rattle.disk_model.specs.Past.{Past}
+use Rattle.gate_journal.specs.Standing.{Standing}
 use Rattle.line_escape.specs.Unescaping.{HasNoNewline}
 use Rattle.series_model.specs.declared.sample.Sample.{Sample}
 use Rattle.pb_messages.specs.declared.info.PayloadInfo.{PayloadInfo}
@@ -121,8 +121,8 @@ pub record Advances (move new : MoveState) (revived : Option Entry) (len : ℕ) 
   pub sets : (pending ≡ move.pending) ⊎ ((part : Entry) × (start : Start) × (entry : Entry) × GoesTo move revived part start × (entry.part ≡ start.entry.part) × (entry.series ≡ start.entry.series) × (start.entry.len ≤ entry.len) × SetsLast entry move.pending pending)
 
 -- The lines are written to the file, which is to be listed with them.
-pub record Writes (name : Name) (start : Start) (head lines : List ℕ) (entry : Entry) (old new : List Entry) (files later : Files) (after : Name → ℕ) (past : Past) : Type 0 where
-  pub wrote : WritesFile name start.at (written_at start.at head lines) files later after past
+pub record Writes (name : Name) (start : Start) (head lines : List ℕ) (entry : Entry) (old new : List Entry) (files : Files) (later : Standing) : Type 0 where
+  pub wrote : WritesFile name start.at (written_at start.at head lines) files later
   pub set : SetsLast entry old new
 
 -- there were none
@@ -132,14 +132,14 @@ pub record WritesNone (lines : List ℕ) (old new : List Entry) (files later : F
   pub same_files : later ≡ files
 
 -- A step has copied these lines of a part's file with these bytes.
-pub record Copies (name : Name) (start : Start) (part : Entry) (from len most : ℕ) (bytes : List ℕ) (old new : List Entry) (files later : Files) (after : Name → ℕ) (past : Past) (lines : List ℕ) : Type 0 where
+pub record Copies (name : Name) (start : Start) (part : Entry) (from len most : ℕ) (bytes : List ℕ) (old new : List Entry) (files : Files) (later : Standing) (lines : List ℕ) : Type 0 where
   pub entry : Entry
   pub part_is : entry.part ≡ start.entry.part
   pub series_is : entry.series ≡ start.entry.series
   pub takes : Takes (take part.head_len bytes) (between from len bytes) most lines start.entry entry
-  pub writes : Writes name start (take part.head_len bytes) lines entry old new files later after past ⊎ WritesNone lines old new files later
+  pub writes : Writes name start (take part.head_len bytes) lines entry old new files later ⊎ WritesNone lines old new files later.files
 
 -- And it has copied the part whole exactly where they are the last of it.
-abbrev pub CopiesPart : MoveState → MoveState → Start → Entry → ℕ → ℕ → ℕ → List ℕ → Files → Files → (Name → ℕ) → Past → Type 0
-CopiesPart move new start part from len most b files later after past =
-    (lines : List ℕ) × Copies (target_file move start) start part from len most b move.pending new.pending files later after past lines × ((new.at ≡ move.at + 1) ↔ (from + length lines ≡ len))
+abbrev pub CopiesPart : MoveState → MoveState → Start → Entry → ℕ → ℕ → ℕ → List ℕ → Files → Standing → Type 0
+CopiesPart move new start part from len most b files later =
+    (lines : List ℕ) × Copies (target_file move start) start part from len most b move.pending new.pending files later lines × ((new.at ≡ move.at + 1) ↔ (from + length lines ≡ len))

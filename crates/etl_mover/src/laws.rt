@@ -2,6 +2,7 @@
 ghost use Rattle.std.specs.Prelude.{◌≡◌, ℕ, List, [], ◌∷◌, Option, Some, IfSome, IsTrue};
 ghost use Rattle.disk_model.specs.Past.{Passes};
 ghost use Rattle.gate_journal.specs.Journal.{JournalState};
+ghost use Rattle.gate_journal.specs.Standing.{standing};
 ghost use Rattle.partition_names.specs.declared.granularity.Granularity.{Granularity};
 ghost use Rattle.store_manifest.specs.declared.entry.Entry.{Entry};
 ghost use Rattle.store_manifest.specs.Manifest.{ManifestState};
@@ -42,18 +43,15 @@ pub fn a_move_is_invisible()
 /// Nothing is ahead of what a destination holds when a move begins. From then on each file that a copy goes on with
 /// stands on the disk: those that are listed or to be listed, and the one in limbo that is revived where that does.
 pub fn a_move_finds_its_files<D: Disk>()
-    ensures begun { (disk : D) (catalogue : JournalState) (m : ManifestState) (shelf : Shelf)
-        (held : Held) (move : MoveState)
-        → IsStoredAs catalogue m shelf (D.files disk) (D.opened disk) (D.past disk) held → move.pending ≡ []
-        → HasCopied catalogue m shelf (D.files disk) (D.opened disk) (D.past disk) held held × IsAhead move held held }
+    ensures begun { (disk : D) (catalogue : JournalState) (m : ManifestState) (shelf : Shelf) (held : Held)
+        (move : MoveState) → IsStoredAs catalogue m shelf (standing D.Disk disk) held → move.pending ≡ []
+        → HasCopied catalogue m shelf (standing D.Disk disk) held held × IsAhead move held held }
     ensures targets { (disk : D) (fine : Granularity) (catalogue : JournalState) (m : ManifestState) (shelf : Shelf)
-        (held ahead : Held) (move : MoveState) (revived : Option Entry)
-        → IsMove fine move → HasCopied catalogue m shelf (D.files disk) (D.opened disk) (D.past disk) held ahead
-        → IsAhead move held ahead
+        (held ahead : Held) (move : MoveState) (revived : Option Entry) → IsMove fine move
+        → HasCopied catalogue m shelf (standing D.Disk disk) held ahead → IsAhead move held ahead
         → IsLastOf m.entries move.series move.listed → IsToRow move shelf
-        → ((e : Entry) → revived ≡ Some e
-        → IsLongUnopened e.len (part_file move.destination move.name e) (D.files disk) (D.opened disk))
-        → HasTargets move revived (D.files disk) (D.opened disk) }
+        → ((e : Entry) → revived ≡ Some e → IsLongUnopened e.len (part_file move.destination move.name e) (D.files disk)
+        (D.opened disk)) → HasTargets move revived (D.files disk) (D.opened disk) }
 {}
 
 /// A call that leaves the file where a copy goes on leaves all that is listed and all that is ahead, at each
@@ -61,21 +59,16 @@ pub fn a_move_finds_its_files<D: Disk>()
 /// are those of the files ahead.
 pub fn a_copy_goes_ahead<D: Disk>()
     ensures stays { (old new : D) (catalogue : JournalState) (m : ManifestState) (shelf : Shelf) (held ahead : Held)
-        (at : Option ℕ) (f : Filed)
-        → HasCopied catalogue m shelf (D.files old) (D.opened old) (D.past old) held ahead
-        → IsPlaced m.granularity ahead at f
-        → LeavesFile (file_of shelf f.entry) at (D.files old) (D.files new) (D.opened old) (D.opened new)
-        (D.past old) (D.past new)
-        → HasCopied catalogue m shelf (D.files new) (D.opened new) (D.past new) held ahead
+        (at : Option ℕ) (f : Filed) → HasCopied catalogue m shelf (standing D.Disk old) held ahead
+        → IsPlaced m.granularity ahead at f → LeavesFile (file_of shelf f.entry) at (standing D.Disk old)
+        (standing D.Disk new) → HasCopied catalogue m shelf (standing D.Disk new) held ahead
         × Passes (λ a b. Holds m.granularity b held) (D.past old) (D.past new) }
     ensures copied { (old new : D) (catalogue : JournalState) (m : ManifestState) (shelf : Shelf) (held ahead : Held)
-        (at : Option ℕ) (bytes : List ℕ) (f : Filed)
-        → IsTrue D.tells → HasCopied catalogue m shelf (D.files old) (D.opened old) (D.past old) held ahead
-        → BecomesFile m.granularity ahead at bytes f
-        → LeavesFile (file_of shelf f.entry) at (D.files old) (D.files new) (D.opened old) (D.opened new)
-        (D.past old) (D.past new)
-        → WritesFile (file_of shelf f.entry) at bytes (D.files old) (D.files new) (D.opened new) (D.past new)
-        → HasCopied catalogue m shelf (D.files new) (D.opened new) (D.past new) held (with_files ahead (f ∷ [])) }
+        (at : Option ℕ) (bytes : List ℕ) (f : Filed) → IsTrue D.tells
+        → HasCopied catalogue m shelf (standing D.Disk old) held ahead → BecomesFile m.granularity ahead at bytes f
+        → LeavesFile (file_of shelf f.entry) at (standing D.Disk old) (standing D.Disk new)
+        → WritesFile (file_of shelf f.entry) at bytes (D.files old) (standing D.Disk new)
+        → HasCopied catalogue m shelf (standing D.Disk new) held (with_files ahead (f ∷ [])) }
     ensures pending { (fine : Granularity) (move new : MoveState) (held ahead : Held) (f : Filed) → IsMove fine move
         → IsAhead move held ahead → f.entry.series ≡ move.series
         → SetsLast f.entry move.pending new.pending

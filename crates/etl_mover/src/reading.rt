@@ -1,7 +1,8 @@
 // Reads of a part's file, which leave the disk as it is.
 ghost use Rattle.std.specs.Prelude.{◌≡◌, ◌⊎◌, ◌≤◌, ◌<◌, ◌+◌, ℕ, List, Some, length, take, drop, IfOk, IsErrOf, IsTrue};
 ghost use Rattle.disk_model.specs.Files.{HasFile, Rose};
-ghost use Rattle.etl_mover.specs.Reading.{OnlyReads, IsChunk, cut_to_line, most_copied};
+ghost use Rattle.gate_journal.specs.Standing.{standing, ReadsDisk};
+ghost use Rattle.etl_mover.specs.Reading.{IsChunk, cut_to_line, most_copied};
 
 use disk_model::{Disk, DiskErr, FileName};
 use line_escape::line_len;
@@ -21,8 +22,7 @@ pub(crate) fn read<D: Disk>(
     requires { IsTrue D.tells → HasFile (D.files disk.old) name.now (λ b. at + len ≤ length b) }
     ensures bytes { IsTrue D.tells → (b : List ℕ) → D.files disk.old name.now ≡ Some b
         → IfOk result (λ v. v.items ≡ take len (drop at b)) }
-    ensures reads { IsTrue D.tells → OnlyReads (D.files disk.old) (D.files disk.new)
-        (D.opened disk.old) (D.opened disk.new) (D.past disk.old) (D.past disk.new) }
+    ensures reads { IsTrue D.tells → ReadsDisk (standing D.Disk disk.old) (standing D.Disk disk.new) }
     ensures faults { D.faults disk.old ≤ D.faults disk.new }
     ensures cause { IsErrOf result DiskErr.Fault → Rose (D.faults disk.old) (D.faults disk.new) }
 {
@@ -45,8 +45,7 @@ pub(crate) fn read_lines<D: Disk>(
     requires there { IsTrue D.tells → HasFile (D.files disk.old) name.now (λ b. from + rest ≤ length b) }
     ensures chunk { IsTrue D.tells → (b : List ℕ) → D.files disk.old name.now ≡ Some b
         → IfOk result (λ v. IsChunk (drop from b) rest most_copied v.items) }
-    ensures reads { IsTrue D.tells → OnlyReads (D.files disk.old) (D.files disk.new)
-        (D.opened disk.old) (D.opened disk.new) (D.past disk.old) (D.past disk.new) }
+    ensures reads { IsTrue D.tells → ReadsDisk (standing D.Disk disk.old) (standing D.Disk disk.new) }
     ensures faults { D.faults disk.old ≤ D.faults disk.new }
     ensures cause { IsErrOf result DiskErr.Fault → Rose (D.faults disk.old) (D.faults disk.new) }
 {

@@ -1,10 +1,11 @@
 -- Candidates, and files that are none.
-use Rattle.std.proofs.Common.{◌≡◌, Bool, ℕ, ◌<◌, ◌≤◌, ◌↔◌, List, length, take, Option, Some, None, Result, Ok, Err, IfOk, refl, sym, ◌∙◌, ap, subst}
+use Rattle.std.proofs.Common.{◌≡◌, ℕ, ◌<◌, ◌≤◌, ◌↔◌, List, length, take, Option, Some, None, Result, Ok, Err, IfOk, refl, sym, ◌∙◌, ap, subst}
 use Rattle.std.specs.Prelude.{IfSome, IsTrue}
 use Rattle.std.proofs.Math.Seq.{take-length}
 use Rattle.std.proofs.lemmas.Option.{same_Some}
 use Rattle.disk_model.specs.Files.{Content, Name, Files, HasFile, size_of}
-use Rattle.disk_model.specs.Past.{Past, Passes}
+use Rattle.disk_model.specs.Past.{Passes}
+use Rattle.disk_model.specs.declared.disk.Disk.{Ghosts}
 use Rattle.partition_names.specs.declared.granularity.Granularity.{Granularity}
 use Rattle.partition_names.specs.declared.part.Part.{Part}
 use Rattle.partition_names.specs.Part.{IsPart}
@@ -15,7 +16,7 @@ use Rattle.pb_file.proofs.Fronts.{one_front, front_excluded}
 use Rattle.pv_name.specs.Name.{IsName}
 use Rattle.found_files.specs.declared.finding.Candidate.{Candidate}
 use Rattle.found_files.specs.Candidate.{IsCandidate, IsNamed}
-use Rattle.found_files.specs.Reading.{IsFrontOf, IsOnlyRead, bytes_in}
+use Rattle.found_files.specs.Reading.{IsFrontOf, OnlyReads, bytes_in}
 use Rattle.found_files.specs.ReadRuns.{read_then}
 
 -- no front of the bytes up to a file's length is none of the file
@@ -26,9 +27,9 @@ no_front_of part files n len there none = record { bytes = there.bytes; file = t
     all = ap (λ (c : Content). take len (bytes_in c)) there.file ∙ ap (λ (k : ℕ). take k there.bytes) there.holds ∙ take-length there.bytes
 
 -- its size was asked before
-pub read_sized : (tells : Bool) (f₀ : Files) (o₀ : Name → ℕ) (p₀ : Past) (n₀ : ℕ) (f₁ : Files) (o₁ : Name → ℕ) (p₁ : Past) (n₁ : ℕ) (f₂ : Files) (o₂ : Name → ℕ) (p₂ : Past) (n₂ : ℕ)
-    → (IsTrue tells → f₁ ≡ f₀) → (IsTrue tells → o₁ ≡ o₀) → (IsTrue tells → Passes (λ a b. b ≡ a) p₀ p₁) → n₀ ≤ n₁ → IsOnlyRead tells f₁ o₁ p₁ n₁ f₂ o₂ p₂ n₂ → IsOnlyRead tells f₀ o₀ p₀ n₀ f₂ o₂ p₂ n₂
-read_sized tells f₀ o₀ p₀ n₀ f₁ o₁ p₁ n₁ f₂ o₂ p₂ n₂ same opened crash faults two = read_then tells f₀ o₀ p₀ n₀ f₁ o₁ p₁ n₁ f₂ o₂ p₂ n₂ (record { files = same; opened = opened; any_moment = crash; faults = faults }) two
+pub read_sized : {D R : Type 0} (disk : Ghosts D R) (old mid new : D) → (IsTrue disk.tells → disk.files mid ≡ disk.files old) → (IsTrue disk.tells → disk.opened mid ≡ disk.opened old)
+    → (IsTrue disk.tells → Passes (λ a b. b ≡ a) (disk.past old) (disk.past mid)) → disk.faults old ≤ disk.faults mid → OnlyReads disk mid new → OnlyReads disk old new
+read_sized {D} {R} disk old mid new same opened crash faults two = read_then disk old mid new (record { files = same; opened = opened; any_moment = crash; faults = faults }) two
 
 -- a file of this size is there
 pub there_of : (files : Files) (n : Name) (len : ℕ) → Some len ≡ size_of (files n) → HasFile files n (λ b. len ≡ length b)

@@ -1,7 +1,7 @@
 -- The reading of a file where it stands.
-use Rattle.std.specs.Prelude.{◌≡◌, ◌≤◌, ◌<◌, ◌^◌, ℕ, List, [], Bool, IsTrue, Option, None, Some}
+use Rattle.std.specs.Prelude.{◌≡◌, ◌≤◌, ◌<◌, ◌^◌, ℕ, List, [], IsTrue, Option, None, Some}
 use Rattle.disk_model.specs.Files.{Content, Name, Files, HasFile}
-use Rattle.disk_model.specs.Past.{Past, Passes}
+use Rattle.disk_model.specs.Past.{Passes}
 use Rattle.disk_model.specs.declared.disk.Disk.{Ghosts}
 use Rattle.partition_names.specs.declared.part.Part.{Part}
 use Rattle.pb_file.specs.declared.good.Front.{Front}
@@ -9,17 +9,11 @@ use Rattle.pb_file.specs.GoodFront.{IsGoodFront, HasNoFront}
 
 -- The disk was only read: reads give what they gave, a crash leaves what it might have left before, and no name was opened further.
 -- Faults are counted. It is said of a disk that tells its files.
-pub record IsOnlyRead (tells : Bool) (seen : Files) (lengths : Name → ℕ) (old : Past) (count : ℕ)
-    (later : Files) (after : Name → ℕ) (new : Past) (more : ℕ) : Type 0 where
-  pub files : IsTrue tells → later ≡ seen
-  pub opened : IsTrue tells → after ≡ lengths
-  pub any_moment : IsTrue tells → Passes (λ a b. b ≡ a) old new
-  pub faults : count ≤ more
-
-abbrev pub OnlyReads : {D R : Type 0} → Ghosts D R → D → D → Type 0
-OnlyReads {D} {R} disk old new =
-    IsOnlyRead disk.tells (disk.files old) (disk.opened old) (disk.past old) (disk.faults old) (disk.files new) (disk.opened new) (disk.past new)
-    (disk.faults new)
+pub record OnlyReads {D R : Type 0} (disk : Ghosts D R) (old new : D) : Type 0 where
+  pub files : IsTrue disk.tells → disk.files new ≡ disk.files old
+  pub opened : IsTrue disk.tells → disk.opened new ≡ disk.opened old
+  pub any_moment : IsTrue disk.tells → Passes (λ a b. b ≡ a) (disk.past old) (disk.past new)
+  pub faults : disk.faults old ≤ disk.faults new
 
 -- this is the front of a file's bytes, whose header's line with its newline has less than 2 ^ 32 bytes
 pub record IsFrontOf (part : Part) (bytes : List ℕ) (front : Front) : Type 0 where

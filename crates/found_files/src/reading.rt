@@ -35,9 +35,7 @@ impl<'a, D: Disk> ReadAt for DiskFile<'a, D> {
     ghost faults = { λ f. f.count };
 
     ghost leaves = { λ old new. (new.disk.ghost_name ≡ old.disk.ghost_name) × (new.name ≡ old.name)
-        × ReadsOn D.tells (D.files old.disk.now) (D.opened old.disk.now) (D.past old.disk.now)
-        (D.faults old.disk.now) old.refused old.count (D.files new.disk.now) (D.opened new.disk.now)
-        (D.past new.disk.now) (D.faults new.disk.now) new.refused new.count };
+        × ReadsOn D.Disk old.disk.now old.refused old.count new.disk.now new.refused new.count };
 
     fn read_at(&mut self, at: u64, buf: &mut [u8]) -> Result<usize, ReadFailed> {
         match self.disk.read(self.name, at, buf) {
@@ -53,18 +51,14 @@ impl<'a, D: Disk> ReadAt for DiskFile<'a, D> {
     ghost leaves_none = { λ f. (
       refl,
       refl,
-      reads_none D.tells (D.files f.disk.now) (D.opened f.disk.now) (D.past f.disk.now)
-          (D.faults f.disk.now) f.refused f.count,
+      reads_none D.Disk f.disk.now f.refused f.count,
     ) };
 
     ghost leaves_then = { λ a b c first second. (
       second.0 ∙ first.0,
       second.1 ∙ first.1,
-      reads_then D.tells
-          (D.files a.disk.now) (D.opened a.disk.now) (D.past a.disk.now) (D.faults a.disk.now) a.refused a.count
-          (D.files b.disk.now) (D.opened b.disk.now) (D.past b.disk.now) (D.faults b.disk.now) b.refused b.count
-          (D.files c.disk.now) (D.opened c.disk.now) (D.past c.disk.now) (D.faults c.disk.now) c.refused c.count
-          first.2 second.2,
+      reads_then D.Disk a.disk.now a.refused a.count b.disk.now b.refused b.count
+          c.disk.now c.refused c.count first.2 second.2,
     ) };
 }
 

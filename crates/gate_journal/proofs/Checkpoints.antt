@@ -8,12 +8,13 @@ use Rattle.disk_model.specs.Files.{Name, Content, Files, HasFile}
 use Rattle.disk_model.specs.Past.{Past, MayLeave, Passes, Only}
 use Rattle.disk_model.proofs.Passing.{passes_none, passes_then, passes_weaker}
 use Rattle.gate_journal.specs.Batches.{open_gates, framed_bytes, Reads, HasBatches}
-use Rattle.gate_journal.specs.Commits.{Standing, CommitsBatches, GoesOver}
+use Rattle.gate_journal.specs.Commits.{CommitsBatches, GoesOver}
 use Rattle.gate_journal.specs.Journal.{JournalState, state_of, IsThere, IsSettledWith, IsUndecided, Switches, IsLeft, IsTold, OnlyGoesOn, OnlyMakes}
 use Rattle.gate_journal.specs.declared.journal.Pending.{Pending}
 use Rattle.gate_journal.specs.declared.journal.Pending.TheVariants.{Nothing, Switch, Removal}
 use Rattle.gate_journal.specs.Generations.{generation_name, IsOwn, AtOwn, HasOneOf, generation_batches}
 use Rattle.gate_journal.specs.Plain.{PlainState, IsSettled, IsInDoubt}
+use Rattle.gate_journal.specs.Standing.{Standing}
 use Rattle.gate_journal.proofs.Bytes.{one, length-framed_bytes}
 use Rattle.gate_journal.proofs.Elsewhere.{settled_stays}
 use Rattle.gate_journal.proofs.FileNames.{at_apart, one_generation, is_next}
@@ -25,13 +26,13 @@ use Rattle.gate_journal.proofs.Removing.{removed, removal_passes}
 use Rattle.gate_journal.proofs.Telling.{next_told, length_told}
 
 -- the place of the gate that isn't open tells the generation
-pub told_by_length : (at : PlainState) (files : Files) (opened : Name → ℕ) (past : Past) (g n : ℕ) → IsSettled at files opened past (generation_batches g) → n ≡ at.place + 1 → n / 13 + 1 ≡ g + 1
-told_by_length at files opened past g n settled is = let place = settled.place in omega (arith, is, place, length_told g)
+pub told_by_length : (at : PlainState) (disk : Standing) (g n : ℕ) → IsSettled at disk (generation_batches g) → n ≡ at.place + 1 → n / 13 + 1 ≡ g + 1
+told_by_length at disk g n settled is = let place = settled.place in omega (arith, is, place, length_told g)
 
 -- a file of one batch
-pub first_settled : (next : PlainState) (files : Files) (opened : Name → ℕ) (past : Past) (batch bytes : List ℕ) → length batch < 2 ^ 32 → bytes ≡ open_gates (batch ∷ []) ++ 0 ∷ [] → next.place ≡ length batch + 5 → files next.name ≡ Some bytes
-    → Only past next.name (Some bytes) → opened next.name ≡ 0 → IsSettled next files opened past (batch ∷ [])
-first_settled next files opened past batch bytes short is place file only unopened = record {
+pub first_settled : (next : PlainState) (disk : Standing) (batch bytes : List ℕ) → length batch < 2 ^ 32 → bytes ≡ open_gates (batch ∷ []) ++ 0 ∷ [] → next.place ≡ length batch + 5 → disk.files next.name ≡ Some bytes
+    → Only disk.past next.name (Some bytes) → disk.opened next.name ≡ 0 → IsSettled next disk (batch ∷ [])
+first_settled next disk batch bytes short is place file only unopened = record {
   bytes = bytes;
   file = file;
   reads = record { gate = 0; rest = []; shut = λ e. cc; split = is; fit = one batch short };
@@ -40,7 +41,7 @@ first_settled next files opened past batch bytes short is place file only unopen
   unopened = unopened;
 }
 
-module _ (journal : JournalState) (files : Files) (opened : Name → ℕ) (past : Past) (bs : List (List ℕ)) (s : IsSettledWith journal files opened past bs)
+module _ (journal : JournalState) (disk : Standing) (bs : List (List ℕ)) (s : IsSettledWith journal disk bs)
     (n : ℕ) (counted : n ≡ s.generation + 1) (next : Name) (small : n < 2 ^ 64) (named : next ≡ generation_name journal.name n) where
   pub at_not_next : journal.at.name ≢ next
   at_not_next same = at_apart journal.name n small (sym named ∙ sym same ∙ s.named.at)
@@ -65,74 +66,68 @@ module _ (journal : JournalState) (files : Files) (opened : Name → ℕ) (past 
     pub makes : (a b : Files) → ((m : Name) → m ≢ next → b m ≡ a m) → OnlyMakes journal.name k a b
     makes a b same m not_next = same m (λ is. not_next (is ∙ next_behind))
 
-    pub switch_goes_on : (cs : List (List ℕ)) (batch bytes : List ℕ) (mid : Past) → Passes (Switches journal.at.name next cs batch bytes) past mid → Passes (OnlyGoesOn journal.name k) past mid
+    pub switch_goes_on : (cs : List (List ℕ)) (batch bytes : List ℕ) (mid : Past) → Passes (Switches journal.at.name next cs batch bytes) disk.past mid → Passes (OnlyGoesOn journal.name k) disk.past mid
     switch_goes_on cs batch bytes mid passes =
-        passes_weaker (Switches journal.at.name next cs batch bytes) (OnlyGoesOn journal.name k) past mid passes (λ a c was step. goes_on a c (λ m not_at not_current not_next. step.elsewhere m not_at not_next))
+        passes_weaker (Switches journal.at.name next cs batch bytes) (OnlyGoesOn journal.name k) disk.past mid passes (λ a c was step. goes_on a c (λ m not_at not_current not_next. step.elsewhere m not_at not_next))
 
     -- and then the old file is removed
-    pub removal_goes_on : (mid new : Past) → Passes (OnlyGoesOn journal.name k) past mid → Passes (Anyhow journal.current.name) mid new → Passes (OnlyGoesOn journal.name k) past new
+    pub removal_goes_on : (mid new : Past) → Passes (OnlyGoesOn journal.name k) disk.past mid → Passes (Anyhow journal.current.name) mid new → Passes (OnlyGoesOn journal.name k) disk.past new
     removal_goes_on mid new first second =
-        passes_then (OnlyGoesOn journal.name k) (Anyhow journal.current.name) past mid new first second
+        passes_then (OnlyGoesOn journal.name k) (Anyhow journal.current.name) disk.past mid new first second
         (λ a b c was before now step m not_at not_current not_next. step.elsewhere m (λ is. not_current (is ∙ current)) ∙ before m not_at not_current not_next)
 
-    pub only_makes : (mid : Past) → Passes (Anyhow next) past mid → Passes (OnlyMakes journal.name k) past mid
-    only_makes mid passes = passes_weaker (Anyhow next) (OnlyMakes journal.name k) past mid passes (λ a c was step. makes a c step.elsewhere)
+    pub only_makes : (mid : Past) → Passes (Anyhow next) disk.past mid → Passes (OnlyMakes journal.name k) disk.past mid
+    only_makes mid passes = passes_weaker (Anyhow next) (OnlyMakes journal.name k) disk.past mid passes (λ a c was step. makes a c step.elsewhere)
 
-  module _ (batch bytes : List ℕ) (long : length batch ≤ 1073741824) (is_file : bytes ≡ open_gates (batch ∷ []) ++ 0 ∷ []) (later : Files) (opened_later : Name → ℕ) (new : Past)
-      (passes : Passes (Switches journal.at.name next (generation_batches s.generation) (to_le_bytes w64 n) bytes) past new)
-      (elsewhere : (m : Name) → m ≢ journal.at.name → m ≢ next → later m ≡ files m) (others_opened : (m : Name) → m ≢ next → opened_later m ≡ opened m) (next_unopened : opened_later next ≡ 0) where
+  module _ (batch bytes : List ℕ) (long : length batch ≤ 1073741824) (is_file : bytes ≡ open_gates (batch ∷ []) ++ 0 ∷ []) (new : Standing)
+      (passes : Passes (Switches journal.at.name next (generation_batches s.generation) (to_le_bytes w64 n) bytes) disk.past new.past)
+      (elsewhere : (m : Name) → m ≢ journal.at.name → m ≢ next → new.files m ≡ disk.files m) (others_opened : (m : Name) → m ≢ next → new.opened m ≡ disk.opened m) (next_unopened : new.opened next ≡ 0) where
     short : length batch < 2 ^ 32
     short = omega (arith, long)
 
     abbrev S : Files → Files → Type 0
     S = Switches journal.at.name next (generation_batches s.generation) (to_le_bytes w64 n) bytes
 
-    current_same : later journal.current.name ≡ files journal.current.name
-    current_same = elsewhere journal.current.name (λ is. names_apart journal files opened past bs s (sym is)) current_not_next
-
-    abbrev was : Standing
-    was = record { files = files; opened = opened; past = past }
-
-    abbrev now : Standing
-    now = record { files = later; opened = opened_later; past = new }
+    current_same : new.files journal.current.name ≡ disk.files journal.current.name
+    current_same = elsewhere journal.current.name (λ is. names_apart journal disk bs s (sym is)) current_not_next
 
     not_at : (m : Name) → (IsOwn journal.name m → ⊥) → m ≢ journal.at.name
-    not_at m other is = other (subst (IsOwn journal.name) (sym is) (at_is_own journal files opened past bs s))
+    not_at m other is = other (subst (IsOwn journal.name) (sym is) (at_is_own journal disk bs s))
 
     not_current : (m : Name) → (IsOwn journal.name m → ⊥) → m ≢ journal.current.name
-    not_current m other is = other (subst (IsOwn journal.name) (sym is) (current_is_own journal files opened past bs s))
+    not_current m other is = other (subst (IsOwn journal.name) (sym is) (current_is_own journal disk bs s))
 
     not_the_next : (m : Name) → (IsOwn journal.name m → ⊥) → m ≢ next
     not_the_next m other is = other (subst (IsOwn journal.name) (sym is) next_is_own)
 
-    pub current_file : HasFile later journal.current.name (λ b. Unit {0})
+    pub current_file : HasFile new.files journal.current.name (λ b. Unit {0})
     current_file = record { bytes = s.current.bytes; file = current_same ∙ s.current.file; holds = tt }
 
     current_stays : (a c : Files) → S a c → c journal.current.name ≡ a journal.current.name
-    current_stays a c step = step.elsewhere journal.current.name (λ is. names_apart journal files opened past bs s (sym is)) current_not_next
+    current_stays a c step = step.elsewhere journal.current.name (λ is. names_apart journal disk bs s (sym is)) current_not_next
 
-    pub all_unopened : (m : Name) → IsOwn journal.name m → opened_later m ≡ 0
+    pub all_unopened : (m : Name) → IsOwn journal.name m → new.opened m ≡ 0
     all_unopened m own = elim (is_next journal.name m n small own) [
-      | inl is ↦ ap opened_later (is ∙ sym named) ∙ next_unopened
+      | inl is ↦ ap new.opened (is ∙ sym named) ∙ next_unopened
       | inr other ↦ others_opened m (λ is. other (is ∙ named)) ∙ s.named.unopened m own
     ]
 
-    pub current_settled : IsSettled journal.current later opened_later new bs
+    pub current_settled : IsSettled journal.current new bs
     current_settled =
-        settled_stays journal.current files later opened opened_later past new bs S s.current passes current_stays current_same
-        (let none = all_unopened journal.current.name (current_is_own journal files opened past bs s) in omega (arith, none))
+        settled_stays journal.current disk new bs S s.current passes current_stays current_same
+        (let none = all_unopened journal.current.name (current_is_own journal disk bs s) in omega (arith, none))
 
-    current_there : IsThere s.generation (later journal.current.name)
+    current_there : IsThere s.generation (new.files journal.current.name)
     current_there = subst (IsThere s.generation) (sym current_same) s.there
 
     -- the old batches, or the new one alone
-    here_after : (a c : Files) → MayLeave past a → S a c → HasOneOf journal.name bs (batch ∷ []) a c
+    here_after : (a c : Files) → MayLeave disk.past a → S a c → HasOneOf journal.name bs (batch ∷ []) a c
     here_after a c was step =
-        let same = current_stays a c step ∙ same_left journal.current files opened past bs s.current a was in
+        let same = current_stays a c step ∙ same_left journal.current disk bs s.current a was in
         elim step.here [
           | inl before ↦ inl (
               holds_at journal.name journal.at.name journal.current.name c s.generation bs s.named.small s.named.at s.named.current (journal_has (generation_batches s.generation) (c journal.at.name) before)
-              (subst (λ (x : Content). HasBatches x bs) (sym same) (settled_seen journal.current files opened past bs s.current)) (subst (IsThere s.generation) (sym same) s.there)
+              (subst (λ (x : Content). HasBatches x bs) (sym same) (settled_seen journal.current disk bs s.current)) (subst (IsThere s.generation) (sym same) s.there)
               )
           | inr after ↦
               let told : HasBatches (c journal.at.name) (generation_batches n) =
@@ -142,20 +137,20 @@ module _ (journal : JournalState) (files : Files) (opened : Name → ℕ) (past 
               inr (holds_at journal.name journal.at.name next c n (batch ∷ []) small s.named.at named told has (λ one_on few. not_short (c next) [] batch has few))
         ]
 
-    pub switch_passes_own : Passes (AtOwn journal.name (HasOneOf journal.name bs (batch ∷ []))) past new
+    pub switch_passes_own : Passes (AtOwn journal.name (HasOneOf journal.name bs (batch ∷ []))) disk.past new.past
     switch_passes_own =
-        own_first journal.name (HasOneOf journal.name bs (batch ∷ [])) S past new passes here_after
+        own_first journal.name (HasOneOf journal.name bs (batch ∷ [])) S disk.past new.past passes here_after
         (λ b c step m other. step.elsewhere m (not_at m other) (not_the_next m other))
 
     -- at Memory it is as it was
-    pub left_commits : (at : PlainState) (after : JournalState) → after ≡ journal → IsLeft journal.at at later opened_later new (generation_batches s.generation) → CommitsBatches bs (batch ∷ []) (Err Memory) journal after was now
+    pub left_commits : (at : PlainState) (after : JournalState) → after ≡ journal → IsLeft journal.at at new (generation_batches s.generation) → CommitsBatches bs (batch ∷ []) (Err Memory) journal after disk new
     left_commits at after same left = record {
       made = tt;
       doubt = λ failed. absurd (cc failed);
-      unchanged = λ failed. subst (λ (j : JournalState). IsSettledWith j later opened_later new bs) (sym same) (record {
+      unchanged = λ failed. subst (λ (j : JournalState). IsSettledWith j new bs) (sym same) (record {
         generation = s.generation;
         named = record { small = s.named.small; at = s.named.at; current = s.named.current; unopened = all_unopened };
-        at = subst (λ (j : PlainState). IsSettled j later opened_later new (generation_batches s.generation)) left.same left.settled;
+        at = subst (λ (j : PlainState). IsSettled j new (generation_batches s.generation)) left.same left.settled;
         current = current_settled;
         there = current_there;
       });
@@ -165,24 +160,24 @@ module _ (journal : JournalState) (files : Files) (opened : Name → ℕ) (past 
     }
 
     module _ (at first : PlainState) (at_same_name : at.name ≡ journal.at.name) (first_name : first.name ≡ next) (first_place : first.place ≡ length batch + 5) where
-      pub next_settled : later next ≡ Some bytes → Only new next (Some bytes) → IsSettled first later opened_later new (batch ∷ [])
+      pub next_settled : new.files next ≡ Some bytes → Only new.past next (Some bytes) → IsSettled first new (batch ∷ [])
       next_settled made durable =
-          first_settled first later opened_later new batch bytes short is_file first_place (ap later first_name ∙ made) (λ image left. ap image first_name ∙ durable image left) (ap opened_later first_name ∙ next_unopened)
+          first_settled first new batch bytes short is_file first_place (ap new.files first_name ∙ made) (λ image left. ap image first_name ∙ durable image left) (ap new.opened first_name ∙ next_unopened)
 
       -- the file tells the next generation
-      abbrev pub gone_over : (pending : Pending) → IsSettled at later opened_later new (generation_batches s.generation ++ to_le_bytes w64 n ∷ []) → later next ≡ Some bytes → Only new next (Some bytes)
-          → IsSettledWith (state_of journal.name at first pending) later opened_later new (batch ∷ [])
+      abbrev pub gone_over : (pending : Pending) → IsSettled at new (generation_batches s.generation ++ to_le_bytes w64 n ∷ []) → new.files next ≡ Some bytes → Only new.past next (Some bytes)
+          → IsSettledWith (state_of journal.name at first pending) new (batch ∷ [])
       gone_over pending told made durable = record {
         generation = n;
         named = record { small = small; at = at_same_name ∙ s.named.at; current = first_name ∙ named; unopened = all_unopened };
-        at = subst (λ (cs : List (List ℕ)). IsSettled at later opened_later new cs) (sym (next_told s.generation n counted)) told;
+        at = subst (λ (cs : List (List ℕ)). IsSettled at new cs) (sym (next_told s.generation n counted)) told;
         current = next_settled made durable;
-        there = λ one_on few. not_short (later first.name) [] batch (settled_seen first later opened_later new (batch ∷ []) (next_settled made durable)) few;
+        there = λ one_on few. not_short (new.files first.name) [] batch (settled_seen first new (batch ∷ []) (next_settled made durable)) few;
       }
 
       -- it isn't known which it tells
-      switch_open : IsLeft journal.at at later opened_later new (generation_batches s.generation) ⊎ IsTold at next later opened_later new (generation_batches s.generation) (to_le_bytes w64 n) bytes
-          → journal.at.sound ≡ true → IsUndecided (state_of journal.name at journal.current (Switch first)) later opened_later new bs (batch ∷ [])
+      switch_open : IsLeft journal.at at new (generation_batches s.generation) ⊎ IsTold at next new (generation_batches s.generation) (to_le_bytes w64 n) bytes
+          → journal.at.sound ≡ true → IsUndecided (state_of journal.name at journal.current (Switch first)) new bs (batch ∷ [])
       switch_open failed was_sound = record {
         generation = s.generation;
         named = record { small = s.named.small; at = at_same_name ∙ s.named.at; current = s.named.current; unopened = all_unopened };
@@ -194,15 +189,15 @@ module _ (journal : JournalState) (files : Files) (opened : Name → ℕ) (past 
             unsound = told.unsound;
             small = subst (λ (k : ℕ). k < 2 ^ 64) counted small;
             named = first_name ∙ named ∙ ap (λ (k : ℕ). generation_name journal.name k) counted;
-            at = subst (λ (k : ℕ). IsInDoubt at later opened_later new (generation_batches s.generation) (to_le_bytes w64 k)) counted told.in_doubt;
+            at = subst (λ (k : ℕ). IsInDoubt at new (generation_batches s.generation) (to_le_bytes w64 k)) counted told.in_doubt;
             made = next_settled told.made told.durable;
-            there = λ few. not_short (later first.name) [] batch (settled_seen first later opened_later new (batch ∷ []) (next_settled told.made told.durable)) few;
+            there = λ few. not_short (new.files first.name) [] batch (settled_seen first new (batch ∷ []) (next_settled told.made told.durable)) few;
           })
         ];
       }
 
-      pub open_commits : IsLeft journal.at at later opened_later new (generation_batches s.generation) ⊎ IsTold at next later opened_later new (generation_batches s.generation) (to_le_bytes w64 n) bytes
-          → journal.at.sound ≡ true → CommitsBatches bs (batch ∷ []) (Err Fault) journal (state_of journal.name at journal.current (Switch first)) was now
+      pub open_commits : IsLeft journal.at at new (generation_batches s.generation) ⊎ IsTold at next new (generation_batches s.generation) (to_le_bytes w64 n) bytes
+          → journal.at.sound ≡ true → CommitsBatches bs (batch ∷ []) (Err Fault) journal (state_of journal.name at journal.current (Switch first)) disk new
       open_commits failed was_sound = record {
         made = tt;
         doubt = λ fault. switch_open failed was_sound;
@@ -213,67 +208,67 @@ module _ (journal : JournalState) (files : Files) (opened : Name → ℕ) (past 
       }
 
       -- and then the old file is removed
-      module _ (told : IsSettled at later opened_later new (generation_batches s.generation ++ to_le_bytes w64 n ∷ [])) (made : later next ≡ Some bytes) (durable : Only new next (Some bytes))
-          (last : Files) (opened_last : Name → ℕ) (end : Past) (removal : Passes (Anyhow journal.current.name) new end) (only_it : (m : Name) → m ≢ journal.current.name → last m ≡ later m)
-          (only_opened : (m : Name) → m ≢ journal.current.name → opened_last m ≡ opened_later m) (none_opened : opened_last journal.current.name ≡ 0) where
+      module _ (told : IsSettled at new (generation_batches s.generation ++ to_le_bytes w64 n ∷ [])) (made : new.files next ≡ Some bytes) (durable : Only new.past next (Some bytes))
+          (last : Standing) (removal : Passes (Anyhow journal.current.name) new.past last.past) (only_it : (m : Name) → m ≢ journal.current.name → last.files m ≡ new.files m)
+          (only_opened : (m : Name) → m ≢ journal.current.name → last.opened m ≡ new.opened m) (none_opened : last.opened journal.current.name ≡ 0) where
         abbrev over : Pending → JournalState
         over pending = state_of journal.name at first pending
 
-        abbrev behind : (pending : Pending) → IsSettledWith (over pending) last opened_last end (batch ∷ [])
-        behind pending = removed (over pending) later opened_later new (batch ∷ []) (gone_over pending told made durable) s.generation (sym counted) journal.current.name s.named.current last opened_last end removal only_it only_opened none_opened
+        abbrev behind : (pending : Pending) → IsSettledWith (over pending) last (batch ∷ [])
+        behind pending = removed (over pending) new (batch ∷ []) (gone_over pending told made durable) s.generation (sym counted) journal.current.name s.named.current last removal only_it only_opened none_opened
 
         pub gone_commits : (result : Result (Unit {0}) DiskErr) (after : JournalState) → OnOk result (after ≡ over Nothing) → OnErr result (after ≡ over (Removal journal.current)) → (IsErrOf result Memory → ⊥)
-            → CommitsBatches bs (batch ∷ []) result journal after was (record { files = last; opened = opened_last; past = end })
+            → CommitsBatches bs (batch ∷ []) result journal after disk last
         gone_commits result after is_over is_left no_memory = record {
-          made = on_ok_weaker result (λ is. subst (λ (j : JournalState). IsSettledWith j last opened_last end (batch ∷ [])) (sym is) (behind Nothing)) is_over;
+          made = on_ok_weaker result (λ is. subst (λ (j : JournalState). IsSettledWith j last (batch ∷ [])) (sym is) (behind Nothing)) is_over;
           doubt = λ failed.
-              subst (λ (j : JournalState). IsUndecided j last opened_last end bs (batch ∷ [])) (sym (IfErr-at_err (λ (e : DiskErr). after ≡ over (Removal journal.current)) failed is_left))
+              subst (λ (j : JournalState). IsUndecided j last bs (batch ∷ [])) (sym (IfErr-at_err (λ (e : DiskErr). after ≡ over (Removal journal.current)) failed is_left))
               (record { settled = behind (Removal journal.current); generation = s.generation; before = sym counted; named = s.named.current });
           unchanged = λ failed. absurd (no_memory failed);
           any_moment =
-              removal_passes (over Nothing) later opened_later new (batch ∷ []) (gone_over Nothing told made durable) s.generation (sym counted) journal.current.name s.named.current (HasOneOf journal.name bs (batch ∷ [])) past end switch_passes_own removal
+              removal_passes (over Nothing) new (batch ∷ []) (gone_over Nothing told made durable) s.generation (sym counted) journal.current.name s.named.current (HasOneOf journal.name bs (batch ∷ [])) disk.past last.past switch_passes_own removal
               (λ a b d so_far was has. inr has);
           elsewhere = λ m other. only_it m (not_current m other) ∙ elsewhere m (not_at m other) (not_the_next m other);
           opened = λ m other. only_opened m (not_current m other) ∙ others_opened m (not_the_next m other);
         }
 
         pub gone_over_goes : (k : ℕ) (small_k : k < 2 ^ 64) (current : journal.current.name ≡ generation_name journal.name k) (result : Result (Unit {0}) DiskErr) (after : JournalState) → OnOk result (after ≡ over Nothing) → (IsErrOf result Memory → ⊥)
-            → OnOk result ((last journal.current.name ≡ None) × Only end journal.current.name None) → GoesOver k result journal after was (record { files = last; opened = opened_last; past = end })
+            → OnOk result ((last.files journal.current.name ≡ None) × Only last.past journal.current.name None) → GoesOver k result journal after disk last
         gone_over_goes k small_k current result after is_over no_memory gone = record {
           next = on_ok_weaker result (λ is. ap (λ (j : JournalState). j.current.name) is ∙ first_name ∙ next_behind k small_k current) is_over;
           gone = gone;
-          files = goes_on k small_k current files last (λ m other_at other_current other_next. only_it m other_current ∙ elsewhere m other_at other_next);
-          any_moment = removal_goes_on k small_k current new end (switch_goes_on k small_k current (generation_batches s.generation) (to_le_bytes w64 n) bytes new passes) removal;
+          files = goes_on k small_k current disk.files last.files (λ m other_at other_current other_next. only_it m other_current ∙ elsewhere m other_at other_next);
+          any_moment = removal_goes_on k small_k current new.past last.past (switch_goes_on k small_k current (generation_batches s.generation) (to_le_bytes w64 n) bytes new.past passes) removal;
           untold = λ failed. absurd (no_memory failed);
         }
 
     -- of the files by their generations
-    pub left_goes : (k : ℕ) (small_k : k < 2 ^ 64) (current : journal.current.name ≡ generation_name journal.name k) (after : JournalState) → ((m : Name) → m ≢ next → later m ≡ files m) → Passes (Anyhow next) past new → GoesOver k (Err Memory) journal after was now
+    pub left_goes : (k : ℕ) (small_k : k < 2 ^ 64) (current : journal.current.name ≡ generation_name journal.name k) (after : JournalState) → ((m : Name) → m ≢ next → new.files m ≡ disk.files m) → Passes (Anyhow next) disk.past new.past → GoesOver k (Err Memory) journal after disk new
     left_goes k small_k current after same made = record {
       next = tt;
       gone = tt;
-      files = goes_on k small_k current files later (λ m other_at other_current other_next. elsewhere m other_at other_next);
-      any_moment = switch_goes_on k small_k current (generation_batches s.generation) (to_le_bytes w64 n) bytes new passes;
-      untold = λ failed. (makes k small_k current files later same, only_makes k small_k current new made);
+      files = goes_on k small_k current disk.files new.files (λ m other_at other_current other_next. elsewhere m other_at other_next);
+      any_moment = switch_goes_on k small_k current (generation_batches s.generation) (to_le_bytes w64 n) bytes new.past passes;
+      untold = λ failed. (makes k small_k current disk.files new.files same, only_makes k small_k current new.past made);
     }
 
-    pub open_goes : (k : ℕ) (small_k : k < 2 ^ 64) (current : journal.current.name ≡ generation_name journal.name k) (after : JournalState) → GoesOver k (Err Fault) journal after was now
+    pub open_goes : (k : ℕ) (small_k : k < 2 ^ 64) (current : journal.current.name ≡ generation_name journal.name k) (after : JournalState) → GoesOver k (Err Fault) journal after disk new
     open_goes k small_k current after = record {
       next = tt;
       gone = tt;
-      files = goes_on k small_k current files later (λ m other_at other_current other_next. elsewhere m other_at other_next);
-      any_moment = switch_goes_on k small_k current (generation_batches s.generation) (to_le_bytes w64 n) bytes new passes;
+      files = goes_on k small_k current disk.files new.files (λ m other_at other_current other_next. elsewhere m other_at other_next);
+      any_moment = switch_goes_on k small_k current (generation_batches s.generation) (to_le_bytes w64 n) bytes new.past passes;
       untold = λ failed. absurd (cc failed);
     }
 
 -- NOTHING IS WRITTEN
 
-pub nothing_commits : (journal : JournalState) (at : Standing) (bs cs : List (List ℕ)) (result : Result (Unit {0}) DiskErr) → IsErrOf result Memory → IsSettledWith journal at.files at.opened at.past bs → CommitsBatches bs cs result journal journal at at
+pub nothing_commits : (journal : JournalState) (at : Standing) (bs cs : List (List ℕ)) (result : Result (Unit {0}) DiskErr) → IsErrOf result Memory → IsSettledWith journal at bs → CommitsBatches bs cs result journal journal at at
 nothing_commits journal at bs cs result failed s = rw failed (record {
   made = tt;
   doubt = λ fault. absurd (cc fault);
   unchanged = λ memory. s;
-  any_moment = own_none journal.name (HasOneOf journal.name bs cs) at.past (λ a was. inl (holds_left journal at.files at.opened at.past bs s a was));
+  any_moment = own_none journal.name (HasOneOf journal.name bs cs) at.past (λ a was. inl (holds_left journal at bs s a was));
   elsewhere = λ n other. refl;
   opened = λ n other. refl;
 })

@@ -6,12 +6,13 @@ use Rattle.disk_model.specs.declared.disk.DiskErr.{DiskErr}
 use Rattle.disk_model.specs.Files.{Name, Files}
 use Rattle.disk_model.specs.Past.{Past, MayLeave, Passes}
 use Rattle.gate_journal.specs.Batches.{HasBatches, IsShort}
-use Rattle.gate_journal.specs.Commits.{Standing, Reviews}
+use Rattle.gate_journal.specs.Commits.{Reviews}
 use Rattle.gate_journal.specs.Journal.{JournalState, state_of, IsThere, IsSettledWith, IsUncommitted, IsHalfSwitched, IsSwitching, IsRemoving, IsOpen, IsUndecided}
 use Rattle.gate_journal.specs.declared.journal.Pending.{Pending}
 use Rattle.gate_journal.specs.declared.journal.Pending.TheVariants.{Nothing, Switch, Removal}
 use Rattle.gate_journal.specs.Generations.{IsOwn, AtOwn, HasOneOf, HasBatchesOf, generation_batches}
 use Rattle.gate_journal.specs.Plain.{PlainState, IsSettled, IsInDoubt}
+use Rattle.gate_journal.specs.Standing.{Standing}
 use Rattle.gate_journal.proofs.Results.{if_ok}
 use Rattle.gate_journal.proofs.Elsewhere.{settled_stays, journal_left}
 use Rattle.gate_journal.proofs.Files.{Anyhow}
@@ -27,75 +28,72 @@ Same a b = b ≡ a
 stays_same : (n : Name) (a c : Files) → Same a c → c n ≡ a n
 stays_same n a c same = ap (λ (f : Files). f n) same
 
-pub open_as : (pending other : Pending) (journal : JournalState) (files : Files) (opened : Name → ℕ) (past : Past) (before after : List (List ℕ)) → pending ≡ other → IsOpen pending journal files opened past before after → IsOpen other journal files opened past before after
-open_as pending other journal files opened past before after is = subst (λ (p : Pending). IsOpen p journal files opened past before after) is
+pub open_as : (pending other : Pending) (journal : JournalState) (disk : Standing) (before after : List (List ℕ)) → pending ≡ other → IsOpen pending journal disk before after → IsOpen other journal disk before after
+open_as pending other journal disk before after is = subst (λ (p : Pending). IsOpen p journal disk before after) is
 
-module _ (journal : JournalState) (files : Files) (opened : Name → ℕ) (past : Past) (before after : List (List ℕ)) where
-  abbrev was : Standing
-  was = record { files = files; opened = opened; past = past }
-
-  pub uncommitted_left : IsUncommitted journal files opened past before after → (image : Files) → MayLeave past image → HasBatchesOf journal.name image before ⊎ HasBatchesOf journal.name image after
+module _ (journal : JournalState) (disk : Standing) (before after : List (List ℕ)) where
+  pub uncommitted_left : IsUncommitted journal disk before after → (image : Files) → MayLeave disk.past image → HasBatchesOf journal.name image before ⊎ HasBatchesOf journal.name image after
   uncommitted_left u image left =
       let holds = λ (cs : List (List ℕ)) (has : HasBatches (image journal.current.name) cs).
-      holds_at journal.name journal.at.name journal.current.name image u.generation cs u.named.small u.named.at u.named.current (journal_left journal.at files opened past (generation_batches u.generation) u.at image left) has (u.there_left image left) in
+      holds_at journal.name journal.at.name journal.current.name image u.generation cs u.named.small u.named.at u.named.current (journal_left journal.at disk (generation_batches u.generation) u.at image left) has (u.there_left image left) in
       elim (u.current.left image left) [
         | inl without ↦ inl (holds before (journal_has before (image journal.current.name) without))
         | inr with_it ↦ inr (subst (HasBatchesOf journal.name image) (sym u.more) (holds (before ++ u.batch ∷ []) (journal_has (before ++ u.batch ∷ []) (image journal.current.name) with_it)))
       ]
 
-  pub switching_left : (next : PlainState) → IsSwitching journal next files opened past before after → (image : Files) → MayLeave past image → HasBatchesOf journal.name image before ⊎ HasBatchesOf journal.name image after
+  pub switching_left : (next : PlainState) → IsSwitching journal next disk before after → (image : Files) → MayLeave disk.past image → HasBatchesOf journal.name image before ⊎ HasBatchesOf journal.name image after
   switching_left next w image left =
       let old = λ (told : HasBatches (image journal.at.name) (generation_batches w.generation)).
-      holds_at journal.name journal.at.name journal.current.name image w.generation before w.named.small w.named.at w.named.current told (journal_left journal.current files opened past before w.current image left)
-      (subst (IsThere w.generation) (sym (same_left journal.current files opened past before w.current image left)) w.there) in
+      holds_at journal.name journal.at.name journal.current.name image w.generation before w.named.small w.named.at w.named.current told (journal_left journal.current disk before w.current image left)
+      (subst (IsThere w.generation) (sym (same_left journal.current disk before w.current image left)) w.there) in
       elim w.switch [
-        | inl un ↦ inl (old (journal_left journal.at files opened past (generation_batches w.generation) un.at image left))
+        | inl un ↦ inl (old (journal_left journal.at disk (generation_batches w.generation) un.at image left))
         | inr half ↦ elim (half.at.left image left) [
           | inl without ↦ inl (old (journal_has (generation_batches w.generation) (image journal.at.name) without))
           | inr with_it ↦
               let told : HasBatches (image journal.at.name) (generation_batches (w.generation + 1)) =
               subst (λ (cs : List (List ℕ)). HasBatches (image journal.at.name) cs) (sym (next_told w.generation (w.generation + 1) refl)) (journal_has (generation_batches w.generation ++ to_le_bytes w64 (w.generation + 1) ∷ []) (image journal.at.name) with_it) in
               inr (
-              holds_at journal.name journal.at.name next.name image (w.generation + 1) after half.small w.named.at half.named told (journal_left next files opened past after half.made image left)
-              (λ one_on few. half.there (subst IsShort (same_left next files opened past after half.made image left) few))
+              holds_at journal.name journal.at.name next.name image (w.generation + 1) after half.small w.named.at half.named told (journal_left next disk after half.made image left)
+              (λ one_on few. half.there (subst IsShort (same_left next disk after half.made image left) few))
               )
         ]
       ]
 
-  pub removing_left : (old : PlainState) → IsRemoving journal old files opened past after → (image : Files) → MayLeave past image → HasBatchesOf journal.name image before ⊎ HasBatchesOf journal.name image after
-  removing_left old r image left = inr (holds_left journal files opened past after r.settled image left)
+  pub removing_left : (old : PlainState) → IsRemoving journal old disk after → (image : Files) → MayLeave disk.past image → HasBatchesOf journal.name image before ⊎ HasBatchesOf journal.name image after
+  removing_left old r image left = inr (holds_left journal disk after r.settled image left)
 
-  pub open_left : (pending : Pending) → IsOpen pending journal files opened past before after → (image : Files) → MayLeave past image → HasBatchesOf journal.name image before ⊎ HasBatchesOf journal.name image after
+  pub open_left : (pending : Pending) → IsOpen pending journal disk before after → (image : Files) → MayLeave disk.past image → HasBatchesOf journal.name image before ⊎ HasBatchesOf journal.name image after
   open_left Nothing u = uncommitted_left u
   open_left (Switch next) w = switching_left next w
   open_left (Removal old) r = removing_left old r
 
   -- nothing is written
-  pub undecided_passes : (new : Past) → IsUndecided journal files opened past before after → Passes Same past new → Passes (AtOwn journal.name (HasOneOf journal.name before after)) past new
+  pub undecided_passes : (new : Past) → IsUndecided journal disk before after → Passes Same disk.past new → Passes (AtOwn journal.name (HasOneOf journal.name before after)) disk.past new
   undecided_passes new doubt passes =
-      own_first journal.name (HasOneOf journal.name before after) Same past new passes
+      own_first journal.name (HasOneOf journal.name before after) Same disk.past new passes
       (λ a c was same. subst (λ (f : Files). HasBatchesOf journal.name f before ⊎ HasBatchesOf journal.name f after) (sym same) (open_left journal.pending doubt a was)) (leaves_all journal.name)
 
-  pub undecided_none : IsUndecided journal files opened past before after → Passes (AtOwn journal.name (HasOneOf journal.name before after)) past past
-  undecided_none doubt = own_none journal.name (HasOneOf journal.name before after) past (λ a was. open_left journal.pending doubt a was)
+  pub undecided_none : IsUndecided journal disk before after → Passes (AtOwn journal.name (HasOneOf journal.name before after)) disk.past disk.past
+  undecided_none doubt = own_none journal.name (HasOneOf journal.name before after) disk.past (λ a was. open_left journal.pending doubt a was)
 
   -- the current generation's file was reviewed
-  module _ (u : IsUncommitted journal files opened past before after) (current : PlainState) (pending : Pending) (later : Files) (opened_later : Name → ℕ) (new : Past) (same_name : current.name ≡ journal.current.name) (same : later ≡ files) (same_opened : opened_later ≡ opened) (passes : Passes Same past new) where
+  module _ (u : IsUncommitted journal disk before after) (current : PlainState) (pending : Pending) (new : Standing) (same_name : current.name ≡ journal.current.name) (same : new.files ≡ disk.files) (same_opened : new.opened ≡ disk.opened) (passes : Passes Same disk.past new.past) where
     abbrev reviewed : JournalState
     reviewed = state_of journal.name journal.at current pending
 
-    unopened : (n : Name) → IsOwn journal.name n → opened_later n ≡ 0
+    unopened : (n : Name) → IsOwn journal.name n → new.opened n ≡ 0
     unopened n own = ap (λ (f : Name → ℕ). f n) same_opened ∙ u.named.unopened n own
 
-    at_settled : IsSettled journal.at later opened_later new (generation_batches u.generation)
+    at_settled : IsSettled journal.at new (generation_batches u.generation)
     at_settled =
-        settled_stays journal.at files later opened opened_later past new (generation_batches u.generation) Same u.at passes (stays_same journal.at.name) (ap (λ (f : Files). f journal.at.name) same)
+        settled_stays journal.at disk new (generation_batches u.generation) Same u.at passes (stays_same journal.at.name) (ap (λ (f : Files). f journal.at.name) same)
         (let fewer = ap (λ (f : Name → ℕ). f journal.at.name) same_opened in omega (arith, fewer))
 
-    there : IsThere u.generation (later current.name)
-    there = subst (IsThere u.generation) (sym (ap later same_name ∙ ap (λ (f : Files). f journal.current.name) same)) u.there
+    there : IsThere u.generation (new.files current.name)
+    there = subst (IsThere u.generation) (sym (ap new.files same_name ∙ ap (λ (f : Files). f journal.current.name) same)) u.there
 
-    reviewed_settled : (cs : List (List ℕ)) → IsSettled current later opened_later new cs → IsSettledWith reviewed later opened_later new cs
+    reviewed_settled : (cs : List (List ℕ)) → IsSettled current new cs → IsSettledWith reviewed new cs
     reviewed_settled cs settled = record {
       generation = u.generation;
       named = record { small = u.named.small; at = u.named.at; current = same_name ∙ u.named.current; unopened = unopened };
@@ -104,12 +102,12 @@ module _ (journal : JournalState) (files : Files) (opened : Name → ℕ) (past 
       there = there;
     }
 
-    reviewed_made : IsSettled current later opened_later new (before ++ u.batch ∷ []) → IsSettledWith reviewed later opened_later new after
-    reviewed_made settled = subst (λ (cs : List (List ℕ)). IsSettledWith reviewed later opened_later new cs) (sym u.more) (reviewed_settled (before ++ u.batch ∷ []) settled)
+    reviewed_made : IsSettled current new (before ++ u.batch ∷ []) → IsSettledWith reviewed new after
+    reviewed_made settled = subst (λ (cs : List (List ℕ)). IsSettledWith reviewed new cs) (sym u.more) (reviewed_settled (before ++ u.batch ∷ []) settled)
 
-    reviewed_doubtful : pending ≡ Nothing → IsInDoubt current later opened_later new before u.batch → IsUndecided reviewed later opened_later new before after
+    reviewed_doubtful : pending ≡ Nothing → IsInDoubt current new before u.batch → IsUndecided reviewed new before after
     reviewed_doubtful nothing doubt =
-        let is : IsUncommitted reviewed later opened_later new before after = record {
+        let is : IsUncommitted reviewed new before after = record {
           generation = u.generation;
           batch = u.batch;
           more = u.more;
@@ -118,33 +116,33 @@ module _ (journal : JournalState) (files : Files) (opened : Name → ℕ) (past 
           current = doubt;
           there = there;
           there_left = λ image left.
-              let come = left_now Same past new image passes left in
+              let come = left_now Same disk.past new.past image passes left in
               subst (IsThere u.generation) (sym (ap image same_name ∙ ap (λ (f : Files). f journal.current.name) come.2)) (u.there_left come.0 come.1);
         } in
-        subst (λ (p : Pending). IsOpen p reviewed later opened_later new before after) (sym nothing) is
+        subst (λ (p : Pending). IsOpen p reviewed new before after) (sym nothing) is
 
-    pub current_reviews : (result : Result Bool DiskErr) → pending ≡ Nothing → IsUndecided journal files opened past before after → IfOk result (λ found. IsTrue found → IsSettled current later opened_later new (before ++ u.batch ∷ []))
-        → IfOk result (λ found. found ≡ false → IsSettled current later opened_later new before) → OnErr result (IsInDoubt current later opened_later new before u.batch)
-        → Reviews before after result journal reviewed was (record { files = later; opened = opened_later; past = new })
+    pub current_reviews : (result : Result Bool DiskErr) → pending ≡ Nothing → IsUndecided journal disk before after → IfOk result (λ found. IsTrue found → IsSettled current new (before ++ u.batch ∷ []))
+        → IfOk result (λ found. found ≡ false → IsSettled current new before) → OnErr result (IsInDoubt current new before u.batch)
+        → Reviews before after result journal reviewed disk new
     current_reviews result nothing doubt made unmade doubtful = record {
       made = if_ok result (λ found so yes. reviewed_made (so yes)) made;
       unmade = if_ok result (λ found so no. reviewed_settled before (so no)) unmade;
       doubtful = on_err_weaker result (reviewed_doubtful nothing) doubtful;
-      any_moment = undecided_passes new doubt passes;
+      any_moment = undecided_passes new.past doubt passes;
       elsewhere = λ n other. ap (λ (f : Files). f n) same;
       opened = λ n other. ap (λ (f : Name → ℕ). f n) same_opened;
     }
 
   -- the file that tells the generation was reviewed
-  module _ (next : PlainState) (w : IsSwitching journal next files opened past before after) where
-    pub half_switched : journal.at.sound ≡ false → IsHalfSwitched journal next files opened past w.generation after
+  module _ (next : PlainState) (w : IsSwitching journal next disk before after) where
+    pub half_switched : journal.at.sound ≡ false → IsHalfSwitched journal next disk w.generation after
     half_switched unsound = elim w.switch [ inl un ↦ let wrong : true ≡ false = sym un.sound ∙ unsound in absurd (cc wrong) | inr half ↦ half ]
 
-    open_switch : journal.pending ≡ Switch next → IsUndecided journal files opened past before after
-    open_switch is = open_as (Switch next) journal.pending journal files opened past before after (sym is) w
+    open_switch : journal.pending ≡ Switch next → IsUndecided journal disk before after
+    open_switch is = open_as (Switch next) journal.pending journal disk before after (sym is) w
 
     -- it was never written
-    unswitched : (pending : Pending) → journal.at.sound ≡ true → IsSettledWith (state_of journal.name journal.at journal.current pending) files opened past before
+    unswitched : (pending : Pending) → journal.at.sound ≡ true → IsSettledWith (state_of journal.name journal.at journal.current pending) disk before
     unswitched pending sound = elim w.switch [
       | inl un ↦ record { generation = w.generation; named = record { small = w.named.small; at = w.named.at; current = w.named.current; unopened = w.named.unopened }; at = un.at; current = w.current; there = w.there }
       | inr half ↦ let wrong : true ≡ false = sym sound ∙ half.unsound in absurd (cc wrong)
@@ -160,20 +158,17 @@ module _ (journal : JournalState) (files : Files) (opened : Name → ℕ) (past 
       opened = λ n other. refl;
     }
 
-    module _ (is : journal.pending ≡ Switch next) (half : IsHalfSwitched journal next files opened past w.generation after) (at : PlainState) (later : Files) (opened_later : Name → ℕ) (new : Past) (same_name : at.name ≡ journal.at.name) (same : later ≡ files) (same_opened : opened_later ≡ opened) (passes : Passes Same past new) where
-      abbrev now : Standing
-      now = record { files = later; opened = opened_later; past = new }
-
-      unopened_still : (n : Name) → IsOwn journal.name n → opened_later n ≡ 0
+    module _ (is : journal.pending ≡ Switch next) (half : IsHalfSwitched journal next disk w.generation after) (at : PlainState) (new : Standing) (same_name : at.name ≡ journal.at.name) (same : new.files ≡ disk.files) (same_opened : new.opened ≡ disk.opened) (passes : Passes Same disk.past new.past) where
+      unopened_still : (n : Name) → IsOwn journal.name n → new.opened n ≡ 0
       unopened_still n own = ap (λ (f : Name → ℕ). f n) same_opened ∙ w.named.unopened n own
 
-      stays : (j : PlainState) (cs : List (List ℕ)) → IsSettled j files opened past cs → IsSettled j later opened_later new cs
+      stays : (j : PlainState) (cs : List (List ℕ)) → IsSettled j disk cs → IsSettled j new cs
       stays j cs settled =
-          settled_stays j files later opened opened_later past new cs Same settled passes (stays_same j.name) (ap (λ (f : Files). f j.name) same)
+          settled_stays j disk new cs Same settled passes (stays_same j.name) (ap (λ (f : Files). f j.name) same)
           (let fewer = ap (λ (f : Name → ℕ). f j.name) same_opened in omega (arith, fewer))
 
       -- it tells the old generation
-      pub not_switched : (pending : Pending) → IsSettled at later opened_later new (generation_batches w.generation) → Reviews before after (Ok false) journal (state_of journal.name at journal.current pending) was now
+      pub not_switched : (pending : Pending) → IsSettled at new (generation_batches w.generation) → Reviews before after (Ok false) journal (state_of journal.name at journal.current pending) disk new
       not_switched pending told = record {
         made = λ yes. absurd (cc yes);
         unmade = λ no. record {
@@ -184,27 +179,27 @@ module _ (journal : JournalState) (files : Files) (opened : Name → ℕ) (past 
           there = subst (IsThere w.generation) (sym (ap (λ (f : Files). f journal.current.name) same)) w.there;
         };
         doubtful = tt;
-        any_moment = undecided_passes new (open_switch is) passes;
+        any_moment = undecided_passes new.past (open_switch is) passes;
         elsewhere = λ n other. ap (λ (f : Files). f n) same;
         opened = λ n other. ap (λ (f : Name → ℕ). f n) same_opened;
       }
 
       -- it tells the next one
-      abbrev is_switched : (pending : Pending) → IsSettled at later opened_later new (generation_batches w.generation ++ to_le_bytes w64 (w.generation + 1) ∷ []) → IsSettledWith (state_of journal.name at next pending) later opened_later new after
+      abbrev is_switched : (pending : Pending) → IsSettled at new (generation_batches w.generation ++ to_le_bytes w64 (w.generation + 1) ∷ []) → IsSettledWith (state_of journal.name at next pending) new after
       is_switched pending told = record {
         generation = w.generation + 1;
         named = record { small = half.small; at = same_name ∙ w.named.at; current = half.named; unopened = unopened_still };
-        at = subst (λ (cs : List (List ℕ)). IsSettled at later opened_later new cs) (sym (next_told w.generation (w.generation + 1) refl)) told;
+        at = subst (λ (cs : List (List ℕ)). IsSettled at new cs) (sym (next_told w.generation (w.generation + 1) refl)) told;
         current = stays next after half.made;
         there = λ one_on few. half.there (subst IsShort (ap (λ (f : Files). f next.name) same) few);
       }
 
       -- it wasn't told
-      still_switching : (pending : Pending) → at ≡ journal.at → pending ≡ Switch next → IsInDoubt at later opened_later new (generation_batches w.generation) (to_le_bytes w64 (w.generation + 1))
-          → IsUndecided (state_of journal.name at journal.current pending) later opened_later new before after
+      still_switching : (pending : Pending) → at ≡ journal.at → pending ≡ Switch next → IsInDoubt at new (generation_batches w.generation) (to_le_bytes w64 (w.generation + 1))
+          → IsUndecided (state_of journal.name at journal.current pending) new before after
       still_switching pending is_at is_pending doubt =
           let state : JournalState = state_of journal.name at journal.current pending in
-          let so : IsSwitching state next later opened_later new before after = record {
+          let so : IsSwitching state next new before after = record {
             generation = w.generation;
             named = record { small = w.named.small; at = same_name ∙ w.named.at; current = w.named.current; unopened = unopened_still };
             current = stays journal.current before w.current;
@@ -218,40 +213,40 @@ module _ (journal : JournalState) (files : Files) (opened : Name → ℕ) (past 
               there = λ few. half.there (subst IsShort (ap (λ (f : Files). f next.name) same) few);
             });
           } in
-          subst (λ (p : Pending). IsOpen p state later opened_later new before after) (sym is_pending) so
+          subst (λ (p : Pending). IsOpen p state new before after) (sym is_pending) so
 
       pub still_reviews : (pending : Pending) (result : Result Bool DiskErr) (e : DiskErr) → result ≡ Err e → at ≡ journal.at → pending ≡ Switch next
-          → IsInDoubt at later opened_later new (generation_batches w.generation) (to_le_bytes w64 (w.generation + 1)) → Reviews before after result journal (state_of journal.name at journal.current pending) was now
+          → IsInDoubt at new (generation_batches w.generation) (to_le_bytes w64 (w.generation + 1)) → Reviews before after result journal (state_of journal.name at journal.current pending) disk new
       still_reviews pending result e failed is_at is_pending doubt = rw failed (record {
         made = tt;
         unmade = tt;
         doubtful = still_switching pending is_at is_pending doubt;
-        any_moment = undecided_passes new (open_switch is) passes;
+        any_moment = undecided_passes new.past (open_switch is) passes;
         elsewhere = λ n other. ap (λ (f : Files). f n) same;
         opened = λ n other. ap (λ (f : Name → ℕ). f n) same_opened;
       })
 
       -- and then the old file is removed
-      module _ (told : IsSettled at later opened_later new (generation_batches w.generation ++ to_le_bytes w64 (w.generation + 1) ∷ []))
-          (last : Files) (opened_last : Name → ℕ) (end : Past) (removal : Passes (Anyhow journal.current.name) new end) (only_it : (m : Name) → m ≢ journal.current.name → last m ≡ later m)
-          (only_opened : (m : Name) → m ≢ journal.current.name → opened_last m ≡ opened_later m) (none_opened : opened_last journal.current.name ≡ 0) where
+      module _ (told : IsSettled at new (generation_batches w.generation ++ to_le_bytes w64 (w.generation + 1) ∷ []))
+          (last : Standing) (removal : Passes (Anyhow journal.current.name) new.past last.past) (only_it : (m : Name) → m ≢ journal.current.name → last.files m ≡ new.files m)
+          (only_opened : (m : Name) → m ≢ journal.current.name → last.opened m ≡ new.opened m) (none_opened : last.opened journal.current.name ≡ 0) where
         abbrev over : Pending → JournalState
         over pending = state_of journal.name at next pending
 
-        abbrev behind : (pending : Pending) → IsSettledWith (over pending) last opened_last end after
-        behind pending = removed (over pending) later opened_later new after (is_switched pending told) w.generation refl journal.current.name w.named.current last opened_last end removal only_it only_opened none_opened
+        abbrev behind : (pending : Pending) → IsSettledWith (over pending) last after
+        behind pending = removed (over pending) new after (is_switched pending told) w.generation refl journal.current.name w.named.current last removal only_it only_opened none_opened
 
-        over_passes : Passes (AtOwn journal.name (HasOneOf journal.name before after)) past end
+        over_passes : Passes (AtOwn journal.name (HasOneOf journal.name before after)) disk.past last.past
         over_passes =
-            removal_passes (over Nothing) later opened_later new after (is_switched Nothing told) w.generation refl journal.current.name w.named.current (HasOneOf journal.name before after) past end (undecided_passes new (open_switch is) passes) removal
+            removal_passes (over Nothing) new after (is_switched Nothing told) w.generation refl journal.current.name w.named.current (HasOneOf journal.name before after) disk.past last.past (undecided_passes new.past (open_switch is) passes) removal
             (λ a b e so_far was has. inr has)
 
         not_current : (m : Name) → (IsOwn journal.name m → ⊥) → m ≢ journal.current.name
         not_current m other here = other (inr (w.generation, w.named.small, here ∙ w.named.current))
 
-        pub over_reviews : (final : JournalState) → final ≡ over Nothing → Reviews before after (Ok true) journal final was (record { files = last; opened = opened_last; past = end })
+        pub over_reviews : (final : JournalState) → final ≡ over Nothing → Reviews before after (Ok true) journal final disk last
         over_reviews final is_over = record {
-          made = λ yes. subst (λ (j : JournalState). IsSettledWith j last opened_last end after) (sym is_over) (behind Nothing);
+          made = λ yes. subst (λ (j : JournalState). IsSettledWith j last after) (sym is_over) (behind Nothing);
           unmade = λ no. absurd (cc no);
           doubtful = tt;
           any_moment = over_passes;
@@ -259,34 +254,34 @@ module _ (journal : JournalState) (files : Files) (opened : Name → ℕ) (past 
           opened = λ m other. only_opened m (not_current m other) ∙ ap (λ (f : Name → ℕ). f m) same_opened;
         }
 
-        pub half_over_reviews : (final : JournalState) (result : Result Bool DiskErr) (e : DiskErr) → result ≡ Err e → final ≡ over (Removal journal.current) → Reviews before after result journal final was (record { files = last; opened = opened_last; past = end })
+        pub half_over_reviews : (final : JournalState) (result : Result Bool DiskErr) (e : DiskErr) → result ≡ Err e → final ≡ over (Removal journal.current) → Reviews before after result journal final disk last
         half_over_reviews final result e failed is_left = rw failed (record {
           made = tt;
           unmade = tt;
           doubtful =
-              subst (λ (j : JournalState). IsUndecided j last opened_last end before after) (sym is_left) (record { settled = behind (Removal journal.current); generation = w.generation; before = refl; named = w.named.current });
+              subst (λ (j : JournalState). IsUndecided j last before after) (sym is_left) (record { settled = behind (Removal journal.current); generation = w.generation; before = refl; named = w.named.current });
           any_moment = over_passes;
           elsewhere = λ m other. only_it m (not_current m other) ∙ ap (λ (f : Files). f m) same;
           opened = λ m other. only_opened m (not_current m other) ∙ ap (λ (f : Name → ℕ). f m) same_opened;
         })
 
   -- the file of the generation before is removed once more
-  module _ (old : PlainState) (r : IsRemoving journal old files opened past after) (file : Name) (is_file : file ≡ old.name) (later : Files) (opened_later : Name → ℕ) (new : Past) (doubt : IsUndecided journal files opened past before after)
-      (removal : Passes (Anyhow file) past new) (only_it : (n : Name) → n ≢ file → later n ≡ files n) (only_opened : (n : Name) → n ≢ file → opened_later n ≡ opened n) (none_opened : opened_later file ≡ 0) where
-    abbrev removed_still : IsSettledWith journal later opened_later new after
-    removed_still = removed journal files opened past after r.settled r.generation r.before file (is_file ∙ r.named) later opened_later new removal only_it only_opened none_opened
+  module _ (old : PlainState) (r : IsRemoving journal old disk after) (file : Name) (is_file : file ≡ old.name) (new : Standing) (doubt : IsUndecided journal disk before after)
+      (removal : Passes (Anyhow file) disk.past new.past) (only_it : (n : Name) → n ≢ file → new.files n ≡ disk.files n) (only_opened : (n : Name) → n ≢ file → new.opened n ≡ disk.opened n) (none_opened : new.opened file ≡ 0) where
+    abbrev removed_still : IsSettledWith journal new after
+    removed_still = removed journal disk after r.settled r.generation r.before file (is_file ∙ r.named) new removal only_it only_opened none_opened
 
-    removing_passes : Passes (AtOwn journal.name (HasOneOf journal.name before after)) past new
+    removing_passes : Passes (AtOwn journal.name (HasOneOf journal.name before after)) disk.past new.past
     removing_passes =
-        removal_passes journal files opened past after r.settled r.generation r.before file (is_file ∙ r.named) (HasOneOf journal.name before after) past new (undecided_none doubt) removal
+        removal_passes journal disk after r.settled r.generation r.before file (is_file ∙ r.named) (HasOneOf journal.name before after) disk.past new.past (undecided_none doubt) removal
         (λ a b e so_far was has. inr has)
 
     not_file : (n : Name) → (IsOwn journal.name n → ⊥) → n ≢ file
-    not_file n other here = other (subst (IsOwn journal.name) (sym here) (old_is_own journal files opened past after r.settled r.generation r.before file (is_file ∙ r.named)))
+    not_file n other here = other (subst (IsOwn journal.name) (sym here) (old_is_own journal disk after r.settled r.generation r.before file (is_file ∙ r.named)))
 
-    pub removed_reviews : (final : JournalState) → final.name ≡ journal.name → final.at ≡ journal.at → final.current ≡ journal.current → Reviews before after (Ok true) journal final was (record { files = later; opened = opened_later; past = new })
+    pub removed_reviews : (final : JournalState) → final.name ≡ journal.name → final.at ≡ journal.at → final.current ≡ journal.current → Reviews before after (Ok true) journal final disk new
     removed_reviews final same_name same_at same_current = record {
-      made = λ yes. settled_as journal final later opened_later new after same_name same_at same_current removed_still;
+      made = λ yes. settled_as journal final new after same_name same_at same_current removed_still;
       unmade = λ no. absurd (cc no);
       doubtful = tt;
       any_moment = removing_passes;
@@ -294,12 +289,12 @@ module _ (journal : JournalState) (files : Files) (opened : Name → ℕ) (past 
       opened = λ n other. only_opened n (not_file n other);
     }
 
-    pub removing_reviews : (result : Result Bool DiskErr) (e : DiskErr) → result ≡ Err e → journal.pending ≡ Removal old → Reviews before after result journal journal was (record { files = later; opened = opened_later; past = new })
+    pub removing_reviews : (result : Result Bool DiskErr) (e : DiskErr) → result ≡ Err e → journal.pending ≡ Removal old → Reviews before after result journal journal disk new
     removing_reviews result e failed is = rw failed (record {
       made = tt;
       unmade = tt;
       doubtful =
-          subst (λ (p : Pending). IsOpen p journal later opened_later new before after) (sym is) (record { settled = removed_still; generation = r.generation; before = r.before; named = r.named });
+          subst (λ (p : Pending). IsOpen p journal new before after) (sym is) (record { settled = removed_still; generation = r.generation; before = r.before; named = r.named });
       any_moment = removing_passes;
       elsewhere = λ n other. only_it n (not_file n other);
       opened = λ n other. only_opened n (not_file n other);

@@ -9,6 +9,7 @@ use Rattle.gate_journal.specs.declared.journal.Pending.{Pending}
 use Rattle.gate_journal.specs.Generations.{at_name, generation_name, generation_batches, IsOwn, HasBatchesOf, IsBadOf, AtOwn, KeepsBatches, IsBefore}
 use Rattle.gate_journal.specs.Load.{StaysOrShort}
 use Rattle.gate_journal.specs.Plain.{PlainState, IsSettled}
+use Rattle.gate_journal.specs.Standing.{Standing}
 use Rattle.gate_journal.proofs.Elsewhere.{settled_stays, journal_left}
 use Rattle.gate_journal.proofs.FileNames.{at_apart, one_generation, is_next}
 use Rattle.gate_journal.proofs.Files.{Anyhow}
@@ -89,32 +90,32 @@ module _ (name : Name) (g : ℕ) (small : g < 2 ^ 64) where
         elsewhere = λ n other. clears n (λ before. other (before_own n before));
       }
 
-  module _ (at current : PlainState) (pending : Pending) (is_at : at.name ≡ at_name name) (is_current : current.name ≡ generation_name name g) (first mid last : Files) (opened_first opened_mid opened_last : Name → ℕ) (one two three : Past)
-      (bs : List (List ℕ)) (at_settled : IsSettled at first opened_first one (generation_batches g)) (loaded : At (generation_name name g) StaysOrShort first mid) (loads : Passes (At (generation_name name g) StaysOrShort) one two)
-      (opened_current : (n : Name) → n ≢ generation_name name g → opened_mid n ≡ opened_first n) where
+  module _ (at current : PlainState) (pending : Pending) (is_at : at.name ≡ at_name name) (is_current : current.name ≡ generation_name name g) (first mid last : Standing)
+      (bs : List (List ℕ)) (at_settled : IsSettled at first (generation_batches g)) (loaded : At (generation_name name g) StaysOrShort first.files mid.files) (loads : Passes (At (generation_name name g) StaysOrShort) first.past mid.past)
+      (opened_current : (n : Name) → n ≢ generation_name name g → mid.opened n ≡ first.opened n) where
     at_not_current : at.name ≢ generation_name name g
     at_not_current same = at_apart name g small (sym same ∙ is_at)
 
     -- while the current generation's file is loaded, the file that tells the generation stays
-    pub at_mid : IsSettled at mid opened_mid two (generation_batches g)
+    pub at_mid : IsSettled at mid (generation_batches g)
     at_mid =
-        settled_stays at first mid opened_first opened_mid one two (generation_batches g) (At (generation_name name g) StaysOrShort) at_settled loads (λ a c step. step.elsewhere at.name at_not_current) (loaded.elsewhere at.name at_not_current)
+        settled_stays at first mid (generation_batches g) (At (generation_name name g) StaysOrShort) at_settled loads (λ a c step. step.elsewhere at.name at_not_current) (loaded.elsewhere at.name at_not_current)
         (let fewer = opened_current at.name at_not_current in omega (arith, fewer))
 
-    pub told_mid : (b : Files) → MayLeave two b → HasBatches (b (at_name name)) (generation_batches g)
-    told_mid b left = subst (λ (n : Name). HasBatches (b n) (generation_batches g)) is_at (journal_left at mid opened_mid two (generation_batches g) at_mid b left)
+    pub told_mid : (b : Files) → MayLeave mid.past b → HasBatches (b (at_name name)) (generation_batches g)
+    told_mid b left = subst (λ (n : Name). HasBatches (b n) (generation_batches g)) is_at (journal_left at mid (generation_batches g) at_mid b left)
 
-    told_seen : HasBatches (mid (at_name name)) (generation_batches g)
-    told_seen = subst (λ (n : Name). HasBatches (mid n) (generation_batches g)) is_at (settled_seen at mid opened_mid two (generation_batches g) at_mid)
+    told_seen : HasBatches (mid.files (at_name name)) (generation_batches g)
+    told_seen = subst (λ (n : Name). HasBatches (mid.files n) (generation_batches g)) is_at (settled_seen at mid (generation_batches g) at_mid)
 
-    pub cleared_keeps : (start : Files) → Keeps name start mid → Clears name g mid last → Keeps name start last
-    cleared_keeps start before clears = keeps_then name start mid last before (clears_keeps mid last told_seen clears)
+    pub cleared_keeps : (start : Files) → Keeps name start mid.files → Clears name g mid.files last.files → Keeps name start last.files
+    cleared_keeps start before clears = keeps_then name start mid.files last.files before (clears_keeps mid.files last.files told_seen clears)
 
-    pub cleared_passes : (start : Past) → Passes (Keeps name) start two → Passes (Clears name g) two three → Passes (Keeps name) start three
-    cleared_passes start before clears = passes_then (Keeps name) (Clears name g) start two three before clears (λ a b c was so_far now step. keeps_then name a b c so_far (clears_keeps b c (told_mid b now) step))
+    pub cleared_passes : (start : Past) → Passes (Keeps name) start mid.past → Passes (Clears name g) mid.past last.past → Passes (Keeps name) start last.past
+    cleared_passes start before clears = passes_then (Keeps name) (Clears name g) start mid.past last.past before clears (λ a b c was so_far now step. keeps_then name a b c so_far (clears_keeps b c (told_mid b now) step))
 
-    pub all_loaded : IsSettled current mid opened_mid two bs → IsThere g (first (generation_name name g)) → Clears name g mid last → Passes (Clears name g) two three → ((n : Name) → IsOwn name n → opened_last n ≡ 0)
-        → IsSettledWith (state_of name at current pending) last opened_last three bs
+    pub all_loaded : IsSettled current mid bs → IsThere g (first.files (generation_name name g)) → Clears name g mid.files last.files → Passes (Clears name g) mid.past last.past → ((n : Name) → IsOwn name n → last.opened n ≡ 0)
+        → IsSettledWith (state_of name at current pending) last bs
     all_loaded current_settled there clears passes unopened =
         let at_stays = λ (a c : Files) (step : Clears name g a c). step at.name (λ before. at_not_before (subst (IsBefore name g) is_at before)) in
         let current_stays = λ (a c : Files) (step : Clears name g a c). step current.name (λ before. current_not_before (subst (IsBefore name g) is_current before)) in
@@ -123,19 +124,19 @@ module _ (name : Name) (g : ℕ) (small : g < 2 ^ 64) where
         record {
           generation = g;
           named = record { small = small; at = is_at; current = is_current; unopened = unopened };
-          at = settled_stays at mid last opened_mid opened_last two three (generation_batches g) (Clears name g) at_mid passes at_stays (at_stays mid last clears) (omega (arith, none_at));
-          current = settled_stays current mid last opened_mid opened_last two three bs (Clears name g) current_settled passes current_stays (current_stays mid last clears) (omega (arith, none_current));
+          at = settled_stays at mid last (generation_batches g) (Clears name g) at_mid passes at_stays (at_stays mid.files last.files clears) (omega (arith, none_at));
+          current = settled_stays current mid last bs (Clears name g) current_settled passes current_stays (current_stays mid.files last.files clears) (omega (arith, none_current));
           there =
-              let same = current_stays mid last clears ∙ ap mid is_current in
-              subst (λ (x : Content). IsThere g x) (sym same) (stays_there g (first (generation_name name g)) (mid (generation_name name g)) loaded.here there);
+              let same = current_stays mid.files last.files clears ∙ ap mid.files is_current in
+              subst (λ (x : Content). IsThere g x) (sym same) (stays_there g (first.files (generation_name name g)) (mid.files (generation_name name g)) loaded.here there);
         }
 
 -- the journal that is loaded has none before
-pub loaded_none_before : (name : Name) (g : ℕ) → g < 2 ^ 64 → (journal : JournalState) (files : Files) (past : Past) → journal.name ≡ name → journal.current.name ≡ generation_name name g
-    → ((n : Name) → IsBefore name g n → (files n ≡ None) × Only past n None) → HasNoneBefore journal files past
-loaded_none_before name g small journal files past is current gone h small_h named =
+pub loaded_none_before : (name : Name) (g : ℕ) → g < 2 ^ 64 → (journal : JournalState) (disk : Standing) → journal.name ≡ name → journal.current.name ≡ generation_name name g
+    → ((n : Name) → IsBefore name g n → (disk.files n ≡ None) × Only disk.past n None) → HasNoneBefore journal disk
+loaded_none_before name g small journal disk is current gone h small_h named =
     let same = one_generation name (h + 1) g small_h small (ap (λ (m : Name). generation_name m (h + 1)) (sym is) ∙ sym named ∙ current) in
-    let P : Name → Type 0 = λ n. (files n ≡ None) × Only past n None in
+    let P : Name → Type 0 = λ n. (disk.files n ≡ None) × Only disk.past n None in
     subst P (ap (λ (m : Name). generation_name m h) (sym is)) (gone (generation_name name h) (record { number = h; before = same; is = refl }))
 
 -- the one file before a generation

@@ -8,6 +8,7 @@ use Rattle.gate_journal.specs.Journal.{IsThere}
 use Rattle.gate_journal.specs.Generations.{at_name, generation_name, generation_batches, IsOwn, HasBatchesOf, AtOwn, IsBefore}
 use Rattle.gate_journal.specs.Load.{StaysOrShort, IsCurrent, IsSpent, IsLoaded, OnlyLoads, OnlyClears}
 use Rattle.gate_journal.specs.Plain.{PlainState, IsSettled}
+use Rattle.gate_journal.specs.Standing.{Standing}
 use Rattle.gate_journal.proofs.Begin.{stays_has}
 use Rattle.gate_journal.proofs.Elsewhere.{settled_stays, journal_left}
 use Rattle.gate_journal.proofs.FileNames.{at_apart}
@@ -120,63 +121,63 @@ module _ (name : Name) (g : ℕ) (small : g < 2 ^ 64) where
   pub first_passes : (old new : Past) → Passes (At (at_name name) StaysOrShort) old new → Passes (AtOwn name (OnlyLoads name)) old new
   first_passes old new passes = passes_weaker (At (at_name name) StaysOrShort) (AtOwn name (OnlyLoads name)) old new passes (λ a c was step. both_loads a c (both_first a c step))
 
-  module _ (at : PlainState) (is_at : at.name ≡ at_name name) (files first mid : Files) (opened_first opened_mid : Name → ℕ) (old one two : Past) (at_first : IsSettled at first opened_first one (generation_batches g)) (before : At (at_name name) StaysOrShort files first)
-      (loads_at : Passes (At (at_name name) StaysOrShort) old one) (stays : At (generation_name name g) StaysOrShort first mid) (loads_current : Passes (At (generation_name name g) StaysOrShort) one two)
-      (opened_current : (n : Name) → n ≢ generation_name name g → opened_mid n ≡ opened_first n) where
+  module _ (at : PlainState) (is_at : at.name ≡ at_name name) (files : Files) (old : Past) (first mid : Standing) (at_first : IsSettled at first (generation_batches g)) (before : At (at_name name) StaysOrShort files first.files)
+      (loads_at : Passes (At (at_name name) StaysOrShort) old first.past) (stays : At (generation_name name g) StaysOrShort first.files mid.files) (loads_current : Passes (At (generation_name name g) StaysOrShort) first.past mid.past)
+      (opened_current : (n : Name) → n ≢ generation_name name g → mid.opened n ≡ first.opened n) where
     at_not_current : at.name ≢ generation_name name g
     at_not_current same = at_apart name g small (sym same ∙ is_at)
 
     -- while the current generation's file is loaded, the file that tells the generation stays
-    at_mid : IsSettled at mid opened_mid two (generation_batches g)
+    at_mid : IsSettled at mid (generation_batches g)
     at_mid =
-        settled_stays at first mid opened_first opened_mid one two (generation_batches g) (At (generation_name name g) StaysOrShort) at_first loads_current (λ a c step. step.elsewhere at.name at_not_current) (stays.elsewhere at.name at_not_current)
+        settled_stays at first mid (generation_batches g) (At (generation_name name g) StaysOrShort) at_first loads_current (λ a c step. step.elsewhere at.name at_not_current) (stays.elsewhere at.name at_not_current)
         (let fewer = opened_current at.name at_not_current in omega (arith, fewer))
 
-    told_first : (b : Files) → MayLeave one b → HasBatches (b (at_name name)) (generation_batches g)
-    told_first b left = subst (λ (n : Name). HasBatches (b n) (generation_batches g)) is_at (journal_left at first opened_first one (generation_batches g) at_first b left)
+    told_first : (b : Files) → MayLeave first.past b → HasBatches (b (at_name name)) (generation_batches g)
+    told_first b left = subst (λ (n : Name). HasBatches (b n) (generation_batches g)) is_at (journal_left at first (generation_batches g) at_first b left)
 
-    told_mid : (b : Files) → MayLeave two b → HasBatches (b (at_name name)) (generation_batches g)
-    told_mid b left = subst (λ (n : Name). HasBatches (b n) (generation_batches g)) is_at (journal_left at mid opened_mid two (generation_batches g) at_mid b left)
+    told_mid : (b : Files) → MayLeave mid.past b → HasBatches (b (at_name name)) (generation_batches g)
+    told_mid b left = subst (λ (n : Name). HasBatches (b n) (generation_batches g)) is_at (journal_left at mid (generation_batches g) at_mid b left)
 
-    told_seen : HasBatches (first (at_name name)) (generation_batches g)
-    told_seen = subst (λ (n : Name). HasBatches (first n) (generation_batches g)) is_at (settled_seen at first opened_first one (generation_batches g) at_first)
+    told_seen : HasBatches (first.files (at_name name)) (generation_batches g)
+    told_seen = subst (λ (n : Name). HasBatches (first.files n) (generation_batches g)) is_at (settled_seen at first (generation_batches g) at_first)
 
-    told_seen_mid : HasBatches (mid (at_name name)) (generation_batches g)
-    told_seen_mid = subst (λ (n : Name). HasBatches (mid n) (generation_batches g)) is_at (settled_seen at mid opened_mid two (generation_batches g) at_mid)
+    told_seen_mid : HasBatches (mid.files (at_name name)) (generation_batches g)
+    told_seen_mid = subst (λ (n : Name). HasBatches (mid.files n) (generation_batches g)) is_at (settled_seen at mid (generation_batches g) at_mid)
 
-    both_passes : Passes (BothLoaded name g) old two
+    both_passes : Passes (BothLoaded name g) old mid.past
     both_passes =
-        passes_over (At (at_name name) StaysOrShort) (BothLoaded name g) (At (generation_name name g) StaysOrShort) old one two loads_at loads_current (λ a c was step. both_first a c step)
+        passes_over (At (at_name name) StaysOrShort) (BothLoaded name g) (At (generation_name name g) StaysOrShort) old first.past mid.past loads_at loads_current (λ a c was step. both_first a c step)
         (λ a b c was so_far now step. both_then a b c (both_first a b so_far) (told_first b now) step)
 
-    both_seen : BothLoaded name g files mid
-    both_seen = both_then files first mid (both_first files first before) told_seen stays
+    both_seen : BothLoaded name g files mid.files
+    both_seen = both_then files first.files mid.files (both_first files first.files before) told_seen stays
 
-    pub seen_loads : AtOwn name (OnlyLoads name) files mid
-    seen_loads = both_loads files mid both_seen
+    pub seen_loads : AtOwn name (OnlyLoads name) files mid.files
+    seen_loads = both_loads files mid.files both_seen
 
-    pub moments_load : Passes (AtOwn name (OnlyLoads name)) old two
-    moments_load = passes_weaker (BothLoaded name g) (AtOwn name (OnlyLoads name)) old two both_passes (λ a c was step. both_loads a c step)
+    pub moments_load : Passes (AtOwn name (OnlyLoads name)) old mid.past
+    moments_load = passes_weaker (BothLoaded name g) (AtOwn name (OnlyLoads name)) old mid.past both_passes (λ a c was step. both_loads a c step)
 
-    module _ (current : PlainState) (is_current : current.name ≡ generation_name name g) (bs : List (List ℕ)) (current_mid : IsSettled current mid opened_mid two bs) (there : IsThere g (first (generation_name name g))) where
-      there_mid : IsThere g (mid current.name)
-      there_mid = subst (λ (n : Name). IsThere g (mid n)) (sym is_current) (stays_there g (first (generation_name name g)) (mid (generation_name name g)) stays.here there)
+    module _ (current : PlainState) (is_current : current.name ≡ generation_name name g) (bs : List (List ℕ)) (current_mid : IsSettled current mid bs) (there : IsThere g (first.files (generation_name name g))) where
+      there_mid : IsThere g (mid.files current.name)
+      there_mid = subst (λ (n : Name). IsThere g (mid.files n)) (sym is_current) (stays_there g (first.files (generation_name name g)) (mid.files (generation_name name g)) stays.here there)
 
-      holds_mid : (b : Files) → MayLeave two b → HasBatchesOf name b bs
+      holds_mid : (b : Files) → MayLeave mid.past b → HasBatchesOf name b bs
       holds_mid b left =
-          holds_at name at.name current.name b g bs small is_at is_current (journal_left at mid opened_mid two (generation_batches g) at_mid b left) (journal_left current mid opened_mid two bs current_mid b left)
-          (subst (IsThere g) (sym (same_left current mid opened_mid two bs current_mid b left)) there_mid)
+          holds_at name at.name current.name b g bs small is_at is_current (journal_left at mid (generation_batches g) at_mid b left) (journal_left current mid bs current_mid b left)
+          (subst (IsThere g) (sym (same_left current mid bs current_mid b left)) there_mid)
 
-      holds_seen_mid : HasBatchesOf name mid bs
+      holds_seen_mid : HasBatchesOf name mid.files bs
       holds_seen_mid =
-          holds_at name at.name current.name mid g bs small is_at is_current (settled_seen at mid opened_mid two (generation_batches g) at_mid) (settled_seen current mid opened_mid two bs current_mid) there_mid
+          holds_at name at.name current.name mid.files g bs small is_at is_current (settled_seen at mid (generation_batches g) at_mid) (settled_seen current mid bs current_mid) there_mid
 
-      pub seen_clears : (last : Files) → OnlyClears name g mid last → AtOwn name (OnlyLoads name) files last
-      seen_clears last clears = cleared_loads files mid last bs both_seen told_seen_mid holds_seen_mid clears
+      pub seen_clears : (last : Files) → OnlyClears name g mid.files last → AtOwn name (OnlyLoads name) files last
+      seen_clears last clears = cleared_loads files mid.files last bs both_seen told_seen_mid holds_seen_mid clears
 
-      pub moments_clear : (three : Past) → Passes (OnlyClears name g) two three → Passes (AtOwn name (OnlyLoads name)) old three
+      pub moments_clear : (three : Past) → Passes (OnlyClears name g) mid.past three → Passes (AtOwn name (OnlyLoads name)) old three
       moments_clear three clears =
-          passes_over (BothLoaded name g) (AtOwn name (OnlyLoads name)) (OnlyClears name g) old two three both_passes clears (λ a c was step. both_loads a c step)
+          passes_over (BothLoaded name g) (AtOwn name (OnlyLoads name)) (OnlyClears name g) old mid.past three both_passes clears (λ a c was step. both_loads a c step)
           (λ a b c was so_far now step. cleared_loads a b c bs so_far (told_mid b now) (holds_mid b now) step)
 
 -- the file of the generation before is cleared

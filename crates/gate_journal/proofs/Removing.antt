@@ -4,12 +4,13 @@ use Rattle.disk_model.specs.Files.{Name, Files}
 use Rattle.disk_model.specs.Past.{Past, MayLeave, Passes, Only}
 use Rattle.gate_journal.specs.Journal.{JournalState, IsSettledWith, HasNoneBefore}
 use Rattle.gate_journal.specs.Generations.{generation_name, IsOwn, AtOwn, HasBatchesOf}
+use Rattle.gate_journal.specs.Standing.{Standing}
 use Rattle.gate_journal.proofs.FileNames.{at_apart, one_generation, is_next}
 use Rattle.gate_journal.proofs.Files.{Anyhow}
 use Rattle.gate_journal.proofs.Holding.{holds_behind, settled_with_stays}
 use Rattle.gate_journal.proofs.Owned.{own_then, leaves_at}
 
-module _ (journal : JournalState) (files : Files) (opened : Name → ℕ) (past : Past) (bs : List (List ℕ)) (s : IsSettledWith journal files opened past bs)
+module _ (journal : JournalState) (disk : Standing) (bs : List (List ℕ)) (s : IsSettledWith journal disk bs)
     (g : ℕ) (before : g + 1 ≡ s.generation) (old : Name) (named : old ≡ generation_name journal.name g) where
   pub small : g < 2 ^ 64
   small = let whole = s.named.small in omega (arith, before, whole)
@@ -23,30 +24,30 @@ module _ (journal : JournalState) (files : Files) (opened : Name → ℕ) (past 
   pub old_is_own : IsOwn journal.name old
   old_is_own = inr (g, small, named)
 
-  pub removal_passes : (R : Files → Files → Type 0) (start new : Past) → Passes (AtOwn journal.name R) start past → Passes (Anyhow old) past new
-      → ((a b c : Files) → R a b → MayLeave past b → HasBatchesOf journal.name c bs → R a c) → Passes (AtOwn journal.name R) start new
+  pub removal_passes : (R : Files → Files → Type 0) (start new : Past) → Passes (AtOwn journal.name R) start disk.past → Passes (Anyhow old) disk.past new
+      → ((a b c : Files) → R a b → MayLeave disk.past b → HasBatchesOf journal.name c bs → R a c) → Passes (AtOwn journal.name R) start new
   removal_passes R start new first second keeps =
-      own_then journal.name R (Anyhow old) start past new first second
-      (λ a b c so_far was step. keeps a b c so_far was (holds_behind journal files opened past bs s b c was (step.elsewhere journal.at.name at_not_old) (step.elsewhere journal.current.name current_not_old)))
+      own_then journal.name R (Anyhow old) start disk.past new first second
+      (λ a b c so_far was step. keeps a b c so_far was (holds_behind journal disk bs s b c was (step.elsewhere journal.at.name at_not_old) (step.elsewhere journal.current.name current_not_old)))
       (leaves_at journal.name old (λ a b. Unit {0}) old_is_own)
 
-  module _ (later : Files) (opened_later : Name → ℕ) (new : Past) (passes : Passes (Anyhow old) past new) (elsewhere : (n : Name) → n ≢ old → later n ≡ files n)
-      (others_opened : (n : Name) → n ≢ old → opened_later n ≡ opened n) (old_unopened : opened_later old ≡ 0) where
-    pub all_unopened : (n : Name) → IsOwn journal.name n → opened_later n ≡ 0
+  module _ (new : Standing) (passes : Passes (Anyhow old) disk.past new.past) (elsewhere : (n : Name) → n ≢ old → new.files n ≡ disk.files n)
+      (others_opened : (n : Name) → n ≢ old → new.opened n ≡ disk.opened n) (old_unopened : new.opened old ≡ 0) where
+    pub all_unopened : (n : Name) → IsOwn journal.name n → new.opened n ≡ 0
     all_unopened n own = elim (is_next journal.name n g small own) [
-      | inl is ↦ ap opened_later (is ∙ sym named) ∙ old_unopened
+      | inl is ↦ ap new.opened (is ∙ sym named) ∙ old_unopened
       | inr other ↦ others_opened n (λ is. other (is ∙ named)) ∙ s.named.unopened n own
     ]
 
-    abbrev pub removed : IsSettledWith journal later opened_later new bs
+    abbrev pub removed : IsSettledWith journal new bs
     removed =
-        settled_with_stays journal files opened past bs s later opened_later new (Anyhow old) passes (λ a c step. step.elsewhere journal.at.name at_not_old) (λ a c step. step.elsewhere journal.current.name current_not_old)
+        settled_with_stays journal disk bs s new (Anyhow old) passes (λ a c step. step.elsewhere journal.at.name at_not_old) (λ a c step. step.elsewhere journal.current.name current_not_old)
         (elsewhere journal.at.name at_not_old) (elsewhere journal.current.name current_not_old) all_unopened
 
 -- the file of the generation before is gone
-pub none_before : (journal : JournalState) (files : Files) (past : Past) (g : ℕ) (old : Name) → g + 1 < 2 ^ 64 → journal.current.name ≡ generation_name journal.name (g + 1) → old ≡ generation_name journal.name g
-    → (files old ≡ None) × Only past old None → HasNoneBefore journal files past
-none_before journal files past g old small named is gone h small_h named_h =
+pub none_before : (journal : JournalState) (disk : Standing) (g : ℕ) (old : Name) → g + 1 < 2 ^ 64 → journal.current.name ≡ generation_name journal.name (g + 1) → old ≡ generation_name journal.name g
+    → (disk.files old ≡ None) × Only disk.past old None → HasNoneBefore journal disk
+none_before journal disk g old small named is gone h small_h named_h =
     let same = one_generation journal.name (h + 1) (g + 1) small_h small (sym named_h ∙ named) in
     let number : g ≡ h = omega (arith, same) in
-    let P : Name → Type 0 = λ n. (files n ≡ None) × Only past n None in subst P (is ∙ ap (λ (k : ℕ). generation_name journal.name k) number) gone
+    let P : Name → Type 0 = λ n. (disk.files n ≡ None) × Only disk.past n None in subst P (is ∙ ap (λ (k : ℕ). generation_name journal.name k) number) gone

@@ -1,22 +1,12 @@
 -- What a call does that commits, and what a review of it does, said once for all that is kept in journals.
 use Rattle.std.specs.Prelude.{◌≡◌, ◌≢◌, ◌+◌, ℕ, Bool, Result, IsTrue, OnOk, OnErr, IfOk, IsErrOf, false, List, None}
-use Rattle.disk_model.specs.declared.disk.Disk.{Ghosts}
 use Rattle.disk_model.specs.declared.disk.DiskErr.{DiskErr}
 use Rattle.disk_model.specs.declared.disk.DiskErr.TheVariants.{Fault, Memory}
 use Rattle.disk_model.specs.Files.{Name, Content, Files, At}
-use Rattle.disk_model.specs.Past.{Past, Passes, Only}
+use Rattle.disk_model.specs.Past.{Passes, Only}
 use Rattle.gate_journal.specs.Generations.{generation_name, IsOwn, AtOwn, HasOneOf}
 use Rattle.gate_journal.specs.Journal.{JournalState, IsSettledWith, IsUndecided, OnlyGoesOn, OnlyMakes}
-
--- what reads of a disk give, how far each name was opened, and what crashes leave
-pub record Standing : Type 1 where
-  pub files : Files
-  pub opened : Name → ℕ
-  pub past : Past
-
--- a disk, by the members of its type
-abbrev pub standing : {D R : Type 0} → Ghosts D R → D → Standing
-standing {D} {R} disk d = record { files = disk.files d; opened = disk.opened d; past = disk.past d }
+use Rattle.gate_journal.specs.Standing.{Standing}
 
 -- A call that commits to the journal of this name: what is so after Ok, after Fault and at want of memory, what each crash leaves on the
 -- way, and that names that aren't the journal's stay as they are.
@@ -31,14 +21,14 @@ pub record Commits (name : Name) (Either : Files → Files → Type 0) (OnMade :
 -- of a journal: these batches go over to those
 abbrev pub CommitsBatches : List (List ℕ) → List (List ℕ) → Result (Unit {0}) DiskErr → JournalState → JournalState → Standing → Standing → Type 0
 CommitsBatches before after result was now old new =
-    Commits was.name (HasOneOf was.name before after) (OnOk result) (IsErrOf result Fault) (IsErrOf result Memory) (IsSettledWith now new.files new.opened new.past after)
-    (IsUndecided now new.files new.opened new.past before after) (IsSettledWith now new.files new.opened new.past before) old new
+    Commits was.name (HasOneOf was.name before after) (OnOk result) (IsErrOf result Fault) (IsErrOf result Memory) (IsSettledWith now new after)
+    (IsUndecided now new before after) (IsSettledWith now new before) old new
 
 -- A review of these batches or those: which they are, or that it isn't known still.
 pub record Reviews (before after : List (List ℕ)) (result : Result Bool DiskErr) (was now : JournalState) (old new : Standing) : Type 0 where
-  pub made : IfOk result (λ found. IsTrue found → IsSettledWith now new.files new.opened new.past after)
-  pub unmade : IfOk result (λ found. found ≡ false → IsSettledWith now new.files new.opened new.past before)
-  pub doubtful : OnErr result (IsUndecided now new.files new.opened new.past before after)
+  pub made : IfOk result (λ found. IsTrue found → IsSettledWith now new after)
+  pub unmade : IfOk result (λ found. found ≡ false → IsSettledWith now new before)
+  pub doubtful : OnErr result (IsUndecided now new before after)
   pub any_moment : Passes (AtOwn was.name (HasOneOf was.name before after)) old.past new.past
   pub elsewhere : (n : Name) → (IsOwn was.name n → ⊥) → new.files n ≡ old.files n
   pub opened : (n : Name) → (IsOwn was.name n → ⊥) → new.opened n ≡ old.opened n

@@ -1,5 +1,6 @@
 pub mod Batches
 pub mod Commits
+pub mod Standing
 pub mod Journal
 pub mod FirstBad
 pub mod Generations

@@ -1,8 +1,9 @@
 -- What contracts see of a journal, and how its file and what a crash may leave of it agree with that.
 use Rattle.std.specs.Prelude.{◌≡◌, ◌⊎◌, ◌+◌, ◌≤◌, ℕ, Bool, List, [], ◌∷◌, ◌++◌, length, None, Some}
 use Rattle.disk_model.specs.Files.{Name, Content, Files, OnFile}
-use Rattle.disk_model.specs.Past.{Past, MayLeave, Only}
+use Rattle.disk_model.specs.Past.{MayLeave, Only}
 use Rattle.gate_journal.specs.Batches.{open_gates, Reads}
+use Rattle.gate_journal.specs.Standing.{Standing}
 
 -- the name of its file, the place of its closed gate, how far behind that the next gate of the last commit stands, and whether
 -- it may commit
@@ -30,19 +31,19 @@ abbrev pub NoShorter : Content → Content → Type 0
 NoShorter = OnFile (λ old new. length old ≤ length new)
 
 -- The file has these batches, all of it is on the disk, and the journal knows the place of its closed gate.
-pub record IsSettled (journal : PlainState) (files : Files) (opened : Name → ℕ) (past : Past) (bs : List (List ℕ)) : Type 0 where
+pub record IsSettled (journal : PlainState) (disk : Standing) (bs : List (List ℕ)) : Type 0 where
   pub bytes : List ℕ
-  pub file : files journal.name ≡ Some bytes
+  pub file : disk.files journal.name ≡ Some bytes
   pub reads : Reads bytes bs
   pub place : journal.place ≡ length (open_gates bs)
-  pub durable : Only past journal.name (Some bytes)
-  pub unopened : opened journal.name ≡ 0
+  pub durable : Only disk.past journal.name (Some bytes)
+  pub unopened : disk.opened journal.name ≡ 0
 
 -- After a commit that failed: the file, as reads give it and as a crash now may leave it, has the batches without the new one or
 -- with it, and the journal knows the place of the gate that decides.
-pub record IsInDoubt (journal : PlainState) (files : Files) (opened : Name → ℕ) (past : Past) (bs : List (List ℕ)) (batch : List ℕ) : Type 0 where
-  pub seen : IsEither bs batch (files journal.name)
-  pub left : (image : Files) → MayLeave past image → IsEither bs batch (image journal.name)
+pub record IsInDoubt (journal : PlainState) (disk : Standing) (bs : List (List ℕ)) (batch : List ℕ) : Type 0 where
+  pub seen : IsEither bs batch (disk.files journal.name)
+  pub left : (image : Files) → MayLeave disk.past image → IsEither bs batch (image journal.name)
   pub place : journal.place ≡ length (open_gates bs)
   pub pending : journal.pending ≡ 5 + length batch
-  pub unopened : opened journal.name ≡ 0
+  pub unopened : disk.opened journal.name ≡ 0

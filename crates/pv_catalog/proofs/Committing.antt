@@ -5,10 +5,11 @@ use Rattle.disk_model.specs.declared.disk.DiskErr.{DiskErr}
 use Rattle.disk_model.specs.declared.disk.DiskErr.TheVariants.{Fault, Memory}
 use Rattle.disk_model.specs.Files.{Name, Content, At}
 use Rattle.disk_model.proofs.Passing.{passes_none}
-use Rattle.gate_journal.specs.Commits.{Standing, CommitsBatches, ChangesOne}
+use Rattle.gate_journal.specs.Commits.{CommitsBatches, ChangesOne}
 use Rattle.gate_journal.specs.Journal.{JournalState, is_of_commit}
 use Rattle.gate_journal.specs.Kept.{CommitsValue}
 use Rattle.gate_journal.specs.Plain.{NoShorter}
+use Rattle.gate_journal.specs.Standing.{Standing}
 use Rattle.gate_journal.proofs.Keeping.{commits_mean}
 use Rattle.pv_catalog.specs.declared.row.Row.{Row}
 use Rattle.pv_catalog.specs.Rows.{IsCatalogue, IsBatch}

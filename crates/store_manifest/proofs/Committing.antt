@@ -7,11 +7,12 @@ use Rattle.disk_model.specs.Past.{Past, Passes, MayLeave}
 use Rattle.disk_model.specs.declared.disk.DiskErr.{DiskErr}
 use Rattle.disk_model.specs.declared.disk.DiskErr.TheVariants.{Fault, Memory}
 use Rattle.disk_model.proofs.Passing.{passes_then, passes_weaker}
-use Rattle.gate_journal.specs.Commits.{Standing, CommitsBatches}
+use Rattle.gate_journal.specs.Commits.{CommitsBatches}
 use Rattle.gate_journal.specs.Generations.{IsOwn, HasBatchesOf, AtOwn, HasOneOf, KeepsBatches}
 use Rattle.gate_journal.specs.Journal.{JournalState, IsSettledWith, is_of_commit}
 use Rattle.gate_journal.specs.Kept as of_batches
 use Rattle.gate_journal.specs.Kept.{Says, SaysEither, CommitsValue}
+use Rattle.gate_journal.specs.Standing.{Standing}
 use Rattle.gate_journal.proofs.Keeping.{commits_mean, change_says, nothing_said, one_value}
 use Rattle.gate_journal.proofs.Results.{on_ok_always, on_err_always}
 use Rattle.gate_journal.proofs.Holding.{holds_left}
@@ -88,7 +89,7 @@ module _ (g : Granularity) (journal : JournalState) (entries : List Entry) (now 
   was = record { journal = journal; granularity = g; entries = entries; next = entries }
 
   -- the disk was left alone
-  pub nothing_configured : (at : Standing) → of_batches.IsKept (Configured g) journal at.files at.opened at.past entries → IsKept now at.files at.opened at.past → (IsErrOf result Fault → ⊥) → CommitsEntries Configured next result was now at at
+  pub nothing_configured : (at : Standing) → of_batches.IsKept (Configured g) journal at entries → IsKept now at → (IsErrOf result Fault → ⊥) → CommitsEntries Configured next result was now at at
   nothing_configured at kept still no_fault = record {
     made = on_ok_always result still;
     doubt = λ fault. absurd (no_fault fault);
@@ -170,9 +171,9 @@ review_moment g false before after entries next name old new means means_after p
     })
 
 -- a review that makes no changes in memory: the batches list the entries from before
-pub review_kept : (g : Granularity) (of_commit made : Bool) (journal : JournalState) (files : Files) (opened : Name → ℕ) (past : Past) (before after : List (List ℕ)) (entries next : List Entry) → Configured g before entries → Configured g after (cond of_commit next entries)
-    → (IsTrue made → IsSettledWith journal files opened past after) → (made ≡ false → IsSettledWith journal files opened past before) → ((made ≡ true) × (of_commit ≡ false)) ⊎ (made ≡ false) → of_batches.IsKept (Configured g) journal files opened past entries
-review_kept g of_commit made journal files opened past before after entries next means means_after taken left which = elim which [
+pub review_kept : (g : Granularity) (of_commit made : Bool) (journal : JournalState) (disk : Standing) (before after : List (List ℕ)) (entries next : List Entry) → Configured g before entries → Configured g after (cond of_commit next entries)
+    → (IsTrue made → IsSettledWith journal disk after) → (made ≡ false → IsSettledWith journal disk before) → ((made ≡ true) × (of_commit ≡ false)) ⊎ (made ≡ false) → of_batches.IsKept (Configured g) journal disk entries
+review_kept g of_commit made journal disk before after entries next means means_after taken left which = elim which [
   | inl both ↦ record { batches = after; settled = taken both.0; means = sure_means g of_commit after entries next both.1 means_after }
   | inr unmade ↦ record { batches = before; settled = left unmade; means = means }
 ]
@@ -208,10 +209,10 @@ load_means g k h bs es entries same_k same_h same means =
     let P : Granularity → Type 0 = λ z. Configured z bs es in
     let Q : List Entry → Type 0 = λ l. Configured h bs l in subst Q (sym same) (subst P (same_k ∙ sym same_h) means)
 
-pub load_kept : (m : ManifestState) (g k : Granularity) (journal : JournalState) (files : Files) (opened : Name → ℕ) (past : Past) (bs : List (List ℕ)) (es : List Entry) → m.journal ≡ journal → m.granularity ≡ g → k ≡ g → m.entries ≡ es
-    → IsSettledWith journal files opened past bs → Configured k bs es → of_batches.IsKept (Configured m.granularity) m.journal files opened past m.entries
-load_kept m g k journal files opened past bs es same_journal same_m same_k same settled means =
-    let P : JournalState → Type 0 = λ j. IsSettledWith j files opened past bs in record { batches = bs; settled = subst P (sym same_journal) settled; means = load_means g k m.granularity bs es m.entries same_k same_m same means }
+pub load_kept : (m : ManifestState) (g k : Granularity) (journal : JournalState) (disk : Standing) (bs : List (List ℕ)) (es : List Entry) → m.journal ≡ journal → m.granularity ≡ g → k ≡ g → m.entries ≡ es
+    → IsSettledWith journal disk bs → Configured k bs es → of_batches.IsKept (Configured m.granularity) m.journal disk m.entries
+load_kept m g k journal disk bs es same_journal same_m same_k same settled means =
+    let P : JournalState → Type 0 = λ j. IsSettledWith j disk bs in record { batches = bs; settled = subst P (sym same_journal) settled; means = load_means g k m.granularity bs es m.entries same_k same_m same means }
 
 module _ (g : Granularity) (name own : Name) (is : own ≡ name) where
   pub load_reads : (files later : Files) → AtOwn own (KeepsBatches own) files later → AtOwn name (StaysOrBegins g name) files later
@@ -231,34 +232,34 @@ module _ (g : Granularity) (name own : Name) (is : own ≡ name) where
   said_or_not image (inl has) = record { batches = []; has = has; means = refl }
   said_or_not image (inr has) = record { batches = config g ∷ []; has = has; means = ([], begun_empty g (config g) refl, refl) }
 
-  module _ (journal : JournalState) (named : journal.name ≡ own) (files : Files) (opened : Name → ℕ) (mid : Past) (bs : List (List ℕ)) (none : bs ≡ []) (settled : IsSettledWith journal files opened mid bs) where
+  module _ (journal : JournalState) (named : journal.name ≡ own) (disk : Standing) (bs : List (List ℕ)) (none : bs ≡ []) (settled : IsSettledWith journal disk bs) where
     both : journal.name ≡ name
     both = named ∙ is
 
-    pub first_moment : (old new : Past) → Passes (AtOwn own (KeepsBatches own)) old mid → Passes (AtOwn journal.name (HasOneOf journal.name [] (config g ∷ []))) mid new → Passes (AtOwn name (StaysOrBegins g name)) old new
+    pub first_moment : (old new : Past) → Passes (AtOwn own (KeepsBatches own)) old disk.past → Passes (AtOwn journal.name (HasOneOf journal.name [] (config g ∷ []))) disk.past new → Passes (AtOwn name (StaysOrBegins g name)) old new
     first_moment old new loads commits =
-        let Q : Name → Type 0 = λ n. Passes (AtOwn n (HasOneOf n [] (config g ∷ []))) mid new in
-        passes_then (AtOwn name (StaysOrBegins g name)) (AtOwn name (HasOneOf name [] (config g ∷ []))) old mid new (load_moment old mid loads) (subst Q both commits) (λ a b c was before now step.
+        let Q : Name → Type 0 = λ n. Passes (AtOwn n (HasOneOf n [] (config g ∷ []))) disk.past new in
+        passes_then (AtOwn name (StaysOrBegins g name)) (AtOwn name (HasOneOf name [] (config g ∷ []))) old disk.past new (load_moment old disk.past loads) (subst Q both commits) (λ a b c was before now step.
         let R : Name → Type 0 = λ n. HasBatchesOf n b bs in
         let S : List (List ℕ) → Type 0 = λ l. HasBatchesOf name b l in
-        let empty : HasBatchesOf name b [] = subst S none (subst R both (holds_left journal files opened mid bs settled b now)) in
+        let empty : HasBatchesOf name b [] = subst S none (subst R both (holds_left journal disk bs settled b now)) in
         record {
           here = inr (was_empty a b empty before.here, said_or_not c step.here);
           elsewhere = λ n other. step.elsewhere n other ∙ before.elsewhere n other;
         })
 
-    pub first_reads : (seen later : Files) (new : Past) → AtOwn own (KeepsBatches own) seen files → HasBatchesOf own seen bs → Passes (AtOwn journal.name (HasOneOf journal.name [] (config g ∷ []))) mid new → MayLeave new later
-        → ((n : Name) → (IsOwn journal.name n → ⊥) → later n ≡ files n) → AtOwn name (StaysOrBegins g name) seen later
+    pub first_reads : (seen later : Files) (new : Past) → AtOwn own (KeepsBatches own) seen disk.files → HasBatchesOf own seen bs → Passes (AtOwn journal.name (HasOneOf journal.name [] (config g ∷ []))) disk.past new → MayLeave new later
+        → ((n : Name) → (IsOwn journal.name n → ⊥) → later n ≡ disk.files n) → AtOwn name (StaysOrBegins g name) seen later
     first_reads seen later new loads has commits left elsewhere =
-        let Q : Name → Type 0 = λ n. Passes (AtOwn n (HasOneOf n [] (config g ∷ []))) mid new in
-        let passes : Passes (AtOwn name (HasOneOf name [] (config g ∷ []))) mid new = subst Q both commits in
+        let Q : Name → Type 0 = λ n. Passes (AtOwn n (HasOneOf n [] (config g ∷ []))) disk.past new in
+        let passes : Passes (AtOwn name (HasOneOf name [] (config g ∷ []))) disk.past new = subst Q both commits in
         let come = passes.each new.now later passes.later (omega arith) left in
         let R : Name → Type 0 = λ n. HasBatchesOf n seen bs in
         let S : List (List ℕ) → Type 0 = λ l. HasBatchesOf name seen l in
-        let P : Name → Type 0 = λ n. AtOwn n (KeepsBatches n) seen files in
-        let kept : AtOwn name (KeepsBatches name) seen files = subst P is loads in
-        let T : Name → Type 0 = λ n. (m : Name) → (IsOwn n m → ⊥) → later m ≡ files m in
-        let others : (m : Name) → (IsOwn name m → ⊥) → later m ≡ files m = subst T both elsewhere in
+        let P : Name → Type 0 = λ n. AtOwn n (KeepsBatches n) seen disk.files in
+        let kept : AtOwn name (KeepsBatches name) seen disk.files = subst P is loads in
+        let T : Name → Type 0 = λ n. (m : Name) → (IsOwn n m → ⊥) → later m ≡ disk.files m in
+        let others : (m : Name) → (IsOwn name m → ⊥) → later m ≡ disk.files m = subst T both elsewhere in
         record {
           here = inr (subst S none (subst R is has), said_or_not later come.2.here);
           elsewhere = λ n other. others n other ∙ kept.elsewhere n other;

@@ -1,14 +1,14 @@
 -- What contracts see of a manifest, and how its files and what a crash may leave of them agree with that.
 use Rattle.std.specs.Prelude.{◌⊎◌, ◌≤◌, ◌*◌, ℕ, ◌+◌, List, [], ◌∷◌, ◌++◌, codes, max, Result, OnOk, IsErrOf}
 use Rattle.disk_model.specs.Files.{Name, Files}
-use Rattle.disk_model.specs.Past.{Past}
 use Rattle.disk_model.specs.declared.disk.DiskErr.{DiskErr}
 use Rattle.disk_model.specs.declared.disk.DiskErr.TheVariants.{Fault, Memory}
 use Rattle.gate_journal.specs.Batches.{greatest_batch}
 use Rattle.gate_journal.specs.Generations.{HasBatchesOf, KeepsBatches}
-use Rattle.gate_journal.specs.Commits.{Standing, Commits}
+use Rattle.gate_journal.specs.Commits.{Commits}
 use Rattle.gate_journal.specs.Journal.{JournalState}
 use Rattle.gate_journal.specs.Kept as journal
+use Rattle.gate_journal.specs.Standing.{Standing}
 use Rattle.partition_names.specs.declared.granularity.Granularity.{Granularity}
 use Rattle.store_manifest.specs.declared.entry.Entry.{Entry}
 use Rattle.store_manifest.specs.Batches.{Configured, Folds}
@@ -33,18 +33,18 @@ pub record ManifestState : Type 0 where
   pub next : List Entry
 
 -- Between calls: the manifest's batches list its entries, and all of its files is on the disk.
-abbrev pub IsKept : ManifestState → Files → (Name → ℕ) → Past → Type 0
-IsKept m files opened past = journal.IsKept (Configured m.granularity) m.journal files opened past m.entries
+abbrev pub IsKept : ManifestState → Standing → Type 0
+IsKept m disk = journal.IsKept (Configured m.granularity) m.journal disk m.entries
 
 -- After a commit that failed: the batches list the entries from before it or those that it was to make.
-abbrev pub IsUnsure : ManifestState → Files → (Name → ℕ) → Past → Type 0
-IsUnsure m files opened past = journal.IsUnsure (Configured m.granularity) m.journal files opened past m.entries m.next
+abbrev pub IsUnsure : ManifestState → Standing → Type 0
+IsUnsure m disk = journal.IsUnsure (Configured m.granularity) m.journal disk m.entries m.next
 
 -- A call that commits to a manifest: its entries go over to the next ones. Means tells what batches list.
 abbrev pub CommitsEntries : (Granularity → List (List ℕ) → List Entry → Type 0) → List Entry → Result (Unit {0}) DiskErr → ManifestState → ManifestState → Standing → Standing → Type 0
 CommitsEntries Means next result was now old new =
-    Commits was.journal.name (journal.SaysEither (Means was.granularity) was.entries next was.journal.name) (OnOk result) (IsErrOf result Fault) (IsErrOf result Memory) (IsKept now new.files new.opened new.past)
-    (IsUnsure now new.files new.opened new.past) (IsKept now new.files new.opened new.past) old new
+    Commits was.journal.name (journal.SaysEither (Means was.granularity) was.entries next was.journal.name) (OnOk result) (IsErrOf result Fault) (IsErrOf result Memory) (IsKept now new)
+    (IsUnsure now new) (IsKept now new) old new
 
 -- at how many bytes a journal is long for entries that a batch of this size lists
 abbrev pub limit_of : ℕ → ℕ

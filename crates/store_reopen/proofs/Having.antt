@@ -44,13 +44,14 @@ use Rattle.durable_write.specs.Held.{Shelf, Filed, Held, IsListed, AreFiled, Are
 use Rattle.durable_write.specs.Flush.{PlacesRise}
 use Rattle.durable_write.specs.Stored.{KeysDiffer, AreHeld, TierStored}
 use Rattle.tier_store.specs.Stores.{Stores, list_at, tier}
-use Rattle.tier_store.specs.Seen.{Seen, AtEach, granularities}
+use Rattle.tier_store.specs.Seen.{Seen, AtEach, granularities, on_disk}
 use Rattle.tier_store.specs.Stored.{HoldsAll}
 use Rattle.tier_store.specs.Change.{IsKnown, Has, IsEither}
 use Rattle.tier_store.proofs.Places.{within_three, granularity_at as granularity_of}
 use Rattle.store_reopen.specs.Verdict.{AreSaid, IsThere, Listings, HasRow}
 use Rattle.store_reopen.specs.Reopen.{IsReady, IsUnopened, OpensEither, HoldsEither, AllIn, StillHolds, Reopens, stores_of, lists_of, entries_in, SameStores}
 use Rattle.gate_journal.specs.Kept as in_journal
+use Rattle.gate_journal.specs.Standing.{Standing, standing}
 
 -- One journal: what it says goes on through loads and reads, and where it is bad.
 
@@ -65,17 +66,17 @@ journals_differ store is = let first : get_or catalogue_name.1 0 0 ≡ get_or (m
 -- ONE CALL AFTER ANOTHER
 
 -- what is kept of a journal stays while calls only read
-pub kept_reads : {A : Type 0} (Means : List (List ℕ) → A → Type 0) (journal : JournalState) (files : Files) (opened : Name → ℕ) (old : Past) (later : Files) (after : Name → ℕ) (new : Past) (value : A) → IsJournalKept Means journal files opened old value → later ≡ files → Passes (λ a b. b ≡ a) old new → after ≡ opened
-    → IsJournalKept Means journal later after new value
-kept_reads {A} Means journal files opened old later after new value kept same passes opened_same =
-    kept_stays Means journal files opened old later after new (λ a b. b ≡ a) passes (λ a c is n own. ap (λ (f : Files). f n) is) (λ n own. ap (λ (f : Files). f n) same)
-    (λ n own. let fewer : after n ≡ opened n = ap (λ (o : Name → ℕ). o n) opened_same in omega (arith, fewer)) value kept
+pub kept_reads : {A : Type 0} (Means : List (List ℕ) → A → Type 0) (journal : JournalState) (old new : Standing) (value : A) → IsJournalKept Means journal old value → new.files ≡ old.files → Passes (λ a b. b ≡ a) old.past new.past → new.opened ≡ old.opened
+    → IsJournalKept Means journal new value
+kept_reads {A} Means journal old new value kept same passes opened_same =
+    kept_stays Means journal old new (λ a b. b ≡ a) passes (λ a c is n own. ap (λ (f : Files). f n) is) (λ n own. ap (λ (f : Files). f n) same)
+    (λ n own. let fewer : new.opened n ≡ old.opened n = ap (λ (o : Name → ℕ). o n) opened_same in omega (arith, fewer)) value kept
 
 -- the catalogue stays while a manifest is loaded
-pub catalogue_stays : (store : ℕ) (R : Files → Files → Type 0) (journal : JournalState) (files : Files) (opened : Name → ℕ) (old : Past) (later : Files) (after : Name → ℕ) (new : Past) (rows : List Row) → journal.name ≡ catalogue_name → IsJournalKept IsCatalogue journal files opened old rows
-    → ((n : Name) → (IsOwn (manifest_name store) n → ⊥) → later n ≡ files n) → Passes (AtOwn (manifest_name store) R) old new → ((n : Name) → (IsOwn (manifest_name store) n → ⊥) → after n ≡ opened n) → IsJournalKept IsCatalogue journal later after new rows
-catalogue_stays store R journal files opened old later after new rows named kept others passes others_opened =
-    kept_stays IsCatalogue journal files opened old later after new (AtOwn (manifest_name store) R) passes (λ a c step n own. step.elsewhere n (apart n own)) (λ n own. others n (apart n own))
+pub catalogue_stays : (store : ℕ) (R : Files → Files → Type 0) (journal : JournalState) (old new : Standing) (rows : List Row) → journal.name ≡ catalogue_name → IsJournalKept IsCatalogue journal old rows
+    → ((n : Name) → (IsOwn (manifest_name store) n → ⊥) → new.files n ≡ old.files n) → Passes (AtOwn (manifest_name store) R) old.past new.past → ((n : Name) → (IsOwn (manifest_name store) n → ⊥) → new.opened n ≡ old.opened n) → IsJournalKept IsCatalogue journal new rows
+catalogue_stays store R journal old new rows named kept others passes others_opened =
+    kept_stays IsCatalogue journal old new (AtOwn (manifest_name store) R) passes (λ a c step n own. step.elsewhere n (apart n own)) (λ n own. others n (apart n own))
     (λ n own. let fewer = others_opened n (apart n own) in omega (arith, fewer)) rows kept
   where
     apart : (n : Name) → IsOwn journal.name n → IsOwn (manifest_name store) n → ⊥
@@ -106,11 +107,11 @@ says_before g h name old new entries (inr begun) says =
 -- A JOURNAL THAT IS LOADED ONCE MORE
 
 -- what its load keeps
-pub record LoadsAgain (name : Name) (files : Files) (opened : Name → ℕ) (old : Past) (later : Files) (after : Name → ℕ) (new : Past) : Type 0 where
-  pub kept : AtOwn name (KeepsBatches name) files later
-  pub passes : Passes (AtOwn name (KeepsBatches name)) old new
-  pub others : (n : Name) → (IsOwn name n → ⊥) → after n ≡ opened n
-  pub is : NoneOpened name after
+pub record LoadsAgain (name : Name) (old new : Standing) : Type 0 where
+  pub kept : AtOwn name (KeepsBatches name) old.files new.files
+  pub passes : Passes (AtOwn name (KeepsBatches name)) old.past new.past
+  pub others : (n : Name) → (IsOwn name n → ⊥) → new.opened n ≡ old.opened n
+  pub is : NoneOpened name new.opened
 
 pub stays_at : (g : Granularity) (name : Name) (a c : Files) → AtOwn name (KeepsBatches name) a c → AtOwn name (StaysOrBegins g name) a c
 stays_at g name a c step = record { here = inl step.here; elsewhere = step.elsewhere }
@@ -133,12 +134,12 @@ pub gates_more : (bs : List (List ℕ)) (i : ℕ) (b : List ℕ) → slice_get b
 gates_more bs i b here = rw add-one (gates_more_at bs i b here)
 
 -- the file of a settled journal's current generation, where its load has kept the batches
-pub settled_file_of : (journal : JournalState) (name : Name) (old new : Files) (opened : Name → ℕ) (past : Past) (bs cs : List (List ℕ)) → journal.name ≡ name → IsSettledWith journal new opened past cs → KeepsBatches name old new
+pub settled_file_of : (journal : JournalState) (name : Name) (old : Files) (new : Standing) (bs cs : List (List ℕ)) → journal.name ≡ name → IsSettledWith journal new cs → KeepsBatches name old new.files
     → (has : HasBatchesOf name old bs) → journal.current.name ≡ generation_name name has.generation
-settled_file_of journal name old new opened past bs cs named settled keeps has =
+settled_file_of journal name old new bs cs named settled keeps has =
     let at_is : journal.at.name ≡ at_name name = settled.named.at ∙ ap at_name named in
-    let told : HasBatches (new (at_name name)) (generation_batches settled.generation) = subst (λ (n : Name). HasBatches (new n) (generation_batches settled.generation)) at_is (settled_seen journal.at new opened past (generation_batches settled.generation) settled.at) in
-    let same = one_generation_told (new (at_name name)) settled.generation has.generation told (keeps.told has.generation has.told) in
+    let told : HasBatches (new.files (at_name name)) (generation_batches settled.generation) = subst (λ (n : Name). HasBatches (new.files n) (generation_batches settled.generation)) at_is (settled_seen journal.at new (generation_batches settled.generation) settled.at) in
+    let same = one_generation_told (new.files (at_name name)) settled.generation has.generation told (keeps.told has.generation has.told) in
     settled.named.current ∙ ap (λ (n : Name). generation_name n settled.generation) named ∙ ap (λ (k : ℕ). generation_name name k) same
 
 -- the journal that is loaded once more has the batch, since what has no batch has no bad one
@@ -285,32 +286,32 @@ still_then gs a b c one two = record {
   others = λ n apart. two.others n apart ∙ one.others n apart;
 }
 
-pub kept_then : (gs : List Granularity) (f₀ : Files) (o₀ : Name → ℕ) (p₀ : Past) (f₁ : Files) (o₁ : Name → ℕ) (p₁ : Past) (f₂ : Files) (o₂ : Name → ℕ) (p₂ : Past) → KeepsSaid gs f₀ o₀ p₀ f₁ o₁ p₁ → KeepsSaid gs f₁ o₁ p₁ f₂ o₂ p₂ → KeepsSaid gs f₀ o₀ p₀ f₂ o₂ p₂
-kept_then gs f₀ o₀ p₀ f₁ o₁ p₁ f₂ o₂ p₂ one two = record {
-  passes = passes_then (StillSay gs) (StillSay gs) p₀ p₁ p₂ one.passes two.passes (λ a b c was before now step. still_then gs a b c before step);
-  now = still_then gs f₀ f₁ f₂ one.now two.now;
+pub kept_then : (gs : List Granularity) (f₀ f₁ f₂ : Standing) → KeepsSaid gs f₀ f₁ → KeepsSaid gs f₁ f₂ → KeepsSaid gs f₀ f₂
+kept_then gs f₀ f₁ f₂ one two = record {
+  passes = passes_then (StillSay gs) (StillSay gs) f₀.past f₁.past f₂.past one.passes two.passes (λ a b c was before now step. still_then gs a b c before step);
+  now = still_then gs f₀.files f₁.files f₂.files one.now two.now;
   same_opened = λ n other. two.same_opened n other ∙ one.same_opened n other;
   none_opened = λ j none. two.none_opened j (one.none_opened j none);
 }
 
 -- calls that only read
-pub kept_reading : (gs : List Granularity) (files later : Files) (opened after : Name → ℕ) (old new : Past) → later ≡ files → Passes (λ a b. b ≡ a) old new → after ≡ opened → KeepsSaid gs files opened old later after new
-kept_reading gs files later opened after old new same passes opened_same = record {
-  passes = passes_weaker (λ a b. b ≡ a) (StillSay gs) old new passes (λ a c was is. subst (StillSay gs a) (sym is) (still_none gs a));
-  now = subst (StillSay gs files) (sym same) (still_none gs files);
+pub kept_reading : (gs : List Granularity) (old new : Standing) → new.files ≡ old.files → Passes (λ a b. b ≡ a) old.past new.past → new.opened ≡ old.opened → KeepsSaid gs old new
+kept_reading gs old new same passes opened_same = record {
+  passes = passes_weaker (λ a b. b ≡ a) (StillSay gs) old.past new.past passes (λ a c was is. subst (StillSay gs a) (sym is) (still_none gs a));
+  now = subst (StillSay gs old.files) (sym same) (still_none gs old.files);
   same_opened = λ n other. ap (λ (o : Name → ℕ). o n) opened_same;
   none_opened = λ j none. subst (λ (o : Name → ℕ). NoneOpened (name_of j) o) (sym opened_same) none;
 }
 
 -- no call at all
-pub kept_same : (gs : List Granularity) (files : Files) (opened : Name → ℕ) (past : Past) → Passes (λ a b. b ≡ a) past past → KeepsSaid gs files opened past files opened past
-kept_same gs files opened past passes = kept_reading gs files files opened opened past past refl passes refl
+pub kept_same : (gs : List Granularity) (disk : Standing) → Passes (λ a b. b ≡ a) disk.past disk.past → KeepsSaid gs disk disk
+kept_same gs disk passes = kept_reading gs disk disk refl passes refl
 
 -- what is kept of a manifest stays while that of another store is loaded
-pub manifest_stays : (store : ℕ) (R : Files → Files → Type 0) (other : ℕ) (m : ManifestState) (files : Files) (opened : Name → ℕ) (old : Past) (later : Files) (after : Name → ℕ) (new : Past) → m.journal.name ≡ manifest_name other → other ≢ store → IsKept m files opened old
-    → ((n : Name) → (IsOwn (manifest_name store) n → ⊥) → later n ≡ files n) → Passes (AtOwn (manifest_name store) R) old new → ((n : Name) → (IsOwn (manifest_name store) n → ⊥) → after n ≡ opened n) → IsKept m later after new
-manifest_stays store R other m files opened old later after new named distinct kept others passes others_opened =
-    kept_stays (Configured m.granularity) m.journal files opened old later after new (AtOwn (manifest_name store) R) passes (λ a c step n own. step.elsewhere n (apart n own)) (λ n own. others n (apart n own))
+pub manifest_stays : (store : ℕ) (R : Files → Files → Type 0) (other : ℕ) (m : ManifestState) (old new : Standing) → m.journal.name ≡ manifest_name other → other ≢ store → IsKept m old
+    → ((n : Name) → (IsOwn (manifest_name store) n → ⊥) → new.files n ≡ old.files n) → Passes (AtOwn (manifest_name store) R) old.past new.past → ((n : Name) → (IsOwn (manifest_name store) n → ⊥) → new.opened n ≡ old.opened n) → IsKept m new
+manifest_stays store R other m old new named distinct kept others passes others_opened =
+    kept_stays (Configured m.granularity) m.journal old new (AtOwn (manifest_name store) R) passes (λ a c step n own. step.elsewhere n (apart n own)) (λ n own. others n (apart n own))
     (λ n own. let fewer = others_opened n (apart n own) in omega (arith, fewer)) m.entries kept
   where
     apart : (n : Name) → IsOwn m.journal.name n → IsOwn (manifest_name store) n → ⊥
@@ -319,16 +320,16 @@ manifest_stays store R other m files opened old later after new named distinct k
 -- ONE JOURNAL IS LOADED
 
 -- it keeps its batches, and every name that isn't one of its files is as it was
-record LoadsOne (gs : List Granularity) (j : Journal) (files : Files) (opened : Name → ℕ) (old : Past) (later : Files) (after : Name → ℕ) (new : Past) : Type 0 where
-  passes : Passes (AtOwn (name_of j) (KeepsJournal gs j)) old new
-  kept : AtOwn (name_of j) (KeepsJournal gs j) files later
-  others_opened : (n : Name) → (IsOwn (name_of j) n → ⊥) → after n ≡ opened n
-  is : NoneOpened (name_of j) after
+record LoadsOne (gs : List Granularity) (j : Journal) (old new : Standing) : Type 0 where
+  passes : Passes (AtOwn (name_of j) (KeepsJournal gs j)) old.past new.past
+  kept : AtOwn (name_of j) (KeepsJournal gs j) old.files new.files
+  others_opened : (n : Name) → (IsOwn (name_of j) n → ⊥) → new.opened n ≡ old.opened n
+  is : NoneOpened (name_of j) new.opened
 
-kept_load : (gs : List Granularity) (j : Journal) (files later : Files) (opened after : Name → ℕ) (old new : Past) → LoadsOne gs j files opened old later after new → KeepsSaid gs files opened old later after new
-kept_load gs j files later opened after old new load = record {
-  passes = passes_weaker (AtOwn (name_of j) (KeepsJournal gs j)) (StillSay gs) old new load.passes (λ a c left step. still a c step);
-  now = still files later load.kept;
+kept_load : (gs : List Granularity) (j : Journal) (old new : Standing) → LoadsOne gs j old new → KeepsSaid gs old new
+kept_load gs j old new load = record {
+  passes = passes_weaker (AtOwn (name_of j) (KeepsJournal gs j)) (StillSay gs) old.past new.past load.passes (λ a c left step. still a c step);
+  now = still old.files new.files load.kept;
   same_opened = λ n other. load.others_opened n (no_journal n j other);
   none_opened = λ i. unopened i (journal_cases i j);
 }
@@ -344,36 +345,36 @@ kept_load gs j files later opened after old new load = record {
       others = λ n apart. step.elsewhere n (apart j);
     }
 
-    unopened : (i : Journal) → (i ≡ j) ⊎ (i ≢ j) → NoneOpened (name_of i) opened → NoneOpened (name_of i) after
-    unopened i (inl is) none = subst (λ (k : Journal). NoneOpened (name_of k) after) (sym is) load.is
+    unopened : (i : Journal) → (i ≡ j) ⊎ (i ≢ j) → NoneOpened (name_of i) old.opened → NoneOpened (name_of i) new.opened
+    unopened i (inl is) none = subst (λ (k : Journal). NoneOpened (name_of k) new.opened) (sym is) load.is
     unopened i (inr apart) none = λ n own. load.others_opened n (journals_apart i j apart n own) ∙ none n own
 
-module _ (gs : List Granularity) (files later : Files) (opened after : Name → ℕ) (old new : Past) where
+module _ (gs : List Granularity) (old new : Standing) where
   -- the catalogue alone
-  pub kept_rows : Passes (AtOwn catalogue_name (KeepsBatches catalogue_name)) old new → AtOwn catalogue_name (KeepsBatches catalogue_name) files later → ((n : Name) → (IsOwn catalogue_name n → ⊥) → after n ≡ opened n) → NoneOpened catalogue_name after → KeepsSaid gs files opened old later after new
-  kept_rows passes kept others_opened is = kept_load gs Catalogue files later opened after old new (record { passes = passes; kept = kept; others_opened = others_opened; is = is })
+  pub kept_rows : Passes (AtOwn catalogue_name (KeepsBatches catalogue_name)) old.past new.past → AtOwn catalogue_name (KeepsBatches catalogue_name) old.files new.files → ((n : Name) → (IsOwn catalogue_name n → ⊥) → new.opened n ≡ old.opened n) → NoneOpened catalogue_name new.opened → KeepsSaid gs old new
+  kept_rows passes kept others_opened is = kept_load gs Catalogue old new (record { passes = passes; kept = kept; others_opened = others_opened; is = is })
 
-  pub rows_again : (name : Name) → name ≡ catalogue_name → LoadsAgain name files opened old later after new → KeepsSaid gs files opened old later after new
+  pub rows_again : (name : Name) → name ≡ catalogue_name → LoadsAgain name old new → KeepsSaid gs old new
   rows_again name named loads =
-      let at = subst (λ (n : Name). LoadsAgain n files opened old later after new) named loads in kept_rows at.passes at.kept at.others at.is
+      let at = subst (λ (n : Name). LoadsAgain n old new) named loads in kept_rows at.passes at.kept at.others at.is
 
   -- one manifest alone
-  pub kept_list : (i : ℕ) (g : Granularity) → slice_get gs i ≡ Some g → Passes (AtOwn (manifest_name (i + 1)) (StaysOrBegins g (manifest_name (i + 1)))) old new → AtOwn (manifest_name (i + 1)) (StaysOrBegins g (manifest_name (i + 1))) files later
-      → ((n : Name) → (IsOwn (manifest_name (i + 1)) n → ⊥) → after n ≡ opened n) → NoneOpened (manifest_name (i + 1)) after → KeepsSaid gs files opened old later after new
+  pub kept_list : (i : ℕ) (g : Granularity) → slice_get gs i ≡ Some g → Passes (AtOwn (manifest_name (i + 1)) (StaysOrBegins g (manifest_name (i + 1)))) old.past new.past → AtOwn (manifest_name (i + 1)) (StaysOrBegins g (manifest_name (i + 1))) old.files new.files
+      → ((n : Name) → (IsOwn (manifest_name (i + 1)) n → ⊥) → new.opened n ≡ old.opened n) → NoneOpened (manifest_name (i + 1)) new.opened → KeepsSaid gs old new
   kept_list i g here passes kept others_opened none =
       let is = sym (is_at gs i g here) in
-      kept_load gs (Manifest i) files later opened after old new (record {
-        passes = subst (λ (h : Granularity). Passes (AtOwn (manifest_name (i + 1)) (StaysOrBegins h (manifest_name (i + 1)))) old new) is passes;
-        kept = subst (λ (h : Granularity). AtOwn (manifest_name (i + 1)) (StaysOrBegins h (manifest_name (i + 1))) files later) is kept;
+      kept_load gs (Manifest i) old new (record {
+        passes = subst (λ (h : Granularity). Passes (AtOwn (manifest_name (i + 1)) (StaysOrBegins h (manifest_name (i + 1)))) old.past new.past) is passes;
+        kept = subst (λ (h : Granularity). AtOwn (manifest_name (i + 1)) (StaysOrBegins h (manifest_name (i + 1))) old.files new.files) is kept;
         others_opened = others_opened;
         is = none;
       })
 
-  pub list_again : (i : ℕ) (g : Granularity) → slice_get gs i ≡ Some g → (name : Name) → name ≡ manifest_name (i + 1) → LoadsAgain name files opened old later after new → KeepsSaid gs files opened old later after new
+  pub list_again : (i : ℕ) (g : Granularity) → slice_get gs i ≡ Some g → (name : Name) → name ≡ manifest_name (i + 1) → LoadsAgain name old new → KeepsSaid gs old new
   list_again i g here name named loads =
-      let at = subst (λ (n : Name). LoadsAgain n files opened old later after new) named loads in
+      let at = subst (λ (n : Name). LoadsAgain n old new) named loads in
       let own : Name = manifest_name (i + 1) in
-      kept_list i g here (passes_weaker (AtOwn own (KeepsBatches own)) (AtOwn own (StaysOrBegins g own)) old new at.passes (λ a c was step. stays_at g own a c step)) (stays_at g own files later at.kept) at.others at.is
+      kept_list i g here (passes_weaker (AtOwn own (KeepsBatches own)) (AtOwn own (StaysOrBegins g own)) old.past new.past at.passes (λ a c was step. stays_at g own a c step)) (stays_at g own old.files new.files at.kept) at.others at.is
 
 -- The stores that are opened have what reads give of the image.
 
@@ -429,8 +430,8 @@ all_entries P (f ∷ fs) all = All-cons (λ (h : Filed). P h.entry) f fs (All-he
 
 -- what was loaded of a disk, and what is known of its files
 pub record IsLoaded (s : Seen) : Type 0 where
-  pub stored : IsStored s.catalogue s.files s.opened s.past
-  pub kept : AtEach s.manifests (λ i m. IsKept m s.files s.opened s.past)
+  pub stored : IsStored s.catalogue (on_disk s)
+  pub kept : AtEach s.manifests (λ i m. IsKept m (on_disk s))
   pub named : s.catalogue.journal.name ≡ catalogue_name
   pub named_manifests : AtEach s.manifests (λ i m. m.journal.name ≡ manifest_name (i + 1))
   pub there : AtEach s.manifests (λ i m. All (IsThere i s.files s.catalogue.rows) m.entries)
@@ -460,14 +461,14 @@ known_again gs s held three ready of filed = record {
 }
 
 -- one store is stored
-stored_at : (gs : List Granularity) (s : Seen) (held : Stores) (i : ℕ) (m : ManifestState) → slice_get s.manifests i ≡ Some m → IsReady gs s.catalogue s.manifests → IsOf s held → AreHeld m.granularity (tier i held) → IsLoaded s → ((image : Files) → MayLeave s.past image → AreIn (tier i held) image) → TierStored m.granularity m.journal s.files s.opened s.past (tier i held)
+stored_at : (gs : List Granularity) (s : Seen) (held : Stores) (i : ℕ) (m : ManifestState) → slice_get s.manifests i ≡ Some m → IsReady gs s.catalogue s.manifests → IsOf s held → AreHeld m.granularity (tier i held) → IsLoaded s → ((image : Files) → MayLeave s.past image → AreIn (tier i held) image) → TierStored m.granularity m.journal (on_disk s) (tier i held)
 stored_at gs s held i m here ready of valid loaded left =
     let Safe : List Row → List Entry → Type 0 = λ rows es. All (IsThere i s.files rows) es × All (λ (e : Entry). s.opened (file_of (i + 1, rows) e) ≤ e.len) es in
     let safe : Safe held.rows (map entry_of (list_at i held)) = subst (λ (r : List Row). Safe r (map entry_of (list_at i held))) (sym of.of_rows) (subst (Safe s.catalogue.rows) (of.listed i m here) (loaded.there i m here, loaded.unopened i m here)) in
     record {
       named = loaded.named_manifests i m here;
       sound = ready.sound_lists i m here;
-      kept = subst (λ (es : List Entry). in_journal.IsKept (Configured m.granularity) m.journal s.files s.opened s.past es) (of.listed i m here) (loaded.kept i m here);
+      kept = subst (λ (es : List Entry). in_journal.IsKept (Configured m.granularity) m.journal (on_disk s) es) (of.listed i m here) (loaded.kept i m here);
       valid = valid;
       safe = record {
         long = all_entries (IsThere i s.files held.rows) (list_at i held) safe.0;
@@ -484,7 +485,7 @@ has_again tells gs s held three ready of filed disk = record {
   disk = λ told.
       let on = disk told in
       record {
-        rows = record { named = on.0.named; sound = ready.sound; kept = subst (λ (r : List Row). in_journal.IsKept IsCatalogue s.catalogue.journal s.files s.opened s.past r) (sym of.of_rows) on.0.stored };
+        rows = record { named = on.0.named; sound = ready.sound; kept = subst (λ (r : List Row). in_journal.IsKept IsCatalogue s.catalogue.journal (on_disk s) r) (sym of.of_rows) on.0.stored };
         each = λ i m here. stored_at gs s held i m here ready of (known.each i m here).valid on.0 (λ image left. on.1 image left i (within_three s.manifests i m known.three here));
       };
 }
@@ -654,40 +655,40 @@ only_at g (suc zero) low = refl
 only_at g (suc (suc zero)) low = refl
 only_at g (suc (suc (suc i))) low = absurd (omega (arith, low))
 
-pub still_unopened : (gs : List Granularity) (files later : Files) (opened after : Name → ℕ) (old new : Past) → KeepsSaid gs files opened old later after new → IsUnopened files opened → IsUnopened later after
-still_unopened gs files later opened after old new keeps unopened = record {
+pub still_unopened : (gs : List Granularity) (old new : Standing) → KeepsSaid gs old new → IsUnopened old.files old.opened → IsUnopened new.files new.opened
+still_unopened gs old new keeps unopened = record {
   catalogue = keeps.none_opened Catalogue unopened.catalogue;
   manifests = λ i low. keeps.none_opened (Manifest i) (unopened.manifests i low);
   listed = λ rows rows_said i low g entries said.
-      let own = subst (λ (h : Granularity). Says (Folds h) entries (manifest_name (i + 1)) later) (sym (only_at g i low)) said in
-      let was = subst (λ (h : Granularity). Says (Folds h) entries (manifest_name (i + 1)) files) (only_at g i low) (no_more gs (only g) (Manifest i) files later entries (keeps.now.journals (Manifest i)) own) in
-      unopened_later i rows entries opened after keeps.same_opened (unopened.listed rows (no_more gs gs Catalogue files later rows (keeps.now.journals Catalogue) rows_said) i low g entries was);
+      let own = subst (λ (h : Granularity). Says (Folds h) entries (manifest_name (i + 1)) new.files) (sym (only_at g i low)) said in
+      let was = subst (λ (h : Granularity). Says (Folds h) entries (manifest_name (i + 1)) old.files) (only_at g i low) (no_more gs (only g) (Manifest i) old.files new.files entries (keeps.now.journals (Manifest i)) own) in
+      unopened_later i rows entries old.opened new.opened keeps.same_opened (unopened.listed rows (no_more gs gs Catalogue old.files new.files rows (keeps.now.journals Catalogue) rows_said) i low g entries was);
 }
 
-pub loaded_again : (gs : List Granularity) (s : Seen) (files : Files) (opened : Name → ℕ) (old : Past) → length gs ≡ 3 → KeepsSaid gs files opened old s.files s.opened s.past → IsUnopened files opened → IsReady gs s.catalogue s.manifests → IsStored s.catalogue s.files s.opened s.past
-    → AtEach s.manifests (λ i m. IsKept m s.files s.opened s.past) → s.catalogue.journal.name ≡ catalogue_name → AtEach s.manifests (λ i m. m.journal.name ≡ manifest_name (i + 1)) → AreSaid gs files s.catalogue.rows (lists_of s.manifests)
-    → AtEach s.manifests (λ i m. All (IsThere i files s.catalogue.rows) m.entries) → IsLoaded s
-loaded_again gs s files opened old three keeps unopened ready stored kept named named_manifests said there = record {
+pub loaded_again : (gs : List Granularity) (s : Seen) (old : Standing) → length gs ≡ 3 → KeepsSaid gs old (on_disk s) → IsUnopened old.files old.opened → IsReady gs s.catalogue s.manifests → IsStored s.catalogue (on_disk s)
+    → AtEach s.manifests (λ i m. IsKept m (on_disk s)) → s.catalogue.journal.name ≡ catalogue_name → AtEach s.manifests (λ i m. m.journal.name ≡ manifest_name (i + 1)) → AreSaid gs old.files s.catalogue.rows (lists_of s.manifests)
+    → AtEach s.manifests (λ i m. All (IsThere i old.files s.catalogue.rows) m.entries) → IsLoaded s
+loaded_again gs s old three keeps unopened ready stored kept named named_manifests said there = record {
   stored = stored;
   kept = kept;
   named = named;
   named_manifests = named_manifests;
-  there = λ i m here. all_there_in i files s.files s.catalogue.rows m.entries (λ n other. sym (keeps.now.elsewhere n other)) (there i m here);
+  there = λ i m here. all_there_in i old.files s.files s.catalogue.rows m.entries (λ n other. sym (keeps.now.elsewhere n other)) (there i m here);
   unopened = λ i m here.
       let g = own_granularity gs s.manifests i m ready.granularity here in
-      let lists : Says (Folds m.granularity) m.entries (manifest_name (i + 1)) files = subst (λ (es : List Entry). Says (Folds m.granularity) es (manifest_name (i + 1)) files) (listed_at s.manifests i m here) (said.lists_said i m.granularity g) in
-      unopened_later i s.catalogue.rows m.entries opened s.opened keeps.same_opened (unopened.listed s.catalogue.rows said.rows_said i (low_of gs i m.granularity three g) m.granularity m.entries lists);
+      let lists : Says (Folds m.granularity) m.entries (manifest_name (i + 1)) old.files = subst (λ (es : List Entry). Says (Folds m.granularity) es (manifest_name (i + 1)) old.files) (listed_at s.manifests i m here) (said.lists_said i m.granularity g) in
+      unopened_later i s.catalogue.rows m.entries old.opened s.opened keeps.same_opened (unopened.listed s.catalogue.rows said.rows_said i (low_of gs i m.granularity three g) m.granularity m.entries lists);
 }
 
 pub reopened : {D R : Type 0} (disk : Ghosts D R) (gs : List Granularity) (old new : D) → IsUnopened (disk.files old) (disk.opened old)
-    → KeepsSaid gs (disk.files old) (disk.opened old) (disk.past old) (disk.files new) (disk.opened new) (disk.past new) → Reopens disk gs old new
+    → KeepsSaid gs (standing disk old) (standing disk new) → Reopens disk gs old new
 reopened {D} {R} disk gs old new unopened keeps = record {
   any_moment = still_holds gs (disk.past old) (disk.past new) keeps.passes;
   either = λ before after opens. still_either gs (disk.past old) (disk.past new) before after opens keeps.passes;
   opens = λ before after opens. opens_again gs (disk.past old) (disk.past new) before after keeps.passes opens;
   elsewhere = keeps.now.elsewhere;
   stores = passes_weaker (StillSay gs) SameStores (disk.past old) (disk.past new) keeps.passes (λ a c left step. step.elsewhere);
-  unopened = still_unopened gs (disk.files old) (disk.files new) (disk.opened old) (disk.opened new) (disk.past old) (disk.past new) keeps unopened;
+  unopened = still_unopened gs (standing disk old) (standing disk new) keeps unopened;
 }
 
 -- the settings

@@ -14,8 +14,9 @@ use Rattle.disk_model.specs.Past.{Passes, MayLeave}
 use Rattle.disk_model.specs.declared.disk.Disk.{Ghosts}
 use Rattle.disk_model.proofs.Passing.{passes_weaker, passes_then}
 use Rattle.gate_journal.specs.Generations.{IsOwn, AtOwn}
+use Rattle.gate_journal.specs.Standing.{standing}
 use Rattle.pv_catalog.specs.Catalogue.{CatalogueState, catalogue_name, Refuses, registered, IsStored}
-use Rattle.tier_store.specs.Seen.{Seen, granularities, AtEach}
+use Rattle.tier_store.specs.Seen.{Seen, granularities, AtEach, on_disk}
 use Rattle.tier_store.proofs.Places.{within_three, manifest_at, holding, same_granularities, set_cases, tier_set, tier_other, manifest_of}
 use Rattle.store_reopen.specs.Reopen.{IsReady, SameStores, IsUnopened, Opens, OpensEither, ChangesJournals, ChangesSite, IsNoJournals, OnlyJournals, OnlySite, AllIn, HasLoaded, HoldsEither, IsSwept, OpensRead, Reopens, StillHolds, Sweeps, entries_in, lists_of, loaded}
 use Rattle.store_reopen.specs.Verdict.{HasRow, AreSaid, IsThere, IsWhole, Listings}
@@ -57,12 +58,12 @@ use Rattle.durable_write.proofs.Written.{contains_entry}
 -- Files that are listed beside what a store lists, and what changes of journals leave of the stores.
 
 -- files of rows, safe on the disk, may be listed beside what a store lists
-pub can_add : (i : ℕ) (tells : Bool) (at : Seen) (held : Stores) (files : List Filed) (m : ManifestState) (here : slice_get at.manifests i ≡ Some m) (has : Has tells at held) → AreFiled m.granularity (of_files i held files) → (IsTrue tells → AreSafe (of_files i held files) at.files at.opened at.past)
+pub can_add : (i : ℕ) (tells : Bool) (at : Seen) (held : Stores) (files : List Filed) (m : ManifestState) (here : slice_get at.manifests i ≡ Some m) (has : Has tells at held) → AreFiled m.granularity (of_files i held files) → (IsTrue tells → AreSafe (of_files i held files) (on_disk at))
     → CanList i tells at (map set_entry (map entry_of files)) held (put_all (list_at i held) files)
 can_add i tells at held files m here has filed safe = record {
   lists = entries_with (list_at i held) files;
   valid = λ n there. subst (λ (k : ManifestState). AreHeld k.granularity (tier i (with_list i (put_all (list_at i held) files) held))) (same_Some m n (sym here ∙ there)) (subst (AreHeld m.granularity) (sym are) valid);
-  safe = λ told. subst (λ (t : Held). AreSafe t at.files at.opened at.past) (sym are) (safe_both (tier i held) files at.files at.opened at.past ((has.disk told).each i m here).safe (safe told));
+  safe = λ told. subst (λ (t : Held). AreSafe t (on_disk at)) (sym are) (safe_both (tier i held) files (on_disk at) ((has.disk told).each i m here).safe (safe told));
 }
   where
     known : AreHeld m.granularity (tier i held)
@@ -266,11 +267,11 @@ unopened_of gs files opened held three holds within catalogue manifests = record
 at_name : (opened : Name → ℕ) (own name : Name) → own ≡ name → NoneOpened own opened → NoneOpened name opened
 at_name opened own name is none = subst (λ (n : Name). NoneOpened n opened) is none
 
-rows_none : (s : Seen) (rows : List Row) → CatalogueStored s.catalogue.journal s.files s.opened s.past rows → NoneOpened s.catalogue.journal.name s.opened
-rows_none s rows stored = kept_unopened IsCatalogue s.catalogue.journal s.files s.opened s.past rows stored.kept
+rows_none : (s : Seen) (rows : List Row) → CatalogueStored s.catalogue.journal (on_disk s) rows → NoneOpened s.catalogue.journal.name s.opened
+rows_none s rows stored = kept_unopened IsCatalogue s.catalogue.journal (on_disk s) rows stored.kept
 
-lists_none : (s : Seen) (m : ManifestState) (t : Held) → TierStored m.granularity m.journal s.files s.opened s.past t → NoneOpened m.journal.name s.opened
-lists_none s m t stored = kept_unopened (Configured m.granularity) m.journal s.files s.opened s.past (map entry_of t.files) stored.kept
+lists_none : (s : Seen) (m : ManifestState) (t : Held) → TierStored m.granularity m.journal (on_disk s) t → NoneOpened m.journal.name s.opened
+lists_none s m t stored = kept_unopened (Configured m.granularity) m.journal (on_disk s) (map entry_of t.files) stored.kept
 
 three_of : (s : Seen) → length s.manifests ≡ 3 → length (granularities s.manifests) ≡ 3
 three_of s three = count s.manifests ∙ three
@@ -292,7 +293,7 @@ record IsClosed (s : Seen) (before after : Stores) : Type 0 where
 
 rows_closed : (s : Seen) (before after : Stores) → length s.manifests ≡ 3 → RowsUnsure s before after → IsClosed s before after
 rows_closed s before after three unsure = record {
-  catalogue = at_name s.opened s.catalogue.journal.name catalogue_name unsure.rows.named (unsure_unopened IsCatalogue s.catalogue.journal s.files s.opened s.past before.rows after.rows unsure.rows.unsure);
+  catalogue = at_name s.opened s.catalogue.journal.name catalogue_name unsure.rows.named (unsure_unopened IsCatalogue s.catalogue.journal (on_disk s) before.rows after.rows unsure.rows.unsure);
   manifests = λ i low. let m = here_of s i three low in at_name s.opened m.0.journal.name (manifest_name (i + 1)) (unsure.each i m.0 m.1).named (lists_none s m.0 (tier i before) (unsure.each i m.0 m.1));
   files = λ i low. let m = here_of s i three low in (unsure.each i m.0 m.1).safe.unopened;
   files_after = λ i low. let m = here_of s i three low in (unsure.each_after i m.0 m.1).safe.unopened;
@@ -302,7 +303,7 @@ place_closed : (tells : Bool) (s : Seen) (before after : Stores) (i : ℕ) (d : 
 place_closed tells s before after i d three unsure = record {
   catalogue = at_name s.opened s.catalogue.journal.name catalogue_name unsure.rows.named (rows_none s before.rows unsure.rows);
   manifests = λ k low. elim (same_cases k i) [
-    | inl same ↦ subst (λ (j : ℕ). NoneOpened (manifest_name (j + 1)) s.opened) (sym same) (at_name s.opened d.manifest.journal.name (manifest_name (i + 1)) unsure.list.named (unsure_unopened (Configured d.manifest.granularity) d.manifest.journal s.files s.opened s.past (map entry_of (list_at i before)) (map entry_of (list_at i after)) unsure.list.unsure))
+    | inl same ↦ subst (λ (j : ℕ). NoneOpened (manifest_name (j + 1)) s.opened) (sym same) (at_name s.opened d.manifest.journal.name (manifest_name (i + 1)) unsure.list.named (unsure_unopened (Configured d.manifest.granularity) d.manifest.journal (on_disk s) (map entry_of (list_at i before)) (map entry_of (list_at i after)) unsure.list.unsure))
     | inr apart ↦
         let m = here_of s k three low in
         let stored = unsure.others k m.0 m.1 apart in
@@ -461,7 +462,7 @@ module _ (gs : List Granularity) (files : Files) (catalogue : CatalogueState) (m
 -- THE WHOLE OPENING
 
 module _ {D R : Type 0} (disk : Ghosts D R) (gs : List Granularity) (old mid new : D) (catalogue : CatalogueState) (ms : List ManifestState) (three : length gs ≡ 3) (same : granularities ms ≡ gs) (three_manifests : length ms ≡ 3) (told : IsTrue disk.tells)
-    (unopened : IsUnopened (disk.files old) (disk.opened old)) (keeps : KeepsSaid gs (disk.files old) (disk.opened old) (disk.past old) (disk.files mid) (disk.opened mid) (disk.past mid))
+    (unopened : IsUnopened (disk.files old) (disk.opened old)) (keeps : KeepsSaid gs (standing disk old) (standing disk mid))
     (removes : Removes disk (Goes catalogue ms) mid new) (some : Stores) (has : Has disk.tells (loaded disk catalogue ms mid) some)
     (whole : IsWhole gs (disk.files old)) (of_rows : whole.rows ≡ catalogue.rows) (of_lists : whole.lists ≡ lists_of ms)
     (read : (before after : Stores) → OpensEither gs (disk.past old) before after → HasLoaded disk gs old catalogue ms mid before after) (seen : MayLeave (disk.past new) (disk.files new)) where
@@ -534,7 +535,7 @@ sweeps_or_none {D} {R} disk gs old mid new false left reopens swept = swept refl
 -- A LOAD BEHIND A CALL THAT ONLY READ
 
 pub read_reopens : {D R : Type 0} (disk : Ghosts D R) (gs : List Granularity) (old now : D) → IsUnopened (disk.files old) (disk.opened old) → disk.files now ≡ disk.files old → Passes (λ a b. b ≡ a) (disk.past old) (disk.past now) → disk.opened now ≡ disk.opened old → Reopens disk gs old now
-read_reopens {D} {R} disk gs old now unopened same passes opened = reopened disk gs old now unopened (kept_reading gs (disk.files old) (disk.files now) (disk.opened old) (disk.opened now) (disk.past old) (disk.past now) same passes opened)
+read_reopens {D} {R} disk gs old now unopened same passes opened = reopened disk gs old now unopened (kept_reading gs (standing disk old) (standing disk now) same passes opened)
 
 pub loaded_behind : {D R : Type 0} (disk : Ghosts D R) (gs : List Granularity) (old now new : D) (catalogue : CatalogueState) (ms : List ManifestState) (before after : Stores) → disk.files now ≡ disk.files old → HasLoaded disk gs now catalogue ms new before after → HasLoaded disk gs old catalogue ms new before after
 loaded_behind {D} {R} disk gs old now new catalogue ms before after same loaded = record { held = loaded.held; either = loaded.either; read = subst (λ (f : Files). HoldsAll gs f loaded.held) same loaded.read; has = loaded.has }
@@ -558,8 +559,8 @@ sweeps_behind {D} {R} disk gs old now new reopens same sweeps = record {
 -- A LOAD, AND A SWEEP BEHIND IT
 
 module _ {D R : Type 0} (disk : Ghosts D R) (gs : List Granularity) (old mid new : D) (catalogue : CatalogueState) (ms : List ManifestState) (three : length gs ≡ 3) (ready : IsReady gs catalogue ms)
-    (unopened : IsTrue disk.tells → IsUnopened (disk.files old) (disk.opened old)) (keeps : IsTrue disk.tells → KeepsSaid gs (disk.files old) (disk.opened old) (disk.past old) (disk.files mid) (disk.opened mid) (disk.past mid))
-    (stored : IsTrue disk.tells → IsStored catalogue (disk.files mid) (disk.opened mid) (disk.past mid)) (kept : IsTrue disk.tells → AtEach ms (λ i m. IsKept m (disk.files mid) (disk.opened mid) (disk.past mid)))
+    (unopened : IsTrue disk.tells → IsUnopened (disk.files old) (disk.opened old)) (keeps : IsTrue disk.tells → KeepsSaid gs (standing disk old) (standing disk mid))
+    (stored : IsTrue disk.tells → IsStored catalogue (standing disk mid)) (kept : IsTrue disk.tells → AtEach ms (λ i m. IsKept m (standing disk mid)))
     (named : catalogue.journal.name ≡ catalogue_name) (named_manifests : AtEach ms (λ i m. m.journal.name ≡ manifest_name (i + 1))) (said : IsTrue disk.tells → AreSaid gs (disk.files old) catalogue.rows (lists_of ms))
     (there : IsTrue disk.tells → AtEach ms (λ i m. All (IsThere i (disk.files old) catalogue.rows) m.entries)) (left : (d : D) → IsTrue disk.tells → MayLeave (disk.past d) (disk.files d))
     (removes : IsTrue disk.tells → Removes disk (Goes catalogue ms) mid new) where
@@ -567,7 +568,7 @@ module _ {D R : Type 0} (disk : Ghosts D R) (gs : List Granularity) (old mid new
   three_manifests = count_of gs ms three ready.granularity
 
   again : IsTrue disk.tells → IsLoaded (loaded disk catalogue ms mid)
-  again told = loaded_again gs (loaded disk catalogue ms mid) (disk.files old) (disk.opened old) (disk.past old) three (keeps told) (unopened told) ready (stored told) (kept told) named named_manifests (said told) (there told)
+  again told = loaded_again gs (loaded disk catalogue ms mid) (standing disk old) three (keeps told) (unopened told) ready (stored told) (kept told) named named_manifests (said told) (there told)
 
   some : (held : Stores) × Has disk.tells (loaded disk catalogue ms mid) held
   some = has_some disk.tells gs (loaded disk catalogue ms mid) three ready three_manifests again

@@ -48,6 +48,7 @@ use Rattle.store_reopen.specs.Runs.{Goes, Rule, Stops}
 use Rattle.pv_catalog.specs.declared.error.RegisterErr.TheVariants as of_register
 use Rattle.disk_model.specs.Past.{Past, Only, Passes}
 use Rattle.disk_model.proofs.Each.{only_same}
+use Rattle.gate_journal.specs.Standing.{Standing, standing}
 use Rattle.etl_mover.specs.Move.{set_entry}
 use Rattle.etl_mover.proofs.Written.{sets_follow}
 use Rattle.partition_names.specs.Path.{path_of}
@@ -446,15 +447,15 @@ module _ (g : Granularity) (image : Files) (rows : List Row) (series place : ℕ
       }
 
   -- once they are synced, they are safe
-  pub are_safe : (held : Stores) (xs : List Taken) (files : List Filed) (later : Files) (opened : Name → ℕ) (past : Past) → held.rows ≡ rows → later ≡ image → All (λ (x : Taken). opened x.file ≡ 0) xs → All (λ (x : Taken). Only past x.file (image x.file)) xs
-      → AllZip (IsFiledAs g image rows series place) xs files → AreSafe (of_files place held files) later opened past
-  are_safe held xs files later opened past same is none only all = record {
-    long = at (λ (shelf : Shelf) (f : Filed). HasFile later (file_of shelf f.entry) (λ b. f.entry.len ≤ length b))
-        (each_of (λ (x : Taken). opened x.file ≡ 0) (λ (f : Filed). HasFile later (file_of (place + 1, rows) f.entry) (λ b. f.entry.len ≤ length b)) (λ x f given it. record { bytes = it.listed.bytes; file = ap later it.named ∙ ap (λ (i : Files). i x.file) is ∙ it.listed.there; holds = it.within }) xs files none all);
-    unopened = at (λ (shelf : Shelf) (f : Filed). opened (file_of shelf f.entry) ≤ f.entry.len)
-        (each_of (λ (x : Taken). opened x.file ≡ 0) (λ (f : Filed). opened (file_of (place + 1, rows) f.entry) ≤ f.entry.len) (λ x f given it. let zero_length : opened (file_of (place + 1, rows) f.entry) ≡ 0 = ap opened it.named ∙ given in omega (arith, zero_length)) xs files none all);
+  pub are_safe : (held : Stores) (xs : List Taken) (files : List Filed) (later : Standing) → held.rows ≡ rows → later.files ≡ image → All (λ (x : Taken). later.opened x.file ≡ 0) xs → All (λ (x : Taken). Only later.past x.file (image x.file)) xs
+      → AllZip (IsFiledAs g image rows series place) xs files → AreSafe (of_files place held files) later
+  are_safe held xs files later same is none only all = record {
+    long = at (λ (shelf : Shelf) (f : Filed). HasFile later.files (file_of shelf f.entry) (λ b. f.entry.len ≤ length b))
+        (each_of (λ (x : Taken). later.opened x.file ≡ 0) (λ (f : Filed). HasFile later.files (file_of (place + 1, rows) f.entry) (λ b. f.entry.len ≤ length b)) (λ x f given it. record { bytes = it.listed.bytes; file = ap later.files it.named ∙ ap (λ (i : Files). i x.file) is ∙ it.listed.there; holds = it.within }) xs files none all);
+    unopened = at (λ (shelf : Shelf) (f : Filed). later.opened (file_of shelf f.entry) ≤ f.entry.len)
+        (each_of (λ (x : Taken). later.opened x.file ≡ 0) (λ (f : Filed). later.opened (file_of (place + 1, rows) f.entry) ≤ f.entry.len) (λ x f given it. let zero_length : later.opened (file_of (place + 1, rows) f.entry) ≡ 0 = ap later.opened it.named ∙ given in omega (arith, zero_length)) xs files none all);
     left = λ left_image left stands. at (λ (shelf : Shelf) (f : Filed). IsIn shelf left_image f)
-        (each_of (λ (x : Taken). Only past x.file (image x.file)) (IsIn (place + 1, rows) left_image) (λ x f given it. begins x f left_image it (ap left_image it.named ∙ given left_image left ∙ it.listed.there)) xs files only all);
+        (each_of (λ (x : Taken). Only later.past x.file (image x.file)) (IsIn (place + 1, rows) left_image) (λ x f given it. begins x f left_image it (ap left_image it.named ∙ given left_image left ∙ it.listed.there)) xs files only all);
   }
     where
       at : (Q : Shelf → Filed → Type 0) → All (Q (place + 1, rows)) files → All (Q (place + 1, held.rows)) files
@@ -538,7 +539,7 @@ module _ {D R : Type 0} (disk : Ghosts D R) (catalogue : CatalogueState) (place 
           let are : map set_entry (map entry_of files_as) ≡ changes = ap (λ (es : List Entry). map set_entry es) (sym (entries_all g image rows series place xs files_as all_filed.1)) ∙ sym sets in
           subst (λ (cs : List Change). CanList place disk.tells (loaded disk catalogue ms mid) cs held (put_all (list_at place held) files_as)) are
           (can_add place disk.tells (loaded disk catalogue ms mid) held files_as m here has (are_filed g image rows series place held xs files_as of_rows may all_filed.1)
-          (λ told. are_safe g image rows series place held xs files_as (disk.files mid) (disk.opened mid) (disk.past mid) of_rows same unopened only all_filed.1))
+          (λ told. are_safe g image rows series place held xs files_as (standing disk mid) of_rows same unopened only all_filed.1))
 
       pub takes_by : (some : 0 < length xs) (read : MakesSteps true disk.tells [] (loaded disk catalogue ms old) (loaded disk catalogue ms mid)) (after : List ManifestState) (new : D) (r : Result (Unit {0}) DiskErr)
           → Changes disk.tells (publishing place files_as) (loaded disk catalogue ms mid) (loaded disk catalogue after new) (end_of_disk r)

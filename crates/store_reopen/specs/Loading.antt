@@ -3,8 +3,9 @@ use Rattle.std.specs.Prelude.{◌≡◌, ◌≢◌, ◌+◌, ℕ, List, unwrap_o
 use Rattle.partition_names.specs.declared.granularity.Granularity.{Granularity}
 use Rattle.partition_names.specs.declared.granularity.Granularity.TheVariants.{Hour}
 use Rattle.disk_model.specs.Files.{Name, Files}
-use Rattle.disk_model.specs.Past.{Past, Passes}
+use Rattle.disk_model.specs.Past.{Passes}
 use Rattle.gate_journal.specs.Generations.{IsOwn, KeepsBatches}
+use Rattle.gate_journal.specs.Standing.{Standing}
 use Rattle.store_manifest.specs.declared.entry.Entry.{Entry}
 use Rattle.store_manifest.specs.Batches.{Folds}
 use Rattle.store_manifest.specs.Manifest.{StaysOrBegins, manifest_name}
@@ -48,8 +49,8 @@ pub record StillSay (gs : List Granularity) (old new : Files) : Type 0 where
   pub others : (n : Name) → ((j : Journal) → IsOwn (name_of j) n → ⊥) → new n ≡ old n
 
 -- Whatever a crash leaves, the journals say what they said, and reads give so too. Every file that is none of theirs is as it was.
-pub record KeepsSaid (gs : List Granularity) (files : Files) (opened : Name → ℕ) (old : Past) (later : Files) (after : Name → ℕ) (new : Past) : Type 0 where
-  pub passes : Passes (StillSay gs) old new
-  pub now : StillSay gs files later
-  pub same_opened : (n : Name) → n.0 ≢ 0 → after n ≡ opened n
-  pub none_opened : (j : Journal) → NoneOpened (name_of j) opened → NoneOpened (name_of j) after
+pub record KeepsSaid (gs : List Granularity) (old new : Standing) : Type 0 where
+  pub passes : Passes (StillSay gs) old.past new.past
+  pub now : StillSay gs old.files new.files
+  pub same_opened : (n : Name) → n.0 ≢ 0 → new.opened n ≡ old.opened n
+  pub none_opened : (j : Journal) → NoneOpened (name_of j) old.opened → NoneOpened (name_of j) new.opened

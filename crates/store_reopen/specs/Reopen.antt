@@ -16,7 +16,7 @@ use Rattle.pv_catalog.specs.Rows.{AreRows, IsCatalogue}
 use Rattle.durable_write.specs.Held.{AreIn, file_of}
 use Rattle.tier_store.specs.Beginning.{AllNested}
 use Rattle.tier_store.specs.Stores.{Stores, list_at, tier, with_list, with_rows}
-use Rattle.tier_store.specs.Seen.{AtEach, Seen, granularities, seen, seen_on}
+use Rattle.tier_store.specs.Seen.{AtEach, Seen, granularities, seen, seen_by}
 use Rattle.tier_store.specs.Stored.{HoldsAll}
 use Rattle.tier_store.specs.Change.{Has, IsEither}
 use Rattle.tier_store.specs.declared.store.TierStore.{TierStore}
@@ -164,7 +164,7 @@ pub record HasRead {D R : Type 0} (disk : Ghosts D R) (gs : List Granularity) (o
 
 -- what is seen of journals that were loaded of a disk
 abbrev pub loaded : {D R : Type 0} → Ghosts D R → CatalogueState → List ManifestState → D → Seen
-loaded {D} {R} disk catalogue manifests d = seen_on disk.files disk.opened disk.past disk.faults catalogue manifests d
+loaded {D} {R} disk catalogue manifests d = seen_by disk catalogue manifests d
 
 -- the same of these as of stores
 pub record HasLoaded {D R : Type 0} (disk : Ghosts D R) (gs : List Granularity) (old : D) (catalogue : CatalogueState) (manifests : List ManifestState) (new : D) (before after : Stores) : Type 0 where

@@ -7,6 +7,7 @@ ghost use Rattle.disk_model.specs.declared.disk.DiskErr.TheVariants.{Fault};
 ghost use Rattle.gate_journal.specs.Batches.{open_gates};
 ghost use Rattle.gate_journal.specs.Generations.{IsOwn, AtOwn, KeepsBatches};
 ghost use Rattle.gate_journal.specs.Kept.{Says};
+ghost use Rattle.gate_journal.specs.Standing.{standing};
 ghost use Rattle.partition_names.specs.declared.granularity.Granularity.{Granularity as GranularityValue};
 ghost use Rattle.pv_catalog.specs.declared.row.Row.{Row};
 ghost use Rattle.pv_catalog.specs.Catalogue.{CatalogueState, catalogue_name, IsStored};
@@ -37,15 +38,14 @@ pub(crate) const STORES: u8 = 3;
 // Loads the catalogue, or tells where it is bad.
 pub(crate) fn load_catalogue<D: Disk>(alloc: Global, disk: &mut D) -> Result<Catalogue, Refusal>
     requires unopened { IsTrue D.tells → NoneOpened catalogue_name (D.opened disk.old) }
-    ensures stored { IsTrue D.tells
-        → IfOk result (λ c. IsStored c (D.files disk.new) (D.opened disk.new) (D.past disk.new)) }
+    ensures stored { IsTrue D.tells → IfOk result (λ c. IsStored c (standing D.Disk disk.new)) }
     ensures rows { IsTrue D.tells → IfOk result (λ c. Says IsCatalogue c.rows catalogue_name (D.files disk.old)) }
     ensures journal { IfOk result (λ c. (c.journal.name ≡ catalogue_name) × (c.journal.sound ≡ true)) }
     ensures told { IsTrue D.tells → (gs : List GranularityValue) → IfErr result (IsTold gs (D.files disk.old)) }
     ensures others { IsTrue D.tells → (n : Name) → (IsOwn catalogue_name n → ⊥)
         → D.files disk.new n ≡ D.files disk.old n }
-    ensures keeps { IsTrue D.tells → (gs : List GranularityValue) → KeepsSaid gs (D.files disk.old) (D.opened disk.old)
-        (D.past disk.old) (D.files disk.new) (D.opened disk.new) (D.past disk.new) }
+    ensures keeps { IsTrue D.tells → (gs : List GranularityValue)
+        → KeepsSaid gs (standing D.Disk disk.old) (standing D.Disk disk.new) }
     ensures faults { D.faults disk.old ≤ D.faults disk.new }
     ensures cause { result ≡ Err (OfDisk Fault) → Rose (D.faults disk.old) (D.faults disk.new) }
 {
@@ -70,8 +70,7 @@ pub(crate) fn load_manifests<D: Disk>(
     config: &Config,
 ) -> Result<Vec<Manifest>, Refusal>
     requires unopened { IsTrue D.tells → (i : ℕ) → i < 3 → NoneOpened (manifest_name (i + 1)) (D.opened disk.old) }
-    ensures kept { IsTrue D.tells → IfOk result (λ ms.
-        AtEach ms.items (λ i m. IsKept m (D.files disk.new) (D.opened disk.new) (D.past disk.new))) }
+    ensures kept { IsTrue D.tells → IfOk result (λ ms. AtEach ms.items (λ i m. IsKept m (standing D.Disk disk.new))) }
     ensures said { IsTrue D.tells → IfOk result (λ ms.
         AtEach ms.items (λ i m. Says (Folds m.granularity) m.entries (manifest_name (i + 1)) (D.files disk.old))) }
     ensures three { IfOk result (λ ms. length ms.items ≡ 3) }
@@ -85,10 +84,9 @@ pub(crate) fn load_manifests<D: Disk>(
         → ((i : ℕ) (n : Name) → i < 3 → IsOwn (manifest_name (i + 1)) n → D.files disk.old n ≡ seen n)
         → IfErr result (IsTold (stores_of config.now) seen) }
     ensures catalogue { IsTrue D.tells → (c : CatalogueState) → c.journal.name ≡ catalogue_name
-        → IsStored c (D.files disk.old) (D.opened disk.old) (D.past disk.old)
-        → OnOk result (IsStored c (D.files disk.new) (D.opened disk.new) (D.past disk.new)) }
-    ensures keeps { IsTrue D.tells → KeepsSaid (stores_of config.now) (D.files disk.old) (D.opened disk.old)
-        (D.past disk.old) (D.files disk.new) (D.opened disk.new) (D.past disk.new) }
+        → IsStored c (standing D.Disk disk.old) → OnOk result (IsStored c (standing D.Disk disk.new)) }
+    ensures keeps { IsTrue D.tells
+        → KeepsSaid (stores_of config.now) (standing D.Disk disk.old) (standing D.Disk disk.new) }
     ensures faults { D.faults disk.old ≤ D.faults disk.new }
     ensures cause { result ≡ Err (OfDisk Fault) → Rose (D.faults disk.old) (D.faults disk.new) }
 {
@@ -110,8 +108,7 @@ fn load_manifest<D: Disk>(
 ) -> Result<Manifest, Refusal>
     requires place { place < 3 }
     requires unopened { IsTrue D.tells → NoneOpened (manifest_name (place + 1)) (D.opened disk.old) }
-    ensures kept { IsTrue D.tells
-        → IfOk result (λ m. IsKept m (D.files disk.new) (D.opened disk.new) (D.past disk.new)) }
+    ensures kept { IsTrue D.tells → IfOk result (λ m. IsKept m (standing D.Disk disk.new)) }
     ensures entries { IsTrue D.tells
         → IfOk result (λ m. Lists m.granularity m.entries (manifest_name (place + 1)) (D.files disk.old)) }
     ensures are { IfOk result (λ m. AreEntries m.granularity m.entries) }
@@ -126,13 +123,11 @@ fn load_manifest<D: Disk>(
     ensures others { IsTrue D.tells → (n : Name) → (IsOwn (manifest_name (place + 1)) n → ⊥)
         → OnOk result (D.files disk.new n ≡ D.files disk.old n) }
     ensures catalogue { IsTrue D.tells → (c : CatalogueState) → c.journal.name ≡ catalogue_name
-        → IsStored c (D.files disk.old) (D.opened disk.old) (D.past disk.old)
-        → OnOk result (IsStored c (D.files disk.new) (D.opened disk.new) (D.past disk.new)) }
+        → IsStored c (standing D.Disk disk.old) → OnOk result (IsStored c (standing D.Disk disk.new)) }
     ensures earlier { IsTrue D.tells → (i : ℕ) (m : ManifestState) → i < place → m.journal.name ≡ manifest_name (i + 1)
-        → IsKept m (D.files disk.old) (D.opened disk.old) (D.past disk.old)
-        → OnOk result (IsKept m (D.files disk.new) (D.opened disk.new) (D.past disk.new)) }
-    ensures keeps { IsTrue D.tells → KeepsSaid (stores_of config.now) (D.files disk.old) (D.opened disk.old)
-        (D.past disk.old) (D.files disk.new) (D.opened disk.new) (D.past disk.new) }
+        → IsKept m (standing D.Disk disk.old) → OnOk result (IsKept m (standing D.Disk disk.new)) }
+    ensures keeps { IsTrue D.tells
+        → KeepsSaid (stores_of config.now) (standing D.Disk disk.old) (standing D.Disk disk.new) }
     ensures faults { D.faults disk.old ≤ D.faults disk.new }
     ensures cause { result ≡ Err (OfDisk Fault) → Rose (D.faults disk.old) (D.faults disk.new) }
 {

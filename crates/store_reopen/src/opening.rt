@@ -3,8 +3,8 @@ ghost use Rattle.std.specs.FinMap as map;
 ghost use Rattle.std.specs.Prelude.{◌≡◌, ◌≢◌, ◌≤◌, ◌<◌, ◌+◌, [], ℕ, List, All, IfOk, IfErr, IsOk, IsSome, IsTrue, None};
 ghost use Rattle.std.specs.Prelude.{OnOk, Err, length, ◌↔◌};
 ghost use Rattle.disk_model.specs.Files.{Name, Rose};
-ghost use Rattle.disk_model.specs.Past.{Passes};
 ghost use Rattle.disk_model.specs.declared.disk.DiskErr.TheVariants.{Fault};
+ghost use Rattle.gate_journal.specs.Standing.{standing};
 ghost use Rattle.partition_names.specs.declared.granularity.Granularity.{Granularity as GranularityValue};
 ghost use Rattle.pv_catalog.specs.Catalogue.{catalogue_name, IsStored};
 ghost use Rattle.store_manifest.specs.Manifest.{IsKept, manifest_name};
@@ -219,10 +219,8 @@ pub(crate) fn load_stores<D: Disk>(
 ) -> Result<(Catalogue, Vec<Manifest>), Refusal>
     requires unopened { IsTrue D.tells → NoneOpened catalogue_name (D.opened disk.old)
         × ((i : ℕ) → i < 3 → NoneOpened (manifest_name (i + 1)) (D.opened disk.old)) }
-    ensures stored { IsTrue D.tells
-        → IfOk result (λ r. IsStored r.0 (D.files disk.new) (D.opened disk.new) (D.past disk.new)) }
-    ensures kept { IsTrue D.tells → IfOk result (λ r.
-        AtEach r.1.items (λ i m. IsKept m (D.files disk.new) (D.opened disk.new) (D.past disk.new))) }
+    ensures stored { IsTrue D.tells → IfOk result (λ r. IsStored r.0 (standing D.Disk disk.new)) }
+    ensures kept { IsTrue D.tells → IfOk result (λ r. AtEach r.1.items (λ i m. IsKept m (standing D.Disk disk.new))) }
     ensures said { IsTrue D.tells
         → IfOk result (λ r. AreSaid (stores_of config.now) (D.files disk.old) r.0.rows (lists_of r.1.items)) }
     ensures there { IsTrue D.tells
@@ -231,8 +229,8 @@ pub(crate) fn load_stores<D: Disk>(
     ensures name { IfOk result (λ r. r.0.journal.name ≡ catalogue_name) }
     ensures names { IfOk result (λ r. AtEach r.1.items (λ i m. m.journal.name ≡ manifest_name (i + 1))) }
     ensures told { IsTrue D.tells → IfErr result (IsTold (stores_of config.now) (D.files disk.old)) }
-    ensures keeps { IsTrue D.tells → KeepsSaid (stores_of config.now) (D.files disk.old) (D.opened disk.old)
-        (D.past disk.old) (D.files disk.new) (D.opened disk.new) (D.past disk.new) }
+    ensures keeps { IsTrue D.tells
+        → KeepsSaid (stores_of config.now) (standing D.Disk disk.old) (standing D.Disk disk.new) }
     ensures faults { D.faults disk.old ≤ D.faults disk.new }
     ensures cause { result ≡ Err (OfDisk Fault) → Rose (D.faults disk.old) (D.faults disk.new) }
 {

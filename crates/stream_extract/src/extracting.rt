@@ -4,14 +4,14 @@ ghost use Rattle.std.specs.Io.{StartsWith};
 ghost use Rattle.std.specs.Io.KnownBytes.{Appends};
 ghost use Rattle.edge_io.specs.Stream.{Rose, AppendsFront};
 ghost use Rattle.series_model.specs.declared.sample.Query.{Query};
-ghost use Rattle.pb_lines.specs.Reader.{HoldsLine};
+ghost use Rattle.pb_lines.specs.Reader.{HoldsLine, line_number};
 ghost use Rattle.stream_extract.specs.Text.{Extracts, IsFlushed};
 
 use crate::answer::{ChunkAnswer, add_line};
 use crate::running::{RunErr, run_on};
 use command_words::Status;
 use edge_io::{Failed, Sink, Source, write_whole};
-use pb_lines::{ChunkItem, ChunkReader};
+use pb_lines::{ChunkFault, ChunkItem, ChunkReader};
 use series_model::Query;
 use std::alloc::{AllocError, Global};
 
@@ -58,10 +58,7 @@ pub fn extract<S: Source, K: Sink>(
             }
             Some(ChunkItem::ChunkEnd) => answer.finish(&mut out),
             Some(ChunkItem::End) => return ended(Status::Done, &out, sink),
-            Some(ChunkItem::Refused(fault)) => {
-                let line = reader.number();
-                return ended(Status::Refused { line, fault }, &out, sink);
-            }
+            Some(ChunkItem::Refused(fault)) => return ended(refused(&reader, fault), &out, sink),
             Some(ChunkItem::SourceFault) => return ended(Status::SourceFault, &out, sink),
             Some(ChunkItem::Memory) => return ended(Status::OutOfMemory, &out, sink),
         };
@@ -73,6 +70,16 @@ pub fn extract<S: Source, K: Sink>(
             Err(RunErr::SinkFault) => return Status::SinkFault,
             Err(RunErr::Memory) => return ended(Status::OutOfMemory, &out, sink),
         }
+    }
+}
+
+// The refusal of the bad line that was met.
+fn refused(reader: &ChunkReader, fault: ChunkFault) -> Status
+    ensures { result ≡ Status.Refused (line_number reader.now) fault }
+{
+    Status::Refused {
+        line: reader.number(),
+        fault,
     }
 }
 

@@ -5,7 +5,7 @@ use Rattle.std.proofs.lemmas.Bool.Decides.{nat_tests}
 use Rattle.std.proofs.lemmas.List.{length-append}
 use Rattle.std.proofs.lemmas.List.Elements.{All-contains, Contains-append_left, Contains-get_or, Contains-push}
 use Rattle.disk_model.specs.Files.{Name, Files, Rose, HasFile}
-use Rattle.disk_model.specs.Past.{Past, MayLeave}
+use Rattle.disk_model.specs.Past.{MayLeave}
 use Rattle.etl_mover.specs.Copying.{anew, behind, last_of, starts, SetsLast}
 use Rattle.etl_mover.specs.Move.{MoveState, FewPending, IsMove}
 use Rattle.etl_mover.specs.Step.{Advances, CanCopy, CanRevive, CopiesPart, GoesTo, IsPlacedOrNot, source_file, target_file}
@@ -21,7 +21,7 @@ use Rattle.tier_store.proofs.CopySays.{all_said, damaged_said, more_said, wrote_
 use Rattle.tier_store.proofs.CopyFiles.{Start, after_split}
 use Rattle.disk_model.specs.declared.disk.DiskErr.{DiskErr}
 use Rattle.disk_model.specs.declared.disk.DiskErr.TheVariants.{Fault, Memory}
-use Rattle.etl_mover.specs.Reading.{OnlyReads}
+use Rattle.gate_journal.specs.Standing.{Standing, ReadsDisk}
 use Rattle.etl_mover.specs.Writing.{LeavesFile}
 use Rattle.pv_catalog.specs.Catalogue.{CatalogueState}
 use Rattle.pv_catalog.specs.declared.row.Row.{Row}
@@ -155,10 +155,10 @@ pub record Becomes (fine : Granularity) (revived : Option Entry) (old move nm : 
   pub copies : Copies new
   pub same : ((new ≡ nm) × IsRevived (last_of nm.pending nm.listed) revived) ⊎ ((nm.pending ≡ old.pending) × (new.pending ≡ move.pending) × (new.listed ≡ nm.listed))
 
-module _ (files later : Files) (opened : Name → ℕ) (past : Past) (told : Type 0) (at len most : ℕ) (fine : Granularity) (limbo : List Retired) (store : ℕ) (move nm : MoveState) where
+module _ (files : Files) (later : Standing) (told : Type 0) (at len most : ℕ) (fine : Granularity) (limbo : List Retired) (store : ℕ) (move nm : MoveState) where
   -- what the call tells of the lines
   abbrev pub Copies : MoveState → Option Entry → MoveState → Type 0
-  Copies m revived new = told → (p : Entry) (start : Start) (bytes : List ℕ) → GoesTo m revived p start → files (source_file m p) ≡ Some bytes → CopiesPart m new start p at len most bytes files later opened past
+  Copies m revived new = told → (p : Entry) (start : Start) (bytes : List ℕ) → GoesTo m revived p start → files (source_file m p) ≡ Some bytes → CopiesPart m new start p at len most bytes files later
 
   pub becomes : (revived : Option Entry) → GoesBehind limbo store move revived → IsMove fine (reviving move revived) → Advances move nm revived len → Copies move revived nm → Becomes fine revived move (reviving move revived) nm len (Copies (reviving move revived) None)
   becomes None goes is adv copies = record { new = nm; adv = adv; run = advances_keep fine move nm None len is tt adv; copies = copies; same = inl (refl, λ e none. absurd (cc (none))) }
@@ -330,20 +330,20 @@ pub record Went (from : ℕ) (tells : Bool) (old new : SeenAll) (move : MoveStat
   pub rest : (r : Result CopyEnd DiskErr) → (r ≡ Err Fault → Rose faults later) → CopyLeaves move tells old new (end_of_disk r)
   pub done : (end : CopyEnd) → CopyLeaves {A = CopyEnd} {E = ⊥} move tells old new (Done end)
 
-module _ {S : Type 0} (files_of : S → Files) (opened_of : S → Name → ℕ) (past_of : S → Past) (faults_of : S → ℕ) (tells : Bool) (c : CatalogueState) (ms : List ManifestState) (limbo : List Retired) (from : ℕ) (d after : S) (seen_it : IsTrue tells → MayLeave (past_of d) (files_of d)) (move : MoveState) (revived : Option Entry) (name : Name) (at len : ℕ) where
+module _ {S : Type 0} (shows : S → Standing) (faults_of : S → ℕ) (tells : Bool) (c : CatalogueState) (ms : List ManifestState) (limbo : List Retired) (from : ℕ) (d after : S) (seen_it : IsTrue tells → MayLeave (shows d).past (shows d).files) (move : MoveState) (revived : Option Entry) (name : Name) (at len : ℕ) where
   abbrev old : SeenAll
-  old = beside (seen_on files_of opened_of past_of faults_of c ms d) limbo
+  old = beside (seen_on shows faults_of c ms d) limbo
 
   abbrev new : SeenAll
-  new = beside (seen_on files_of opened_of past_of faults_of c ms after) limbo
+  new = beside (seen_on shows faults_of c ms after) limbo
 
   abbrev m : MoveState
   m = reviving move revived
 
-  module _ (begun : (files : List Filed) × (held : Stores) × Has tells old.stores held × CopiesFurther from tells old m files held × FindsLine from tells (files_of d) m held name at len) (stand : LimboStands old.stores limbo) (goes_behind : GoesBehind limbo (from + 2) move revived)
+  module _ (begun : (files : List Filed) × (held : Stores) × Has tells old.stores held × CopiesFurther from tells old m files held × FindsLine from tells (shows d).files m held name at len) (stand : LimboStands old.stores limbo) (goes_behind : GoesBehind limbo (from + 2) move revived)
       (either : (part : Entry) → slice_get move.parts move.at ≡ Some part → at < len → IsPlacedOrNot move revived part)
-      (leaves : IsTrue tells → (p : Entry) (start : Start) → GoesTo move revived p start → LeavesFile (target_file move start) start.at (files_of d) (files_of after) (opened_of d) (opened_of after) (past_of d) (past_of after))
-      (nowhere : IsTrue tells → ((p : Entry) (start : Start) → GoesTo move revived p start → ⊥) → OnlyReads (files_of d) (files_of after) (opened_of d) (opened_of after) (past_of d) (past_of after)) where
+      (leaves : IsTrue tells → (p : Entry) (start : Start) → GoesTo move revived p start → LeavesFile (target_file move start) start.at (shows d) (shows after))
+      (nowhere : IsTrue tells → ((p : Entry) (start : Start) → GoesTo move revived p start → ⊥) → ReadsDisk (shows d) (shows after)) where
     all : All (λ (e : Entry). IsPart move.granularity e.part × (e.series ≡ move.series)) (pending_with move.pending revived)
     all = begun.3.runs.running.pending
 
@@ -372,10 +372,10 @@ module _ {S : Type 0} (files_of : S → Files) (opened_of : S → Name → ℕ) 
         bare = record { entry = start.entry; head = []; samples = [] }
 
         of_it : IsOfPart move.granularity move.series p start.entry
-        of_it = of_part files_of opened_of past_of faults_of tells c ms limbo from to.0 to.1 d after seen_it m p begun.0 begun.1 begun.2 begun.3 start goes
+        of_it = of_part shows faults_of tells c ms limbo from to.0 to.1 d after seen_it m p begun.0 begun.1 begun.2 begun.3 start goes
 
         bare_is : IsListed g c.rows bare
-        bare_is = subst (λ (rows : List Row). IsListed g rows bare) (sym begun.2.known.rows) (listed_here files_of opened_of past_of faults_of tells c ms limbo from to.0 to.1 d after seen_it m p begun.0 begun.1 begun.2 begun.3 start goes bare of_it.own refl)
+        bare_is = subst (λ (rows : List Row). IsListed g rows bare) (sym begun.2.known.rows) (listed_here shows faults_of tells c ms limbo from to.0 to.1 d after seen_it m p begun.0 begun.1 begun.2 begun.3 start goes bare of_it.own refl)
 
         r_is : IsListed g c.rows (as_filed r)
         r_is = retired_listed old.stores r of to.0 (ap (slice_get ms) place ∙ to.1)
@@ -435,40 +435,40 @@ module _ {S : Type 0} (files_of : S → Files) (opened_of : S → Name → ℕ) 
     either_none : (part : Entry) → slice_get move.parts move.at ≡ Some part → at < len → IsPlacedOrNot m None part
     either_none part at_hand low = placed_none limbo (from + 2) move revived goes_behind all part at_hand (either part at_hand low)
 
-    leaves_none : IsTrue tells → (p : Entry) (start : Start) → GoesTo m None p start → LeavesFile (target_file m start) start.at (files_of d) (files_of after) (opened_of d) (opened_of after) (past_of d) (past_of after)
+    leaves_none : IsTrue tells → (p : Entry) (start : Start) → GoesTo m None p start → LeavesFile (target_file m start) start.at (shows d) (shows after)
     leaves_none told p start goes = leaves told p start (to_none limbo (from + 2) move revived goes_behind all p start goes)
 
-    nowhere_none : IsTrue tells → ((p : Entry) (start : Start) → GoesTo m None p start → ⊥) → OnlyReads (files_of d) (files_of after) (opened_of d) (opened_of after) (past_of d) (past_of after)
+    nowhere_none : IsTrue tells → ((p : Entry) (start : Start) → GoesTo m None p start → ⊥) → ReadsDisk (shows d) (shows after)
     nowhere_none told never = nowhere told (λ p s goes. never p s (from_none limbo (from + 2) move revived goes_behind all p s goes))
 
     part : (p : Entry) × (slice_get m.parts m.at ≡ Some p)
     part = next_part tells old from m begun.0 begun.1 begun.2 begun.3
 
-    wrote : Wrote files_of opened_of past_of faults_of tells c ms limbo from to.0 to.1 d after seen_it m part.0
-    wrote = wrote_it files_of opened_of past_of faults_of tells c ms limbo from to.0 to.1 d after seen_it m part.0 part.1 (either_none part.0 part.1 begun.4.low) leaves_none nowhere_none
+    wrote : Wrote shows faults_of tells c ms limbo from to.0 to.1 d after seen_it m part.0
+    wrote = wrote_it shows faults_of tells c ms limbo from to.0 to.1 d after seen_it m part.0 part.1 (either_none part.0 part.1 begun.4.low) leaves_none nowhere_none
 
-    stays_in : (files : List Filed) (held : Stores) → Has tells old.stores held → CopiesFurther from tells old m files held → IsTrue tells → Stays files_of opened_of past_of faults_of tells c ms limbo from to.0 to.1 d after seen_it files held
-    stays_in files held has is told = stays files_of opened_of past_of faults_of tells c ms limbo from to.0 to.1 d after seen_it m part.0 files held has is wrote told
+    stays_in : (files : List Filed) (held : Stores) → Has tells old.stores held → CopiesFurther from tells old m files held → IsTrue tells → Stays shows faults_of tells c ms limbo from to.0 to.1 d after seen_it files held
+    stays_in files held has is told = stays shows faults_of tells c ms limbo from to.0 to.1 d after seen_it m part.0 files held has is wrote told
 
     -- what is held stays so
     stays_held : (files : List Filed) (held : Stores) → faults_of d ≤ faults_of after → Has tells old.stores held → CopiesFurther from tells old m files held → StaysHeld tells old.stores new.stores held
     stays_held files held faults has is =
-        kept_still files_of opened_of past_of faults_of tells c ms limbo from to.0 to.1 d after seen_it (CopiesFurther from tells old m files) files (begun.2.settled.manifests (from + 1) to.0 to.1) (λ held has is told. stays_in files held has is told)
-        (λ told. on_store files_of opened_of past_of faults_of tells c ms limbo from to.0 to.1 d after seen_it m part.0 begun.0 begun.1 begun.2 begun.3 wrote told) faults held has is
+        kept_still shows faults_of tells c ms limbo from to.0 to.1 d after seen_it (CopiesFurther from tells old m files) files (begun.2.settled.manifests (from + 1) to.0 to.1) (λ held has is told. stays_in files held has is told)
+        (λ told. on_store shows faults_of tells c ms limbo from to.0 to.1 d after seen_it m part.0 begun.0 begun.1 begun.2 begun.3 wrote told) faults held has is
 
     step_shown : KeepsShown tells old new
-    step_shown = shown_still files_of opened_of past_of faults_of tells c ms limbo from to.0 to.1 d after seen_it m part.0 begun.0 begun.1 begun.2 begun.3 wrote apart_from
+    step_shown = shown_still shows faults_of tells c ms limbo from to.0 to.1 d after seen_it m part.0 begun.0 begun.1 begun.2 begun.3 wrote apart_from
 
     step_whole : KeepsWhole tells old new
     step_whole =
-        keeps_whole files_of opened_of past_of faults_of tells c ms limbo from to.0 to.1 d after seen_it (λ stands were whole. own wrote stands were whole)
-        (λ told. on_store files_of opened_of past_of faults_of tells c ms limbo from to.0 to.1 d after seen_it m part.0 begun.0 begun.1 begun.2 begun.3 wrote told)
+        keeps_whole shows faults_of tells c ms limbo from to.0 to.1 d after seen_it (λ stands were whole. own wrote stands were whole)
+        (λ told. on_store shows faults_of tells c ms limbo from to.0 to.1 d after seen_it m part.0 begun.0 begun.1 begun.2 begun.3 wrote told)
       where
-        own : Wrote files_of opened_of past_of faults_of tells c ms limbo from to.0 to.1 d after seen_it m part.0 → (stands : Bool) (were : List Filed) → AreWhole (from + 1) tells old.stores limbo stands were → (left : List Filed) × AreWhole (from + 1) tells new.stores limbo stands left
-        own (inl (start, goes, wrote_so)) stands were whole = goes_whole files_of opened_of past_of faults_of tells c ms limbo from to.0 to.1 d after seen_it m part.0 begun.0 begun.1 begun.2 begun.3 stand start goes wrote_so apart_from stands were whole
+        own : Wrote shows faults_of tells c ms limbo from to.0 to.1 d after seen_it m part.0 → (stands : Bool) (were : List Filed) → AreWhole (from + 1) tells old.stores limbo stands were → (left : List Filed) × AreWhole (from + 1) tells new.stores limbo stands left
+        own (inl (start, goes, wrote_so)) stands were whole = goes_whole shows faults_of tells c ms limbo from to.0 to.1 d after seen_it m part.0 begun.0 begun.1 begun.2 begun.3 stand start goes wrote_so apart_from stands were whole
         own (inr (went_nowhere, reads)) stands were whole = (
           were,
-          read_whole tells old.stores new.stores limbo begun.2.known.three (λ n h. held_same files_of opened_of past_of faults_of c ms d after n 0 h) (keeps_same c.rows) refl (λ told. (reads told).same) (λ told. (reads told).same_opened) (λ told. (reads told).any_moment) (from + 1) stands were
+          read_whole tells old.stores new.stores limbo begun.2.known.three (λ n h. held_same shows faults_of c ms d after n 0 h) (keeps_same c.rows) refl (λ told. (reads told).same) (λ told. (reads told).same_opened) (λ told. (reads told).any_moment) (from + 1) stands were
               (within_three ms (from + 1) to.0 begun.2.known.three to.1) whole,
         )
 
@@ -502,22 +502,22 @@ module _ {S : Type 0} (files_of : S → Files) (opened_of : S → Name → ℕ) 
         leaves_so : (r : Result CopyEnd DiskErr) → (r ≡ Err Fault → Rose (faults_of d) (faults_of after)) → CopyLeaves move tells old new (end_of_disk r)
         leaves_so r cause = record {
           shown = step_shown;
-          leaves = leaves_others files_of opened_of past_of faults_of tells c ms limbo from to.0 to.1 d after seen_it m part.0 wrote;
+          leaves = leaves_others shows faults_of tells c ms limbo from to.0 to.1 d after seen_it m part.0 wrote;
           whole = step_whole;
           costs = record { granularity = refl; faults = faults; cause = by_end r cause };
         }
 
     -- WHAT IT ANSWERS
 
-    module _ (most : ℕ) (nm : MoveState) (adv : Advances move nm revived len) (copies : Copies (files_of d) (files_of after) (opened_of after) (past_of after) (IsTrue tells) at len most begun.3.runs.fine limbo (from + 2) move nm move revived nm) (files : List Filed) (held : Stores) (has : Has tells old.stores held) (is : CopiesFurther from tells old m files held) (line : FindsLine from tells (files_of d) m held name at len) where
+    module _ (most : ℕ) (nm : MoveState) (adv : Advances move nm revived len) (copies : Copies (shows d).files (shows after) (IsTrue tells) at len most begun.3.runs.fine limbo (from + 2) move nm move revived nm) (files : List Filed) (held : Stores) (has : Has tells old.stores held) (is : CopiesFurther from tells old m files held) (line : FindsLine from tells (shows d).files m held name at len) where
       abbrev n : ℕ
       n = end_after (last_of m.pending m.listed)
 
       abbrev ends_now : ℕ
       ends_now = end_after (last_of nm.pending nm.listed)
 
-      then_is : Becomes begun.3.runs.fine revived move m nm len (Copies (files_of d) (files_of after) (opened_of after) (past_of after) (IsTrue tells) at len most begun.3.runs.fine limbo (from + 2) move nm m None)
-      then_is = becomes (files_of d) (files_of after) (opened_of after) (past_of after) (IsTrue tells) at len most begun.3.runs.fine limbo (from + 2) move nm revived goes_behind begun.3.runs.running adv copies
+      then_is : Becomes begun.3.runs.fine revived move m nm len (Copies (shows d).files (shows after) (IsTrue tells) at len most begun.3.runs.fine limbo (from + 2) move nm m None)
+      then_is = becomes (shows d).files (shows after) (IsTrue tells) at len most begun.3.runs.fine limbo (from + 2) move nm revived goes_behind begun.3.runs.running adv copies
 
       listed_same : nm.listed ≡ move.listed
       listed_same = elim adv.is [ inl same ↦ ap (λ (x : MoveState). x.listed) same | inr (p, at_hand, same) ↦ ap (λ (x : MoveState). x.listed) same ]
@@ -549,18 +549,18 @@ module _ {S : Type 0} (files_of : S → Files) (opened_of : S → Name → ℕ) 
       go_more on ahead not_all =
           let same = moved on ahead in
           subst (λ (x : MoveState). SaysLines most from tells new m x files held ends.More) same
-          (more_said files_of opened_of past_of faults_of tells c ms limbo from to.0 to.1 d after seen_it m part.0 part.1 files held has is name at len most line apart_from then_is.new (run is.runs.fine is.runs.running) then_is.adv wrote then_is.copies
+          (more_said shows faults_of tells c ms limbo from to.0 to.1 d after seen_it m part.0 part.1 files held has is name at len most line apart_from then_is.new (run is.runs.fine is.runs.running) then_is.adv wrote then_is.copies
           (subst (λ (x : MoveState). n < end_after (last_of x.pending x.listed)) (sym same) ahead) (subst (λ (x : MoveState). x.at ≢ length x.parts) (sym same) not_all))
 
       pub go_all : IsRevived (last_of nm.pending nm.listed) revived → n < ends_now → nm.at ≡ length nm.parts → SaysLines most from tells new m nm files held ends.Copied
       go_all on ahead whole =
           let same = moved on ahead in
           subst (λ (x : MoveState). SaysLines most from tells new m x files held ends.Copied) same
-          (all_said files_of opened_of past_of faults_of tells c ms limbo from to.0 to.1 d after seen_it m part.0 part.1 files held has is name at len most line apart_from then_is.new (run is.runs.fine is.runs.running) then_is.adv wrote then_is.copies
+          (all_said shows faults_of tells c ms limbo from to.0 to.1 d after seen_it m part.0 part.1 files held has is name at len most line apart_from then_is.new (run is.runs.fine is.runs.running) then_is.adv wrote then_is.copies
           (subst (λ (x : MoveState). n < end_after (last_of x.pending x.listed)) (sym same) ahead) (subst (λ (x : MoveState). x.at ≡ length x.parts) (sym same) whole))
 
-      pub go_damaged : IsNotRevived (last_of nm.pending nm.listed) revived ⊎ (ends_now ≤ n) → IsDamaged from tells (files_of after) m held name at
-      go_damaged why = damaged_said files_of opened_of past_of faults_of tells c ms limbo from to.0 to.1 d after seen_it m part.0 part.1 files held has is name at len most line apart_from then_is.new (run is.runs.fine is.runs.running) then_is.adv wrote then_is.copies (high why)
+      pub go_damaged : IsNotRevived (last_of nm.pending nm.listed) revived ⊎ (ends_now ≤ n) → IsDamaged from tells (shows after).files m held name at
+      go_damaged why = damaged_said shows faults_of tells c ms limbo from to.0 to.1 d after seen_it m part.0 part.1 files held has is name at len most line apart_from then_is.new (run is.runs.fine is.runs.running) then_is.adv wrote then_is.copies (high why)
         where
           high : IsNotRevived (last_of nm.pending nm.listed) revived ⊎ (ends_now ≤ n) → end_after (last_of then_is.new.pending then_is.new.listed) ≤ n
           high why = elim then_is.same [
@@ -571,12 +571,12 @@ module _ {S : Type 0} (files_of : S → Files) (opened_of : S → Name → ℕ) 
             | inr same ↦ let one = ap end_after (same_last then_is.new.pending m.pending then_is.new.listed m.listed same.1 (same.2 ∙ listed_same)) in omega (arith, one)
           ]
 
-module _ {S : Type 0} (files_of : S → Files) (opened_of : S → Name → ℕ) (past_of : S → Past) (faults_of : S → ℕ) (tells : Bool) (c : CatalogueState) (ms : List ManifestState) (limbo : List Retired) (from : ℕ) (m : ManifestState) (here : slice_get ms (from + 1) ≡ Some m) (d : S) (seen_it : IsTrue tells → MayLeave (past_of d) (files_of d))
+module _ {S : Type 0} (shows : S → Standing) (faults_of : S → ℕ) (tells : Bool) (c : CatalogueState) (ms : List ManifestState) (limbo : List Retired) (from : ℕ) (m : ManifestState) (here : slice_get ms (from + 1) ≡ Some m) (d : S) (seen_it : IsTrue tells → MayLeave (shows d).past (shows d).files)
     (move : MoveState) (files : List Filed) (held : Stores) where
   abbrev was_all : SeenAll
-  was_all = beside (seen_on files_of opened_of past_of faults_of c ms d) limbo
+  was_all = beside (seen_on shows faults_of c ms d) limbo
 
-  module _ (has : Has tells was_all.stores held) (is : CopiesFurther from tells was_all move files held) (name : Name) (at len : ℕ) (line : FindsLine from tells (files_of d) move held name at len) where
+  module _ (has : Has tells was_all.stores held) (is : CopiesFurther from tells was_all move files held) (name : Name) (at len : ℕ) (line : FindsLine from tells (shows d).files move held name at len) where
     -- the header's line ends before them
     pub head_low : (part : Entry) → slice_get move.parts move.at ≡ Some part → part.head_len ≤ len
     head_low part next =
@@ -585,10 +585,10 @@ module _ {S : Type 0} (files_of : S → Files) (opened_of : S → Name → ℕ) 
         let low = line.low in
         omega (arith, head, behind, low)
 
-    pub can_copy : IsTrue tells → CanCopy move None len (files_of d) (opened_of d)
+    pub can_copy : IsTrue tells → CanCopy move None len (shows d).files (shows d).opened
     can_copy told = record {
-      source = λ part next. subst (λ (k : ℕ). HasFile (files_of d) (source_file move part) (λ b. k ≤ length b)) line.long (source_there tells was_all from move files held has is line.file line.next part next told);
-      target = targets is.runs.fine c.journal m ((from + 1) + 1, c.rows) (files_of d) (opened_of d) (past_of d) (tier (from + 1) held) (with_files (tier (from + 1) held) files) move None is.runs.running
+      source = λ part next. subst (λ (k : ℕ). HasFile (shows d).files (source_file move part) (λ b. k ≤ length b)) line.long (source_there tells was_all from move files held has is line.file line.next part next told);
+      target = targets is.runs.fine c.journal m ((from + 1) + 1, c.rows) (shows d) (tier (from + 1) held) (with_files (tier (from + 1) held) files) move None is.runs.running
           (has_copied (from + 1) tells was_all held files is.runs.ahead m here has told (seen_it told)) (is_ahead (from + 1) tells was_all move files held is.runs)
           (subst (λ (es : List Entry). IsLastOf es move.series move.listed) (sym (has.known.each (from + 1) m here).entries) (is.runs.last is.left))
           (record { row = is.runs.row; stands = ap (λ (rows : List Row). slice_get rows move.series) has.known.rows ∙ is.runs.stands; name = is.runs.name; store = (is.runs.numbers told).1 })

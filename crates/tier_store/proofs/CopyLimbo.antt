@@ -32,7 +32,7 @@ use Rattle.tier_store.specs.Moving.{MayBeListed, RunsBeside, of_files}
 use Rattle.tier_store.specs.Pinned.{SeenAll}
 use Rattle.tier_store.specs.Revival.{AreWhole, IsAmong, IsOfLimbo, store_with, samples_at}
 use Rattle.tier_store.specs.Reviving.{AreBack, IsBehind, IsCovered, IsUncovered, SaysBehind, free_of, is_free, is_nothing, past, reviving}
-use Rattle.tier_store.specs.Seen.{granularities}
+use Rattle.tier_store.specs.Seen.{granularities, on_disk}
 use Rattle.tier_store.specs.declared.limbo.Retired.{Retired}
 use Rattle.tier_store.proofs.CopyLeft.{begins_within, inside_until, since_earlier, weaker}
 use Rattle.tier_store.proofs.CopyFiles.{SetsFile, before_push, earlier_start, last_file, last_in, last_then, none_of_row, stands_behind, end_is, within_row}
@@ -264,9 +264,9 @@ module _ (tells : Bool) (all : SeenAll) (from : ℕ) (move : MoveState) (files :
 
     -- WHAT MAY BE LISTED
 
-    safe_f : IsTrue tells → AreSafe (of_files (from + 1) held (files ++ f ∷ [])) all.stores.files all.stores.opened all.stores.past
+    safe_f : IsTrue tells → AreSafe (of_files (from + 1) held (files ++ f ∷ [])) (on_disk all.stores)
     safe_f told =
-        let safe = subst (λ (rows : List Row). let T : Held = record { store = (from + 1) + 1; rows = rows; files = retired; stands = held.stands } in AreSafe T all.stores.files all.stores.opened all.stores.past) has.known.rows (whole.safe told) in
+        let safe = subst (λ (rows : List Row). let T : Held = record { store = (from + 1) + 1; rows = rows; files = retired; stands = held.stands } in AreSafe T (on_disk all.stores)) has.known.rows (whole.safe told) in
         let was = runs.ahead.safe told in
         record {
           long = sets.each (λ (x : Filed). HasFile all.stores.files (file_of ((from + 1) + 1, held.rows) x.entry) (λ bytes. x.entry.len ≤ length bytes)) was.long (All-contains (λ (x : Filed). HasFile all.stores.files (file_of ((from + 1) + 1, held.rows) x.entry) (λ bytes. x.entry.len ≤ length bytes)) retired f safe.long file_is.1);

@@ -4,10 +4,10 @@ use Rattle.std.proofs.Common.{[], ◌≡◌, ◌⊎◌, inl, inr, true, Bool, �
 use Rattle.std.specs.Prelude.{Contains, IsTrue, slice_get, All, ◌↔◌, nat_eq, nat_lt, if◌then◌else◌}
 use Rattle.std.proofs.lemmas.List.Elements.{All-contains, Contains-get_or, All-from_recursion, recursion_from_All}
 use Rattle.disk_model.specs.Files.{Name, Files, HasFile}
-use Rattle.disk_model.specs.Past.{Past, MayLeave}
+use Rattle.disk_model.specs.Past.{MayLeave}
+use Rattle.gate_journal.specs.Standing.{Standing, ReadsDisk}
 use Rattle.etl_mover.specs.Growing.{IsPlaced, BecomesFile}
 use Rattle.etl_mover.specs.Move.{MoveState, IsMove}
-use Rattle.etl_mover.specs.Reading.{OnlyReads}
 use Rattle.etl_mover.specs.Step.{GoesTo, GoesNowhere, target_file, Advances, AreFew, Takes, between, source_file, written_at, CopiesPart, IsPlacedOrNot}
 use Rattle.etl_mover.specs.Writing.{LeavesFile, WritesFile}
 use Rattle.etl_mover.proofs.Steps.{IsOfPart, goes_nowhere, last_all, one_start, still_lists, last_of-push}
@@ -62,12 +62,12 @@ use Rattle.tier_store.proofs.CopyLeft.{IsLater, IsOfRowIn, PartLeft, SplitsHere,
 use Rattle.tier_store.proofs.CopyWrites.{Leaves, Wrote, Apart, valid, coarse, copied, name_is, of_part, where_is, placed_here, put_cases}
 
 -- what the call tells of the lines, where the disk tells its files
-pub record WroteLines (files later : Files) (opened : Name → ℕ) (past : Past) (move : MoveState) (part : Entry) (start : Start) (entry : Entry) (at len most : ℕ) (Whole : Type 0) : Type 0 where
+pub record WroteLines (files : Files) (later : Standing) (move : MoveState) (part : Entry) (start : Start) (entry : Entry) (at len most : ℕ) (Whole : Type 0) : Type 0 where
   pub bytes : List ℕ
   pub file : files (source_file move part) ≡ Some bytes
   pub lines : List ℕ
   pub takes : Takes (take part.head_len bytes) (between at len bytes) most lines start.entry entry
-  pub wrote : WritesFile (target_file move start) start.at (written_at start.at (take part.head_len bytes) lines) files later opened past
+  pub wrote : WritesFile (target_file move start) start.at (written_at start.at (take part.head_len bytes) lines) files later
   pub whole : Whole ↔ (at + length lines ≡ len)
 
 -- the file with the lines, and the samples in them where what is held stands
@@ -103,13 +103,13 @@ nowhere_before e begin start is = go (nat_eq e.part.start begin) refl (nat_lt be
     go false same true low is = grind (arith, nat_tests, low)
     go false same false high is = absurd (cc (is))
 
-module _ {S : Type 0} (files_of : S → Files) (opened_of : S → Name → ℕ) (past_of : S → Past) (faults_of : S → ℕ) (tells : Bool) (c : CatalogueState) (ms : List ManifestState) (limbo : List Retired) (from : ℕ) (m : ManifestState) (here : slice_get ms (from + 1) ≡ Some m) (d after : S)
-    (seen_it : IsTrue tells → MayLeave (past_of d) (files_of d)) where
+module _ {S : Type 0} (shows : S → Standing) (faults_of : S → ℕ) (tells : Bool) (c : CatalogueState) (ms : List ManifestState) (limbo : List Retired) (from : ℕ) (m : ManifestState) (here : slice_get ms (from + 1) ≡ Some m) (d after : S)
+    (seen_it : IsTrue tells → MayLeave (shows d).past (shows d).files) where
   abbrev old : SeenAll
-  old = beside (seen_on files_of opened_of past_of faults_of c ms d) limbo
+  old = beside (seen_on shows faults_of c ms d) limbo
 
   abbrev new : SeenAll
-  new = beside (seen_on files_of opened_of past_of faults_of c ms after) limbo
+  new = beside (seen_on shows faults_of c ms after) limbo
 
   -- WHAT IT MAKES OF THE MOVE
 
@@ -117,21 +117,21 @@ module _ {S : Type 0} (files_of : S → Files) (opened_of : S → Name → ℕ) 
     abbrev b : Held
     b = with_files (tier (from + 1) held) files
 
-    module _ (has : Has tells old.stores held) (is : CopiesFurther from tells old move files held) (next_is : slice_get move.parts move.at ≡ Some part) (start : Start) (goes : GoesTo move None part start) (leaves : Leaves files_of opened_of past_of faults_of tells c ms limbo from m here d after seen_it move start) where
+    module _ (has : Has tells old.stores held) (is : CopiesFurther from tells old move files held) (next_is : slice_get move.parts move.at ≡ Some part) (start : Start) (goes : GoesTo move None part start) (leaves : Leaves shows faults_of tells c ms limbo from m here d after seen_it move start) where
       v : AreHeld m.granularity b
-      v = valid files_of opened_of past_of faults_of tells c ms limbo from m here d after seen_it move part files held has is
+      v = valid shows faults_of tells c ms limbo from m here d after seen_it move part files held has is
 
       size : m.granularity ≡ move.granularity
-      size = coarse files_of opened_of past_of faults_of tells c ms limbo from m here d after seen_it move part files held has is
+      size = coarse shows faults_of tells c ms limbo from m here d after seen_it move part files held has is
 
       stands_at : Where b move.series part.head_len start
-      stands_at = where_is files_of opened_of past_of faults_of tells c ms limbo from m here d after seen_it move part files held has is start goes
+      stands_at = where_is shows faults_of tells c ms limbo from m here d after seen_it move part files held has is start goes
 
       of_it : IsOfPart move.granularity move.series part start.entry
-      of_it = of_part files_of opened_of past_of faults_of tells c ms limbo from m here d after seen_it move part files held has is start goes
+      of_it = of_part shows faults_of tells c ms limbo from m here d after seen_it move part files held has is start goes
 
       placed_it : (f : Filed) → f.entry.series ≡ move.series → f.entry.part ≡ start.entry.part → IsPlaced m.granularity b start.at f
-      placed_it = placed_here files_of opened_of past_of faults_of tells c ms limbo from m here d after seen_it move part files held has is start goes
+      placed_it = placed_here shows faults_of tells c ms limbo from m here d after seen_it move part files held has is start goes
 
       module _ (q : Filed) (q_next : IsNextPart from move held q) (at len most : ℕ) (low : at < len) (q_long : q.entry.len ≡ len) (behind : q.entry.head_len ≤ at) (splits : IsTrue held.stands → SplitsAt q.samples (end_after (last_of move.pending move.listed)) q.entry.head_len at)
           (entry : Entry) (of : entry.part ≡ start.entry.part) (own : entry.series ≡ start.entry.series) where
@@ -139,7 +139,7 @@ module _ {S : Type 0} (files_of : S → Files) (opened_of : S → Name → ℕ) 
         head_is = q_head tells old from move files held has is q q_next part next_is
 
         -- where what is held stands
-        pub next_stands : (stands : IsTrue held.stands) (bytes lines : List ℕ) → files_of d (source_file move part) ≡ Some bytes → Takes (take part.head_len bytes) (between at len bytes) most lines start.entry entry → WritesNext move.granularity b start.at (take part.head_len bytes) lines entry (splits stands).back
+        pub next_stands : (stands : IsTrue held.stands) (bytes lines : List ℕ) → (shows d).files (source_file move part) ≡ Some bytes → Takes (take part.head_len bytes) (between at len bytes) most lines start.entry entry → WritesNext move.granularity b start.at (take part.head_len bytes) lines entry (splits stands).back
         next_stands stands bytes lines file takes =
             let told = is.told stands in
             let of_file = part_file_is tells old from move files held has is q q_next part next_is told stands (seen_it told) bytes file in
@@ -159,9 +159,9 @@ module _ {S : Type 0} (files_of : S → Files) (opened_of : S → Name → ℕ) 
             omega (arith, begin, whole, head, back, both, q_long, length-append q.head (10 ∷ lines_of q.samples), length-append (lines_of (splits stands).front) (lines_of (splits stands).back))
 
       module _ (q : Filed) (q_next : IsNextPart from move held q) (at len most : ℕ) (low : at < len) (q_long : q.entry.len ≡ len) (behind : q.entry.head_len ≤ at) (splits : IsTrue held.stands → SplitsAt q.samples (end_after (last_of move.pending move.listed)) q.entry.head_len at)
-          (entry : Entry) (of : entry.part ≡ start.entry.part) (own : entry.series ≡ start.entry.series) (Whole : Type 0) (says : IsTrue tells → WroteLines (files_of d) (files_of after) (opened_of after) (past_of after) move part start entry at len most Whole) where
+          (entry : Entry) (of : entry.part ≡ start.entry.part) (own : entry.series ≡ start.entry.series) (Whole : Type 0) (says : IsTrue tells → WroteLines (shows d).files (shows after) move part start entry at len most Whole) where
         abbrev WroteBytes : List ℕ → Type 0
-        WroteBytes bytes = WritesFile (target_file move start) start.at bytes (files_of d) (files_of after) (opened_of after) (past_of after)
+        WroteBytes bytes = WritesFile (target_file move start) start.at bytes (shows d).files (shows after)
 
         -- the bytes that were written make the entry longer by so many
         grown_len : (told : IsTrue tells) → Where b move.series part.head_len start → entry.len ≡ start_of start.at + length (written_at start.at (take part.head_len (says told).bytes) (says told).lines)
@@ -224,7 +224,7 @@ module _ {S : Type 0} (files_of : S → Files) (opened_of : S → Name → ℕ) 
 
         -- THE MOVE THEN
 
-        module _ (back : List Sample) (grown : GrownFile m.granularity b start entry (IsTrue held.stands) (IsTrue tells) WroteBytes (CopiedOf most b back Whole)) (left : IsTrue held.stands → PartLeft q back (end_after (last_of move.pending move.listed))) (apart_from : Apart files_of opened_of past_of faults_of tells c ms limbo from m here d after seen_it move) (longer : start.entry.len ≤ entry.len)
+        module _ (back : List Sample) (grown : GrownFile m.granularity b start entry (IsTrue held.stands) (IsTrue tells) WroteBytes (CopiedOf most b back Whole)) (left : IsTrue held.stands → PartLeft q back (end_after (last_of move.pending move.listed))) (apart_from : Apart shows faults_of tells c ms limbo from m here d after seen_it move) (longer : start.entry.len ≤ entry.len)
             (nm : MoveState) (run : IsMove is.runs.fine nm) (adv : Advances move nm None len) (sets : SetsLast entry move.pending nm.pending) where
           abbrev pub f : Filed
           f = grown.file
@@ -263,22 +263,22 @@ module _ {S : Type 0} (files_of : S → Files) (opened_of : S → Name → ℕ) 
           -- ON THE DISK
 
           name_then : IsTrue tells → file_of ((from + 1) + 1, held.rows) f.entry ≡ target_file move start
-          name_then told = name_is files_of opened_of past_of faults_of tells c ms limbo from m here d after seen_it move part files held has is told f.entry f_own ∙ ap (λ (p : Part). (move.destination, path_of move.name p.name)) f_part
+          name_then told = name_is shows faults_of tells c ms limbo from m here d after seen_it move part files held has is told f.entry f_own ∙ ap (λ (p : Part). (move.destination, path_of move.name p.name)) f_part
 
-          ahead_then : IsTrue tells → HasCopied c.journal m ((from + 1) + 1, c.rows) (files_of after) (opened_of after) (past_of after) (tier (from + 1) held) (with_files b (f ∷ []))
+          ahead_then : IsTrue tells → HasCopied c.journal m ((from + 1) + 1, c.rows) (shows after) (tier (from + 1) held) (with_files b (f ∷ []))
           ahead_then told =
               let bytes = grown.becomes told in
-              copied_more c.journal m ((from + 1) + 1, c.rows) (files_of d) (files_of after) (opened_of d) (opened_of after) (past_of d) (past_of after) (tier (from + 1) held) b start.at f
-              (copied files_of opened_of past_of faults_of tells c ms limbo from m here d after seen_it move part files held has is told) (placed_it f f_own f_part)
-              (subst (λ (n : Name). LeavesFile n start.at (files_of d) (files_of after) (opened_of d) (opened_of after) (past_of d) (past_of after)) (sym (name_then told)) (leaves told)) bytes.0 bytes.1
-              (subst (λ (n : Name). WritesFile n start.at bytes.0 (files_of d) (files_of after) (opened_of after) (past_of after)) (sym (name_then told)) bytes.2) (seen_it told)
+              copied_more c.journal m ((from + 1) + 1, c.rows) (shows d) (shows after) (tier (from + 1) held) b start.at f
+              (copied shows faults_of tells c ms limbo from m here d after seen_it move part files held has is told) (placed_it f f_own f_part)
+              (subst (λ (n : Name). LeavesFile n start.at (shows d) (shows after)) (sym (name_then told)) (leaves told)) bytes.0 bytes.1
+              (subst (λ (n : Name). WritesFile n start.at bytes.0 (shows d).files (shows after)) (sym (name_then told)) bytes.2) (seen_it told)
 
-          safe_then : IsTrue tells → AreSafe (of_files (from + 1) held more) (files_of after) (opened_of after) (past_of after)
+          safe_then : IsTrue tells → AreSafe (of_files (from + 1) held more) (shows after)
           safe_then told =
               let safe = (ahead_then told).safe.safe in
               record {
-                long = all_in (λ (x : Filed). HasFile (files_of after) (file_of ((from + 1) + 1, held.rows) x.entry) (λ bytes. x.entry.len ≤ length bytes)) more (list_at (from + 1) held) listed_then.1.rise (subst (All (λ (x : Filed). HasFile (files_of after) (file_of ((from + 1) + 1, held.rows) x.entry) (λ bytes. x.entry.len ≤ length bytes))) (sym files_are) safe.long);
-                unopened = all_in (λ (x : Filed). opened_of after (file_of ((from + 1) + 1, held.rows) x.entry) ≤ x.entry.len) more (list_at (from + 1) held) listed_then.1.rise (subst (All (λ (x : Filed). opened_of after (file_of ((from + 1) + 1, held.rows) x.entry) ≤ x.entry.len)) (sym files_are) safe.unopened);
+                long = all_in (λ (x : Filed). HasFile (shows after).files (file_of ((from + 1) + 1, held.rows) x.entry) (λ bytes. x.entry.len ≤ length bytes)) more (list_at (from + 1) held) listed_then.1.rise (subst (All (λ (x : Filed). HasFile (shows after).files (file_of ((from + 1) + 1, held.rows) x.entry) (λ bytes. x.entry.len ≤ length bytes))) (sym files_are) safe.long);
+                unopened = all_in (λ (x : Filed). (shows after).opened (file_of ((from + 1) + 1, held.rows) x.entry) ≤ x.entry.len) more (list_at (from + 1) held) listed_then.1.rise (subst (All (λ (x : Filed). (shows after).opened (file_of ((from + 1) + 1, held.rows) x.entry) ≤ x.entry.len)) (sym files_are) safe.unopened);
                 left = λ image left stands. all_in (IsIn ((from + 1) + 1, held.rows) image) more (list_at (from + 1) held) listed_then.1.rise (subst (All (IsIn ((from + 1) + 1, held.rows) image)) (sym files_are) (safe.left image left stands));
               }
 
@@ -587,17 +587,17 @@ module _ {S : Type 0} (files_of : S → Files) (opened_of : S → Name → ℕ) 
 
   module _ (move : MoveState) (part : Entry) (next_is : slice_get move.parts move.at ≡ Some part) where
     abbrev WroteIt : Type 0
-    WroteIt = Wrote files_of opened_of past_of faults_of tells c ms limbo from m here d after seen_it move part
+    WroteIt = Wrote shows faults_of tells c ms limbo from m here d after seen_it move part
 
-    pub wrote_it : IsPlacedOrNot move None part → (IsTrue tells → (p : Entry) (start : Start) → GoesTo move None p start → LeavesFile (target_file move start) start.at (files_of d) (files_of after) (opened_of d) (opened_of after) (past_of d) (past_of after))
-        → (IsTrue tells → ((p : Entry) (start : Start) → GoesTo move None p start → ⊥) → OnlyReads (files_of d) (files_of after) (opened_of d) (opened_of after) (past_of d) (past_of after)) → WroteIt
+    pub wrote_it : IsPlacedOrNot move None part → (IsTrue tells → (p : Entry) (start : Start) → GoesTo move None p start → LeavesFile (target_file move start) start.at (shows d) (shows after))
+        → (IsTrue tells → ((p : Entry) (start : Start) → GoesTo move None p start → ⊥) → ReadsDisk (shows d) (shows after)) → WroteIt
     wrote_it (inl (start, goes)) leaves nowhere = inl (start, goes, λ told. leaves told part start goes)
     wrote_it (inr over) leaves nowhere = inr (over, λ told. nowhere told (λ p s goes. goes_nowhere move None part p over.to s next_is over.is over.holds over.none goes))
 
     -- WHAT THE ANSWER SAYS
 
-    module _ (files : List Filed) (held : Stores) (has : Has tells old.stores held) (is : CopiesFurther from tells old move files held) (name : Name) (at len most : ℕ) (line : FindsLine from tells (files_of d) move held name at len) (apart_from : Apart files_of opened_of past_of faults_of tells c ms limbo from m here d after seen_it move) (nm : MoveState) (run : IsMove is.runs.fine nm) (adv : Advances move nm None len) (wrote : WroteIt)
-        (copies : IsTrue tells → (p : Entry) (start : Start) (bytes : List ℕ) → GoesTo move None p start → files_of d (source_file move p) ≡ Some bytes → CopiesPart move nm start p at len most bytes (files_of d) (files_of after) (opened_of after) (past_of after)) where
+    module _ (files : List Filed) (held : Stores) (has : Has tells old.stores held) (is : CopiesFurther from tells old move files held) (name : Name) (at len most : ℕ) (line : FindsLine from tells (shows d).files move held name at len) (apart_from : Apart shows faults_of tells c ms limbo from m here d after seen_it move) (nm : MoveState) (run : IsMove is.runs.fine nm) (adv : Advances move nm None len) (wrote : WroteIt)
+        (copies : IsTrue tells → (p : Entry) (start : Start) (bytes : List ℕ) → GoesTo move None p start → (shows d).files (source_file move p) ≡ Some bytes → CopiesPart move nm start p at len most bytes (shows d).files (shows after)) where
       abbrev n_was : ℕ
       n_was = end_after (last_of move.pending move.listed)
 
@@ -620,9 +620,9 @@ module _ {S : Type 0} (files_of : S → Files) (opened_of : S → Name → ℕ) 
         pub own : entry.series ≡ start.entry.series
         pub longer : start.entry.len ≤ entry.len
         pub sets : SetsLast entry move.pending nm.pending
-        pub says : IsTrue tells → WroteLines (files_of d) (files_of after) (opened_of after) (past_of after) move part start entry at len most Whole
+        pub says : IsTrue tells → WroteLines (shows d).files (shows after) move part start entry at len most Whole
 
-      there : IsTrue tells → HasFile (files_of d) (source_file move part) (λ bytes. line.file.entry.len ≤ length bytes)
+      there : IsTrue tells → HasFile (shows d).files (source_file move part) (λ bytes. line.file.entry.len ≤ length bytes)
       there told = source_there tells old from move files held has is line.file line.next part next_is told
 
       chosen_told : (told : IsTrue tells) (start : Start) → GoesTo move None part start → (nm.pending ≡ move.pending → ⊥) → Chosen start
@@ -669,7 +669,7 @@ module _ {S : Type 0} (files_of : S → Files) (opened_of : S → Name → ℕ) 
       left_here : (stands : IsTrue held.stands) → PartLeft line.file (line.splits stands).back n_was
       left_here stands = part_left is.runs.fine held.rows line.file n_was at (q_filed tells old from move files held has is line.file line.next part next_is stands) (line.splits stands) (let low = line.low in let long = line.long in omega (arith, low, long))
 
-      somewhere : n_was < ends_now → (start : Start) × GoesTo move None part start × Leaves files_of opened_of past_of faults_of tells c ms limbo from m here d after seen_it move start
+      somewhere : n_was < ends_now → (start : Start) × GoesTo move None part start × Leaves shows faults_of tells c ms limbo from m here d after seen_it move start
       somewhere less = elim wrote [
         | inl goes ↦ goes
         | inr (over, reads) ↦ elim adv.sets [
@@ -679,10 +679,10 @@ module _ {S : Type 0} (files_of : S → Files) (opened_of : S → Name → ℕ) 
       ]
 
       abbrev Grown : (start : Start) (entry : Entry) → List Sample → Type 0
-      Grown start entry back = GrownFile m.granularity (with_files (tier (from + 1) held) files) start entry (IsTrue held.stands) (IsTrue tells) (λ bytes. WritesFile (target_file move start) start.at bytes (files_of d) (files_of after) (opened_of after) (past_of after)) (CopiedOf most (with_files (tier (from + 1) held) files) back Whole)
+      Grown start entry back = GrownFile m.granularity (with_files (tier (from + 1) held) files) start entry (IsTrue held.stands) (IsTrue tells) (λ bytes. WritesFile (target_file move start) start.at bytes (shows d).files (shows after)) (CopiedOf most (with_files (tier (from + 1) held) files) back Whole)
 
       module _ (less : n_was < ends_now) where
-        abbrev to : (start : Start) × GoesTo move None part start × Leaves files_of opened_of past_of faults_of tells c ms limbo from m here d after seen_it move start
+        abbrev to : (start : Start) × GoesTo move None part start × Leaves shows faults_of tells c ms limbo from m here d after seen_it move start
         to = somewhere less
 
         abbrev one : Chosen to.0
@@ -716,7 +716,7 @@ module _ {S : Type 0} (files_of : S → Files) (opened_of : S → Name → ℕ) 
       -- NO LINE WAS COPIED
 
       -- the lines that are told make the row end later
-      goes_ahead : (stands : IsTrue held.stands) (start : Start) → GoesTo move None part start → Leaves files_of opened_of past_of faults_of tells c ms limbo from m here d after seen_it move start → n_was < ends_now
+      goes_ahead : (stands : IsTrue held.stands) (start : Start) → GoesTo move None part start → Leaves shows faults_of tells c ms limbo from m here d after seen_it move start → n_was < ends_now
       goes_ahead stands start goes leaves =
           let told = is.told stands in
           let file = there told in
@@ -774,13 +774,13 @@ module _ {S : Type 0} (files_of : S → Files) (opened_of : S → Name → ℕ) 
               omega (arith, clear, nest.1, begin, n_is, last, start, q_end)
 
       -- files of other stores stay
-      file_stays : IsTrue tells → (n : Name) → n.0 ≢ (from + 1) + 1 → files_of after n ≡ files_of d n
+      file_stays : IsTrue tells → (n : Name) → n.0 ≢ (from + 1) + 1 → (shows after).files n ≡ (shows d).files n
       file_stays told n apart = elim wrote [
         | inl (start, goes, leaves) ↦ (leaves told).elsewhere n (λ same. apart (ap (λ (x : Name). x.0) same ∙ (is.runs.numbers told).1))
         | inr (over, reads) ↦ ap (λ (f : Files). f n) (reads told).same
       ]
 
-      pub damaged_said : ends_now ≤ n_was → IsDamaged from tells (files_of after) move held name at
+      pub damaged_said : ends_now ≤ n_was → IsDamaged from tells (shows after).files move held name at
       damaged_said high = record {
         file = line.file;
         part = part_in from move held line.file (slice_get_within move.parts move.at part next_is) line.next;

@@ -15,7 +15,7 @@ use Rattle.durable_write.specs.Ends.{End, IsFailed, end_of_disk, Done}
 use Rattle.durable_write.specs.Held.{Filed, IsListedTo, IsFiled, Held, AreFiled, IsIn, file_of}
 use Rattle.durable_write.proofs.Staying.{rose_after, same_then, safe_read}
 use Rattle.tier_store.specs.Stores.{Stores, list_at, tier}
-use Rattle.tier_store.specs.Seen.{Seen, granularities}
+use Rattle.tier_store.specs.Seen.{Seen, granularities, on_disk}
 use Rattle.tier_store.specs.Copying.{CopiesBeside, CopiesFurther, CopiesOrHas, OnlyLooks, CopiesNext, CopyLeaves, HasPassedAll, IsDamaged, LeavesOthers, MovesOn, PassesParts, SaysCopied, SaysPart, StaysHeld, StepsOn, left_of, samples_ahead, CopiesLines, IsNextPart, FindsLine, HasLater, HasLine, SaysLines}
 use Rattle.tier_store.specs.Limbo.{LimboStands, staying}
 use Rattle.tier_store.specs.Moving.{LeavesLater, RunsBeside, names_of}
@@ -791,7 +791,7 @@ whole_read {A} {E} i tells old new end stands files looks whole = subst (λ (l :
   from = whole.from;
   rise = whole.rise;
   filed = λ m here. subst (λ (c : CatalogueState). let T : Held = record { store = i + 1; rows = c.rows; files = files; stands = stands } in AreFiled m.granularity T) (sym looks.catalogue) (whole.filed m (ap (λ (l : List ManifestState). slice_get l i) (sym looks.manifests) ∙ here));
-  safe = λ told. subst (λ (c : CatalogueState). let T : Held = record { store = i + 1; rows = c.rows; files = files; stands = stands } in AreSafe T new.stores.files new.stores.opened new.stores.past) (sym looks.catalogue)
-      (safe_read (store_with i old.stores stands files) old.stores.files new.stores.files old.stores.opened new.stores.opened old.stores.past new.stores.past (whole.safe told) (looks.reads.any_moment told) (looks.reads.files told)
+  safe = λ told. subst (λ (c : CatalogueState). let T : Held = record { store = i + 1; rows = c.rows; files = files; stands = stands } in AreSafe T (on_disk new.stores)) (sym looks.catalogue)
+      (safe_read (store_with i old.stores stands files) (on_disk old.stores) (on_disk new.stores) (whole.safe told) (looks.reads.any_moment told) (looks.reads.files told)
       (λ k x lt. let was = (whole.safe told).unopened k x lt in let same = ap (λ (o : Name → ℕ). o (file_of (i + 1, old.stores.catalogue.rows) (get_or files k x).entry)) (looks.opened told) in omega (arith, was, same)));
 })

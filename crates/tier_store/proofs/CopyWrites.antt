@@ -3,11 +3,11 @@ use Rattle.std.proofs.Common.{[], ◌≡◌, ◌⊎◌, inl, inr, true, Bool, �
 use Rattle.std.specs.Prelude.{Contains, IsTrue, slice_get}
 use Rattle.std.proofs.lemmas.List.Elements.{All-contains, Contains-get_or, filter_passes}
 use Rattle.disk_model.specs.Files.{Name, Files, HasFile, At}
-use Rattle.disk_model.specs.Past.{Past, MayLeave, Passes}
+use Rattle.disk_model.specs.Past.{MayLeave, Passes}
 use Rattle.disk_model.proofs.Passing.{passes_weaker}
+use Rattle.gate_journal.specs.Standing.{Standing, ReadsDisk}
 use Rattle.etl_mover.specs.Growing.{IsPlaced}
 use Rattle.etl_mover.specs.Move.{MoveState, part_file}
-use Rattle.etl_mover.specs.Reading.{OnlyReads}
 use Rattle.etl_mover.specs.Step.{GoesTo, GoesNowhere, target_file}
 use Rattle.etl_mover.specs.Writing.{LeavesFile}
 use Rattle.etl_mover.proofs.Steps.{IsOfPart, start_is}
@@ -66,23 +66,23 @@ put_cases xs fs f within =
 
 -- WHAT IS SAID OF THE DISK
 
-module _ {S : Type 0} (files_of : S → Files) (opened_of : S → Name → ℕ) (past_of : S → Past) (faults_of : S → ℕ) (tells : Bool) (c : CatalogueState) (ms : List ManifestState) (limbo : List Retired) (from : ℕ) (m : ManifestState) (here : slice_get ms (from + 1) ≡ Some m) (d after : S)
-    (seen_it : IsTrue tells → MayLeave (past_of d) (files_of d)) where
+module _ {S : Type 0} (shows : S → Standing) (faults_of : S → ℕ) (tells : Bool) (c : CatalogueState) (ms : List ManifestState) (limbo : List Retired) (from : ℕ) (m : ManifestState) (here : slice_get ms (from + 1) ≡ Some m) (d after : S)
+    (seen_it : IsTrue tells → MayLeave (shows d).past (shows d).files) where
   abbrev i : ℕ
   i = from + 1
 
   abbrev old : SeenAll
-  old = beside (seen_on files_of opened_of past_of faults_of c ms d) limbo
+  old = beside (seen_on shows faults_of c ms d) limbo
 
   abbrev new : SeenAll
-  new = beside (seen_on files_of opened_of past_of faults_of c ms after) limbo
+  new = beside (seen_on shows faults_of c ms after) limbo
 
   -- what the call says of files: lines went behind a place of one, or files were read alone
   abbrev pub Leaves : MoveState → Start → Type 0
-  Leaves move start = IsTrue tells → LeavesFile (target_file move start) start.at (files_of d) (files_of after) (opened_of d) (opened_of after) (past_of d) (past_of after)
+  Leaves move start = IsTrue tells → LeavesFile (target_file move start) start.at (shows d) (shows after)
 
   abbrev pub Reads : Type 0
-  Reads = IsTrue tells → OnlyReads (files_of d) (files_of after) (opened_of d) (opened_of after) (past_of d) (past_of after)
+  Reads = IsTrue tells → ReadsDisk (shows d) (shows after)
 
   abbrev pub Wrote : MoveState → Entry → Type 0
   Wrote move part = ((start : Start) × GoesTo move None part start × Leaves move start) ⊎ (GoesNowhere move None part × Reads)
@@ -93,9 +93,9 @@ module _ {S : Type 0} (files_of : S → Files) (opened_of : S → Name → ℕ) 
 
   -- what it leaves of its store
   pub record Stays (files : List Filed) (held : Stores) : Type 0 where
-    pub stored : TierStored m.granularity m.journal (files_of after) (opened_of after) (past_of after) (tier i held)
-    pub moments : Passes (λ a b. Holds m.granularity b (tier i held)) (past_of d) (past_of after)
-    pub safe : AreSafe (of_files i held files) (files_of after) (opened_of after) (past_of after)
+    pub stored : TierStored m.granularity m.journal (shows after) (tier i held)
+    pub moments : Passes (λ a b. Holds m.granularity b (tier i held)) (shows d).past (shows after).past
+    pub safe : AreSafe (of_files i held files) (shows after)
 
   module _ (move : MoveState) (part : Entry) (files : List Filed) (held : Stores) (has : Has tells old.stores held) (is : CopiesFurther from tells old move files held) where
     abbrev pub base : Held
@@ -107,7 +107,7 @@ module _ {S : Type 0} (files_of : S → Files) (opened_of : S → Name → ℕ) 
     pub coarse : m.granularity ≡ move.granularity
     coarse = same_size i tells old move files held m here is.runs
 
-    pub copied : IsTrue tells → HasCopied c.journal m (i + 1, c.rows) (files_of d) (opened_of d) (past_of d) (tier i held) base
+    pub copied : IsTrue tells → HasCopied c.journal m (i + 1, c.rows) (shows d) (tier i held) base
     copied told = has_copied i tells old held files is.runs.ahead m here has told (seen_it told)
 
     -- the name of a file of the row
@@ -139,28 +139,28 @@ module _ {S : Type 0} (files_of : S → Files) (opened_of : S → Name → ℕ) 
       placed_here f own of = placed m.granularity base move.series part.head_len start valid of_part.own f own of where_is (listed_here f own of)
 
       module _ (leaves : Leaves move start) where
-        pub call : IsTrue tells → LeavesFile (file_of (shelf_of base) start.entry) start.at (files_of d) (files_of after) (opened_of d) (opened_of after) (past_of d) (past_of after)
-        call told = subst (λ (n : Name). LeavesFile n start.at (files_of d) (files_of after) (opened_of d) (opened_of after) (past_of d) (past_of after)) (sym (name_is told start.entry of_part.own)) (leaves told)
+        pub call : IsTrue tells → LeavesFile (file_of (shelf_of base) start.entry) start.at (shows d) (shows after)
+        call told = subst (λ (n : Name). LeavesFile n start.at (shows d) (shows after)) (sym (name_is told start.entry of_part.own)) (leaves told)
 
         stays_goes : IsTrue tells → Stays files held
         stays_goes told =
             let f : Filed = bare start.entry in
             let at = placed_here f of_part.own refl in
-            let s = still_ahead c.journal m (i + 1, c.rows) (files_of d) (files_of after) (opened_of d) (opened_of after) (past_of d) (past_of after) (tier i held) base start.at f (copied told) at (call told) in
+            let s = still_ahead c.journal m (i + 1, c.rows) (shows d) (shows after) (tier i held) base start.at f (copied told) at (call told) in
             record {
               stored = s.stored.stored.tier;
-              moments = still_holds c.journal m (i + 1, c.rows) (files_of d) (files_of after) (opened_of d) (opened_of after) (past_of d) (past_of after) (tier i held) base start.at f (copied told) at (call told);
+              moments = still_holds c.journal m (i + 1, c.rows) (shows d) (shows after) (tier i held) base start.at f (copied told) at (call told);
               safe = safe_in s.safe.safe;
             }
           where
-            safe_in : AreSafe base (files_of after) (opened_of after) (past_of after) → AreSafe (of_files i held files) (files_of after) (opened_of after) (past_of after)
+            safe_in : AreSafe base (shows after) → AreSafe (of_files i held files) (shows after)
             safe_in safe = record {
-              long = all_in (λ (f : Filed). HasFile (files_of after) (file_of (i + 1, held.rows) f.entry) (λ b. f.entry.len ≤ length b)) files (list_at i held) is.runs.ahead.rise safe.long;
-              unopened = all_in (λ (f : Filed). opened_of after (file_of (i + 1, held.rows) f.entry) ≤ f.entry.len) files (list_at i held) is.runs.ahead.rise safe.unopened;
+              long = all_in (λ (f : Filed). HasFile (shows after).files (file_of (i + 1, held.rows) f.entry) (λ b. f.entry.len ≤ length b)) files (list_at i held) is.runs.ahead.rise safe.long;
+              unopened = all_in (λ (f : Filed). (shows after).opened (file_of (i + 1, held.rows) f.entry) ≤ f.entry.len) files (list_at i held) is.runs.ahead.rise safe.unopened;
               left = λ image left stands. all_in (IsIn (i + 1, held.rows) image) files (list_at i held) is.runs.ahead.rise (safe.left image left stands);
             }
 
-        on_goes : IsTrue tells → OnStore (i + 1) m.journal.name (files_of d) (files_of after) (opened_of d) (opened_of after) (past_of d) (past_of after)
+        on_goes : IsTrue tells → OnStore (i + 1) m.journal.name (shows d) (shows after)
         on_goes told =
             let leaves_it = call told in
             record {
@@ -174,7 +174,7 @@ module _ {S : Type 0} (files_of : S → Files) (opened_of : S → Name → ℕ) 
         -- what is shown stays
         fronts_goes : Apart move → IsTrue tells → KeepsFronts old new
         fronts_goes apart_from told name len there front some within begins = elim (name_cases name (file_of (shelf_of base) start.entry)) [
-          | inl same ↦ subst (λ (n : Name). Begins front (files_of after n)) (sym same) ((call told).front front some (at_most there same) (subst (λ (n : Name). Begins front (files_of d n)) same begins))
+          | inl same ↦ subst (λ (n : Name). Begins front ((shows after).files n)) (sym same) ((call told).front front some (at_most there same) (subst (λ (n : Name). Begins front ((shows d).files n)) same begins))
           | inr apart ↦ subst (Begins front) (sym ((call told).elsewhere name apart)) begins
         ]
           where
@@ -231,7 +231,7 @@ module _ {S : Type 0} (files_of : S → Files) (opened_of : S → Name → ℕ) 
     stays_reads : Reads → IsTrue tells → Stays files held
     stays_reads reads told =
         let r = reads told in
-        let now = has_read files_of opened_of past_of faults_of tells c ms d after (λ told. record { same = (reads told).same; same_opened = (reads told).same_opened; any_moment = (reads told).any_moment }) held has in
+        let now = has_read shows faults_of tells c ms d after reads held has in
         record {
           stored = (now.disk told).each i m here;
           moments = passes_weaker (λ a b. b ≡ a) _ _ _ r.any_moment (λ a x left same. subst (λ (f : Files). Holds m.granularity f (tier i held)) (sym same) (hold_at ms a held (all_left old.stores held a (has.disk told) left) i m here));
@@ -242,12 +242,12 @@ module _ {S : Type 0} (files_of : S → Files) (opened_of : S → Name → ℕ) 
                 let same = ap (λ (o : Name → ℕ). o (file_of (i + 1, held.rows) (get_or files k f).entry)) r.same_opened in
                 omega (arith, was, same);
             left = λ image left stands k f lt.
-                let come = r.any_moment.each (past_of after).now image r.any_moment.later (omega arith) left in
+                let come = r.any_moment.each (shows after).past.now image r.any_moment.later (omega arith) left in
                 subst (λ (x : Files). IsIn (i + 1, held.rows) x (get_or files k f)) (sym come.2) ((is.runs.ahead.safe told).left come.0 come.1 stands k f lt);
           };
         }
 
-    on_reads : Reads → IsTrue tells → OnStore (i + 1) m.journal.name (files_of d) (files_of after) (opened_of d) (opened_of after) (past_of d) (past_of after)
+    on_reads : Reads → IsTrue tells → OnStore (i + 1) m.journal.name (shows d) (shows after)
     on_reads reads told =
         let r = reads told in
         record {
@@ -262,15 +262,15 @@ module _ {S : Type 0} (files_of : S → Files) (opened_of : S → Name → ℕ) 
     stays (inl (start, goes, leaves)) told = stays_goes start goes leaves told
     stays (inr (nowhere, reads)) told = stays_reads reads told
 
-    pub on_store : Wrote move part → IsTrue tells → OnStore (i + 1) m.journal.name (files_of d) (files_of after) (opened_of d) (opened_of after) (past_of d) (past_of after)
+    pub on_store : Wrote move part → IsTrue tells → OnStore (i + 1) m.journal.name (shows d) (shows after)
     on_store (inl (start, goes, leaves)) told = on_goes start goes leaves told
     on_store (inr (nowhere, reads)) told = on_reads reads told
 
     pub shown_still : Wrote move part → Apart move → KeepsShown tells old new
     shown_still (inl (start, goes, leaves)) apart_from =
-        shown tells old new refl (λ name len h. held_same files_of opened_of past_of faults_of c ms d after name len h) (λ name len r. record { listed = r.no_shorter.listed; in_doubt = r.no_shorter.in_doubt; rows_in_doubt = r.no_shorter.rows_in_doubt })
+        shown tells old new refl (λ name len h. held_same shows faults_of c ms d after name len h) (λ name len r. record { listed = r.no_shorter.listed; in_doubt = r.no_shorter.in_doubt; rows_in_doubt = r.no_shorter.rows_in_doubt })
         (fronts_goes start goes leaves apart_from)
-    shown_still (inr (nowhere, reads)) apart_from = read_shown files_of opened_of past_of faults_of tells c ms limbo d after (λ told. (reads told).same)
+    shown_still (inr (nowhere, reads)) apart_from = read_shown shows faults_of tells c ms limbo d after (λ told. (reads told).same)
 
   -- all other names stay
   pub leaves_others : (move : MoveState) (part : Entry) → Wrote move part → LeavesOthers move tells old new
@@ -289,20 +289,20 @@ module _ {S : Type 0} (files_of : S → Files) (opened_of : S → Name → ℕ) 
 
   -- files in limbo stay whole where those of this store do: those of another are left
   pub keeps_whole : ((stands : Bool) (files : List Filed) → AreWhole i tells old.stores limbo stands files → (left : List Filed) × AreWhole i tells new.stores limbo stands left)
-      → (IsTrue tells → OnStore (i + 1) m.journal.name (files_of d) (files_of after) (opened_of d) (opened_of after) (past_of d) (past_of after)) → KeepsWhole tells old new
+      → (IsTrue tells → OnStore (i + 1) m.journal.name (shows d) (shows after)) → KeepsWhole tells old new
   keeps_whole own on j stands files low whole = elim (same_cases j i) [
     | inl is ↦ subst (λ (k : ℕ). (left : List Filed) × AreWhole k tells new.stores limbo stands left) (sym is) (own stands files (subst (λ (k : ℕ). AreWhole k tells old.stores limbo stands files) is whole))
     | inr apart ↦ (
       files,
       record {
         each = λ k r lt number. elim (whole.each k r lt number) [
-          | inl h ↦ inl (held_same files_of opened_of past_of faults_of c ms d after (get_or limbo k r).name 0 h)
+          | inl h ↦ inl (held_same shows faults_of c ms d after (get_or limbo k r).name 0 h)
           | inr there ↦ inr there
         ];
         from = whole.from;
         rise = whole.rise;
         filed = whole.filed;
-        safe = λ told. safe_beside (i + 1) m.journal.name (files_of d) (files_of after) (opened_of d) (opened_of after) (past_of d) (past_of after) (on told) (store_with j old.stores stands files) (omega arith) (λ is. apart (omega (arith, is))) (whole.safe told);
+        safe = λ told. safe_beside (i + 1) m.journal.name (shows d) (shows after) (on told) (store_with j old.stores stands files) (omega arith) (λ is. apart (omega (arith, is))) (whole.safe told);
       },
     )
   ]
@@ -310,13 +310,13 @@ module _ {S : Type 0} (files_of : S → Files) (opened_of : S → Name → ℕ) 
   -- THE CALL
 
   module _ (Is : Stores → Type 0) (files : List Filed) (sound : m.journal.sound ≡ true) (stays_in : (held : Stores) → Has tells old.stores held → Is held → IsTrue tells → Stays files held)
-      (on : IsTrue tells → OnStore (i + 1) m.journal.name (files_of d) (files_of after) (opened_of d) (opened_of after) (past_of d) (past_of after)) (faults : faults_of d ≤ faults_of after) where
+      (on : IsTrue tells → OnStore (i + 1) m.journal.name (shows d) (shows after)) (faults : faults_of d ≤ faults_of after) where
     low_in : (held : Stores) → Has tells old.stores held → i < 3
     low_in held has = within_three ms i m has.known.three here
 
     done : ChangesGiven Is tells (staying {A = Unit {0}}) old.stores new.stores (Done tt)
-    done = subst (λ (l : List ManifestState). ChangesGiven Is tells (staying {A = Unit {0}}) old.stores (seen_on files_of opened_of past_of faults_of c l after) (Done tt)) (set_same ms i m here)
-        (given_done files_of opened_of past_of faults_of tells c ms i m m here d after refl on faults Is (staying {A = Unit {0}}) (λ held has given. list_at i held) (λ held has given. list_kept i held (low_in held has)) (λ held has given. (has.known.each i m here).valid)
+    done = subst (λ (l : List ManifestState). ChangesGiven Is tells (staying {A = Unit {0}}) old.stores (seen_on shows faults_of c l after) (Done tt)) (set_same ms i m here)
+        (given_done shows faults_of tells c ms i m m here d after refl on faults Is (staying {A = Unit {0}}) (λ held has given. list_at i held) (λ held has given. list_kept i held (low_in held has)) (λ held has given. (has.known.each i m here).valid)
         (λ told held has given. passes_weaker _ _ _ _ (stays_in held has given told).moments (λ a x was step. inl step)) tt (λ held has given. tt) sound (λ held has given. (has.known.each i m here).entries) (λ told held has given. (stays_in held has given told).stored))
 
     -- what is held stays so, at every moment
@@ -335,8 +335,8 @@ module _ {S : Type 0} (files_of : S → Files) (opened_of : S → Name → ℕ) 
       abbrev target : Name
       target = file_of (i + 1, c.rows) start.entry
 
-      wrote_there : IsTrue tells → LeavesFile target start.at (files_of d) (files_of after) (opened_of d) (opened_of after) (past_of d) (past_of after)
-      wrote_there told = subst (λ (rows : List Row). LeavesFile (file_of (i + 1, rows) start.entry) start.at (files_of d) (files_of after) (opened_of d) (opened_of after) (past_of d) (past_of after)) (sym has.known.rows)
+      wrote_there : IsTrue tells → LeavesFile target start.at (shows d) (shows after)
+      wrote_there told = subst (λ (rows : List Row). LeavesFile (file_of (i + 1, rows) start.entry) start.at (shows d) (shows after)) (sym has.known.rows)
           (call move part files held has is start goes leaves told)
 
       low : i < 3
@@ -391,10 +391,10 @@ module _ {S : Type 0} (files_of : S → Files) (opened_of : S → Name → ℕ) 
       free_at : (k : ℕ) (f : Filed) → k < length left_free → file_at (filed_at (get_or left_free k f)) list ≡ None
       free_at k f lt = none_is (file_at (filed_at (get_or left_free k f)) list) (filter_passes (is_free list) were k f lt)
 
-      safe_before : IsTrue tells → AreSafe (store_with i new.stores stands left_free) (files_of d) (opened_of d) (past_of d)
-      safe_before told = safe_fewer i c.rows were left_free stands was_in (files_of d) (opened_of d) (past_of d) (whole.safe told)
+      safe_before : IsTrue tells → AreSafe (store_with i new.stores stands left_free) (shows d)
+      safe_before told = safe_fewer i c.rows were left_free stands was_in (shows d) (whole.safe told)
 
-      long_after : IsTrue tells → AreLong (store_with i new.stores stands left_free) (files_of after)
+      long_after : IsTrue tells → AreLong (store_with i new.stores stands left_free) (shows after).files
       long_after told k f lt = elim (name_cases (name_at i c.rows (get_or left_free k f)) target) [
         | inr apart ↦
             let was = (safe_before told).long k f lt in
@@ -403,12 +403,12 @@ module _ {S : Type 0} (files_of : S → Files) (opened_of : S → Name → ℕ) 
             let goes_at = behind_place (get_or left_free k f) (was_in k f lt) (free_at k f lt) same in
             let now = (wrote_there told).long goes_at.0 goes_at.1 in
             let most = goes_at.2 in
-            record { bytes = now.bytes; file = ap (files_of after) same ∙ now.file; holds = let more = now.holds in omega (arith, more, most) }
+            record { bytes = now.bytes; file = ap (shows after).files same ∙ now.file; holds = let more = now.holds in omega (arith, more, most) }
       ]
 
-      safe_after : IsTrue tells → AreSafe (store_with i new.stores stands left_free) (files_of after) (opened_of after) (past_of after)
+      safe_after : IsTrue tells → AreSafe (store_with i new.stores stands left_free) (shows after)
       safe_after told =
-          safe_stays (store_with i new.stores stands left_free) (At target (Keeps (start_of start.at))) (files_of d) (files_of after) (opened_of d) (opened_of after) (past_of d) (past_of after) (safe_before told) (wrote_there told).any_moment
+          safe_stays (store_with i new.stores stands left_free) (At target (Keeps (start_of start.at))) (shows d) (shows after) (safe_before told) (wrote_there told).any_moment
           (λ a x step there. all_keeps m.granularity (store_with i new.stores stands left_free) target (start_of start.at) a x (filed_fewer i c.rows were left_free stands was_in m.granularity (whole.filed m here))
           (λ k f lt same. let goes_at = behind_place (get_or left_free k f) (was_in k f lt) (free_at k f lt) same in let at = ap start_of goes_at.1 in let most = goes_at.2 in omega (arith, at, most)) step there)
           (long_after told) (wrote_there told).fewer
@@ -420,7 +420,7 @@ module _ {S : Type 0} (files_of : S → Files) (opened_of : S → Name → ℕ) 
             | inl none ↦ inr (subst (Contains (map entry_of left_free)) u.2 (contains_entry left_free u.0 (contains_filter (is_free list) were u.0 u.1 (ap is_nothing none))))
             | inr (h, h_in, same, found) ↦
                 let named = place_named i tells old.stores limbo held m here stand has r r_in number h h_in (same ∙ ap place u.2) in
-                inl (held_same files_of opened_of past_of faults_of c ms d after r.name 0 (has_held tells old.stores held i r.name 0 has low (record { entry = h.entry; within = contains_entry list h h_in; named = named; longer = omega arith })))
+                inl (held_same shows faults_of c ms d after r.name 0 (has_held tells old.stores held i r.name 0 has low (record { entry = h.entry; within = contains_entry list h h_in; named = named; longer = omega arith })))
           ]
 
       pub goes_whole : (rest : List Filed) × AreWhole i tells new.stores limbo stands rest
@@ -428,7 +428,7 @@ module _ {S : Type 0} (files_of : S → Files) (opened_of : S → Name → ℕ) 
         left_free,
         record {
           each = λ k r lt number. elim (whole.each k r lt number) [
-            | inl h ↦ inl (held_same files_of opened_of past_of faults_of c ms d after (get_or limbo k r).name 0 h)
+            | inl h ↦ inl (held_same shows faults_of c ms d after (get_or limbo k r).name 0 h)
             | inr there ↦ among (get_or limbo k r) (Contains-get_or limbo k r lt) number there
           ];
           from = λ k f lt. All-contains (λ (x : Filed). IsOfLimbo i limbo x.entry) were (get_or left_free k f) whole.from (was_in k f lt);

@@ -4,10 +4,11 @@ use Rattle.std.proofs.Common.{◌≡◌, ◌≢◌, inl, inr, Bool, ℕ, ◌+◌
 use Rattle.std.specs.Prelude.{Contains, IsTrue, OnErr, OnOk, Result, slice_get, All}
 use Rattle.std.proofs.lemmas.List.Elements.{All-contains, All-map, Contains-append_cases, Contains-get_or, filter_passes}
 use Rattle.disk_model.specs.Files.{Name, Content, Files, HasFile}
-use Rattle.disk_model.specs.Past.{Passes, Past}
+use Rattle.disk_model.specs.Past.{Passes}
 use Rattle.disk_model.specs.declared.disk.DiskErr.{DiskErr}
 use Rattle.disk_model.proofs.Passing.{passes_none, passes_then, passes_weaker}
 use Rattle.gate_journal.specs.Generations.{IsOwn, AtOwn}
+use Rattle.gate_journal.specs.Standing.{Standing}
 use Rattle.pv_catalog.specs.declared.row.Row.{Row}
 use Rattle.series_model.specs.declared.batch.RowSamples.{RowSamples}
 use Rattle.store_files.specs.Fronts.{Begins, Keeps}
@@ -21,7 +22,7 @@ use Rattle.durable_write.specs.Writing.{LeavesListed}
 use Rattle.durable_write.proofs.Written.{contains_entry, listed_stays, put_all_new, one_of_place}
 use Rattle.durable_write.proofs.Staying.{contains_map, same_cases, filed_still, safe_grows, safe_both}
 use Rattle.tier_store.specs.Stores.{Stores, tier, list_at, with_rows}
-use Rattle.tier_store.specs.Seen.{Seen, granularities}
+use Rattle.tier_store.specs.Seen.{Seen, granularities, on_disk}
 use Rattle.tier_store.specs.Change.{IsKnownAt, Has, IsOpen, HasEither, SameFiles, EndsFrom, Call, Changes}
 use Rattle.tier_store.specs.Limbo.{LimboStands, IsListedName, IsNeeded, Removes, StayUnlisted}
 use Rattle.tier_store.specs.Pinned.{SeenAll, beside, IsThereTo, KeepsShown, LeavesFronts, IsHeldTo, IsRetiredTo}
@@ -107,7 +108,7 @@ fronts_read tells old new rows lists limbo same passes =
     (λ n l r. record { listed = r.no_shorter.listed; in_doubt = r.no_shorter.in_doubt; rows_in_doubt = r.no_shorter.rows_in_doubt }) name len was)) same passes
   where
     mid : SeenAll
-    mid = beside (after_disk old.stores new.stores.files new.stores.opened new.stores.past new.stores.faults) new.limbo
+    mid = beside (after_disk old.stores (on_disk new.stores) new.stores.faults) new.limbo
 
 -- nothing was done
 pub nothing_fronts : (tells : Bool) (all : SeenAll) → LeavesFronts tells all all
@@ -201,10 +202,10 @@ module _ (i : ℕ) (rows : List Row) (all left : List Filed) (stands : Bool) (wi
     filed = λ is k d lt. All-contains (IsFiled g rows) all (get_or left k d) (was.filed is) (within k d lt);
   }
 
-  pub safe_fewer : (files : Files) (opened : Name → ℕ) (past : Past) → AreSafe (store_of i rows all stands) files opened past → AreSafe (store_of i rows left stands) files opened past
-  safe_fewer files opened past was = record {
-    long = λ k d lt. All-contains (λ (f : Filed). HasFile files (name_at i rows f) (λ b. f.entry.len ≤ length b)) all (get_or left k d) was.long (within k d lt);
-    unopened = λ k d lt. All-contains (λ (f : Filed). opened (name_at i rows f) ≤ f.entry.len) all (get_or left k d) was.unopened (within k d lt);
+  pub safe_fewer : (disk : Standing) → AreSafe (store_of i rows all stands) disk → AreSafe (store_of i rows left stands) disk
+  safe_fewer disk was = record {
+    long = λ k d lt. All-contains (λ (f : Filed). HasFile disk.files (name_at i rows f) (λ b. f.entry.len ≤ length b)) all (get_or left k d) was.long (within k d lt);
+    unopened = λ k d lt. All-contains (λ (f : Filed). disk.opened (name_at i rows f) ≤ f.entry.len) all (get_or left k d) was.unopened (within k d lt);
     left = λ image leaves is k d lt. All-contains (IsIn (i + 1, rows) image) all (get_or left k d) (was.left image leaves is) (within k d lt);
   }
 
@@ -214,7 +215,7 @@ module _ (i : ℕ) (low : i < 3) (tells : Bool) (old new : SeenAll) (three : len
     (files : IsTrue tells → (n : Name) → Spared n → new.stores.files n ≡ old.stores.files n) (passes : IsTrue tells → Passes (λ a b. (n : Name) → Spared n → b n ≡ a n) old.stores.past new.stores.past) (stands : Bool) where
   -- files of which the names are spared are as safe as before
   pub spared_whole : (left : List Filed) → All (IsAmong i new.stores left) new.limbo → All (λ (f : Filed). IsOfLimbo i new.limbo f.entry) left → PlacesRise left
-      → ((m : ManifestState) → slice_get old.stores.manifests i ≡ Some m → AreFiled m.granularity (store_with i old.stores stands left)) → (IsTrue tells → AreSafe (store_with i old.stores stands left) old.stores.files old.stores.opened old.stores.past)
+      → ((m : ManifestState) → slice_get old.stores.manifests i ≡ Some m → AreFiled m.granularity (store_with i old.stores stands left)) → (IsTrue tells → AreSafe (store_with i old.stores stands left) (on_disk old.stores))
       → All (λ (f : Filed). Spared (name_at i old.stores.catalogue.rows f)) left → (IsTrue tells → All (λ (f : Filed). new.stores.opened (name_at i old.stores.catalogue.rows f) ≤ f.entry.len) left) → AreWhole i tells new.stores new.limbo stands left
   spared_whole left each from rise filed safe spared opened = record {
     each = each;
@@ -225,7 +226,7 @@ module _ (i : ℕ) (low : i < 3) (tells : Bool) (old new : SeenAll) (three : len
         subst (λ (g : Granularity). AreFiled g (store_with i new.stores stands left)) is.2 (filed_still is.0.granularity t new.stores.catalogue.rows keeps (filed is.0 is.1));
     safe = λ told.
         let own = manifest_at old.stores.manifests i (omega (arith, three, low)) in
-        safe_grows own.0.granularity t new.stores.catalogue.rows new.stores.files new.stores.opened new.stores.past keeps (filed own.0 own.1) (still told);
+        safe_grows own.0.granularity t new.stores.catalogue.rows (on_disk new.stores) keeps (filed own.0 own.1) (still told);
   }
     where
       t : Held
@@ -236,7 +237,7 @@ module _ (i : ℕ) (low : i < 3) (tells : Bool) (old new : SeenAll) (three : len
           let f : Filed = get_or left k d in
           subst (Begins (bytes_of f)) (sym (step (name_at i old.stores.catalogue.rows f) (spared k d lt))) (was stand k d lt)
 
-      still : IsTrue tells → AreSafe t new.stores.files new.stores.opened new.stores.past
+      still : IsTrue tells → AreSafe t (on_disk new.stores)
       still told = record {
         long = λ k d lt.
             let was = (safe told).long k d lt in
@@ -270,7 +271,7 @@ module _ (i : ℕ) (low : i < 3) (tells : Bool) (old new : SeenAll) (three : len
       go true is = ap (is_place (place r.entry)) (sym same) ∙ is_place-same (place r.entry)
       go false is = absurd (cc (is))
 
-  module _ (all : List Filed) (rise : PlacesRise all) (filed : (m : ManifestState) → slice_get old.stores.manifests i ≡ Some m → AreFiled m.granularity (store_with i old.stores stands all)) (safe : IsTrue tells → AreSafe (store_with i old.stores stands all) old.stores.files old.stores.opened old.stores.past)
+  module _ (all : List Filed) (rise : PlacesRise all) (filed : (m : ManifestState) → slice_get old.stores.manifests i ≡ Some m → AreFiled m.granularity (store_with i old.stores stands all)) (safe : IsTrue tells → AreSafe (store_with i old.stores stands all) (on_disk old.stores))
       (each : (r : Retired) → Contains new.limbo r → r.name.0 ≡ i + 1 → Contains (map entry_of all) r.entry) (spared : (f : Filed) → Contains all f → IsOfLimbo i new.limbo f.entry → Spared (name_at i old.stores.catalogue.rows f)) (fewer : IsTrue tells → (f : Filed) → Contains all f → new.stores.opened (name_at i old.stores.catalogue.rows f) ≤ old.stores.opened (name_at i old.stores.catalogue.rows f)) where
     abbrev pub left_of : List Filed
     left_of = filter is_left all
@@ -303,7 +304,7 @@ module _ (i : ℕ) (low : i < 3) (tells : Bool) (old new : SeenAll) (three : len
     pub left_whole : AreWhole i tells new.stores new.limbo stands left_of
     left_whole = spared_whole left_of among of_limbo (rise_filter is_left all rise)
         (λ m here. filed_fewer i old.stores.catalogue.rows all left_of stands within m.granularity (filed m here))
-        (λ told. safe_fewer i old.stores.catalogue.rows all left_of stands within old.stores.files old.stores.opened old.stores.past (safe told))
+        (λ told. safe_fewer i old.stores.catalogue.rows all left_of stands within (on_disk old.stores) (safe told))
         (λ k d lt. spared (get_or left_of k d) (within k d lt) (of_limbo k d lt))
         (λ told k d lt.
         let f : Filed = get_or left_of k d in
@@ -361,7 +362,7 @@ same_whole tells old new three rows lists limbo files opened passes =
     (call_whole tells old mid three limbo (λ name h. record { place = h.place; manifest = h.manifest; here = h.here; listed = h.listed; in_doubt = h.in_doubt; rows_in_doubt = h.rows_in_doubt }) (keeps_same old.stores.catalogue.rows) refl (λ names later. read_names names tells old mid limbo files opened passes))
   where
     mid : SeenAll
-    mid = beside (after_disk old.stores new.stores.files new.stores.opened new.stores.past new.stores.faults) new.limbo
+    mid = beside (after_disk old.stores (on_disk new.stores) new.stores.faults) new.limbo
 
 -- CALLS THAT TAKE FILES FROM LIMBO
 
@@ -370,7 +371,7 @@ held_listed at name h = record { place = h.place; manifest = h.manifest; here = 
 
 -- files that are listed leave limbo, and then those that aren't needed, of which some are removed
 pub swept_whole : (tells : Bool) (old new : SeenAll) (pins : FinMap nat_cmp PinOf) (copied : List Name) (retired : List Retired) → LimboStands old.stores old.limbo → StayUnlisted old.stores old.limbo retired → ((r : Retired) → Contains new.limbo r → Contains retired r × IsNeeded pins copied r.name) → length old.stores.manifests ≡ 3
-    → KeepsRows old.stores.catalogue.rows new.stores.catalogue.rows → granularities new.stores.manifests ≡ granularities old.stores.manifests → (IsTrue tells → Removes pins copied retired old.stores.files new.stores.files old.stores.opened new.stores.opened old.stores.past new.stores.past) → KeepsWhole tells old new
+    → KeepsRows old.stores.catalogue.rows new.stores.catalogue.rows → granularities new.stores.manifests ≡ granularities old.stores.manifests → (IsTrue tells → Removes pins copied retired (on_disk old.stores) (on_disk new.stores)) → KeepsWhole tells old new
 swept_whole tells old new pins copied retired stand unlisted needed three keeps same_g removes i stands files low whole = (
   _,
   left_whole i low tells old new three keeps same_g (λ n. (r : Retired) → Contains retired r → r.name ≡ n → IsNeeded pins copied n) (λ told n spared. (removes told).spares n spared) (λ told. (removes told).any_moment) stands files whole.rise whole.filed whole.safe
@@ -435,10 +436,10 @@ module _ (tells : Bool) (i row n : ℕ) (old new : SeenAll) (m : ManifestState) 
         filed = λ is. all_put_all (IsFiled x.granularity held.rows) list free (known.valid.filed.filed is) (others.filed is);
       }
 
-  safe_all : IsTrue tells → AreSafe (store_of j held.rows all held.stands) old.stores.files old.stores.opened old.stores.past
+  safe_all : IsTrue tells → AreSafe (store_of j held.rows all held.stands) (on_disk old.stores)
   safe_all told =
-      let own : AreSafe (store_of j held.rows were held.stands) old.stores.files old.stores.opened old.stores.past = subst (λ (rows : List Row). AreSafe (store_of j rows were held.stands) old.stores.files old.stores.opened old.stores.past) has.known.rows (whole.safe told) in
-      safe_both (tier j held) free old.stores.files old.stores.opened old.stores.past ((has.disk told).each j own_manifest.0 own_manifest.1).safe (safe_fewer j held.rows were free held.stands was_in old.stores.files old.stores.opened old.stores.past own)
+      let own : AreSafe (store_of j held.rows were held.stands) (on_disk old.stores) = subst (λ (rows : List Row). AreSafe (store_of j rows were held.stands) (on_disk old.stores)) has.known.rows (whole.safe told) in
+      safe_both (tier j held) free (on_disk old.stores) ((has.disk told).each j own_manifest.0 own_manifest.1).safe (safe_fewer j held.rows were free held.stands was_in (on_disk old.stores) own)
 
   none_listed : All (λ (f : Filed). file_at (filed_at f) list ≡ None) free
   none_listed k d lt = none_is (file_at (filed_at (get_or free k d)) list) (filter_passes (is_free list) were k d lt)
@@ -483,7 +484,7 @@ module _ (tells : Bool) (i row n : ℕ) (old new : SeenAll) (m : ManifestState) 
     left_whole j low tells old new has.known.three keeps same_g (Contains names) (leaves names own_names).files (leaves names own_names).any_moment held.stands all
         (rise_put_all list free (has.known.each j own_manifest.0 own_manifest.1).valid.apart)
         (λ x there. subst (λ (rows : List Row). AreFiled x.granularity (store_of j rows all held.stands)) (sym has.known.rows) (filed_all x there))
-        (λ told. subst (λ (rows : List Row). AreSafe (store_of j rows all held.stands) old.stores.files old.stores.opened old.stores.past) (sym has.known.rows) (safe_all told))
+        (λ told. subst (λ (rows : List Row). AreSafe (store_of j rows all held.stands) (on_disk old.stores)) (sym has.known.rows) (safe_all told))
         (λ r there number. elim (Contains-append_cases kept leaving r (subst (λ (l : List Retired). Contains l r) limbo there)) [
           | inl was ↦ from_kept r was number
           | inr leaves_it ↦ from_leaving r leaves_it number

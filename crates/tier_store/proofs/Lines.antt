@@ -13,15 +13,15 @@ use Rattle.series_model.proofs.RisingLists.{since-append}
 use Rattle.pb_lines.specs.Sample.{IsSampleLine}
 use Rattle.pb_lines.specs.File.{IsSample, AreSamples, lines_of, IsFile}
 use Rattle.pb_lines.proofs.FileLines.{all-append, lines_of-append, all_rest, one_run}
-use Rattle.tier_store.specs.Counting.{CountsLines, HasLines, ReadsDisk}
+use Rattle.tier_store.specs.Counting.{CountsLines, HasLines}
 use Rattle.etl_mover.proofs.Taking.{line_at}
 use Rattle.etl_mover.specs.Lines.{IsSampleStart}
 use Rattle.disk_model.specs.Files.{Name, Files, HasFile}
-use Rattle.disk_model.specs.Past.{Past}
 use Rattle.pb_messages.specs.declared.info.PayloadInfo.{PayloadInfo}
 use Rattle.durable_write.proofs.Staying.{same_then}
 use Rattle.std.proofs.lemmas.Option.{same_Some}
 use Rattle.disk_model.specs.declared.disk.DiskErr.{DiskErr}
+use Rattle.gate_journal.specs.Standing.{Standing, ReadsDisk}
 use Rattle.pb_lines.specs.Header.{IsHeaderLine}
 use Rattle.tier_store.specs.Finding.{AreLinesFrom, BeginsWithHeader, GoesOnWith, IsGoodUpTo, IsLaterStart, IsNoSooner, IsTold, IsUpTo, SaysFile, SkipsLines, SplitsAt, no_line}
 use Rattle.tier_store.specs.declared.finding.LaterLines.{LaterLines}
@@ -211,8 +211,8 @@ none_left files name from at end w ty year n samples count len more bytes is all
 -- THE WHOLE FILE
 
 -- a read after another
-pub then_reads : (a b d : Files) (p q r : Name → ℕ) (old mid new : Past) → ReadsDisk a b p q old mid → ReadsDisk b d q r mid new → ReadsDisk a d p r old new
-then_reads a b d p q r old mid new one two = record { same = two.same ∙ one.same; same_opened = two.same_opened ∙ one.same_opened; any_moment = same_then old mid new one.any_moment two.any_moment }
+pub then_reads : (old mid new : Standing) → ReadsDisk old mid → ReadsDisk mid new → ReadsDisk old new
+then_reads old mid new one two = record { same = two.same ∙ one.same; same_opened = two.same_opened ∙ one.same_opened; any_moment = same_then old.past mid.past new.past one.any_moment two.any_moment }
 
 -- a file's header's line, and its samples' lines behind it
 pub record IsSplit (b head : List ℕ) (head_len len : ℕ) (samples : List Sample) : Type 0 where

@@ -2,9 +2,10 @@
 -- commit of other files end. And calls that change nothing.
 use Rattle.std.proofs.Common.{◌≡◌, ◌≢◌, ℕ, ◌≤◌, List, map, get_or, refl, sym, ◌∙◌, subst, arith, ◌⊎◌, inl, Bool, ap, inr, true, false, ◌<◌, ◌+◌, Some}
 use Rattle.disk_model.specs.Files.{Name, Files, Rose}
-use Rattle.disk_model.specs.Past.{Past, Passes, MayLeave}
+use Rattle.disk_model.specs.Past.{Passes, MayLeave}
 use Rattle.gate_journal.specs.Generations.{IsOwn, AtOwn}
 use Rattle.gate_journal.specs.Journal.{JournalState}
+use Rattle.gate_journal.specs.Standing.{Standing}
 use Rattle.gate_journal.proofs.Keeping.{says_stays}
 use Rattle.partition_names.specs.declared.granularity.Granularity.{Granularity}
 use Rattle.pv_catalog.specs.declared.row.Row.{Row}
@@ -25,7 +26,7 @@ use Rattle.disk_model.specs.declared.disk.DiskErr.TheVariants.{Fault, Memory}
 use Rattle.disk_model.proofs.Passing.{passes_weaker, passes_none}
 use Rattle.durable_write.specs.Ends.{End, end_of_disk, IsFailed, Done, end_of_error}
 use Rattle.tier_store.specs.Stores.{Stores, list_at, tier, with_list}
-use Rattle.tier_store.specs.Seen.{Seen, granularities, seen_on, AtEach}
+use Rattle.tier_store.specs.Seen.{Seen, granularities, seen_on, AtEach, on_disk}
 use Rattle.tier_store.specs.Stored.{HoldsAll}
 use Rattle.tier_store.specs.Given.{ChangesGiven}
 use Rattle.tier_store.proofs.Holding.{has_left, open_left, all_hold, all_left, hold_at}
@@ -88,37 +89,37 @@ long_out a c t numbered same long k d lt =
 -- ONE STORE
 
 -- a call on the files of one store and on its manifest
-pub record OnStore (store : ℕ) (name : Name) (files later : Files) (opened after : Name → ℕ) (old new : Past) : Type 0 where
+pub record OnStore (store : ℕ) (name : Name) (old new : Standing) : Type 0 where
   pub numbered : 1 ≤ store
   pub named : name ≡ manifest_name store
-  pub passes : Passes (Beside store name) old new
-  pub same : Beside store name files later
-  pub fewer : (n : Name) → after n ≤ opened n
+  pub passes : Passes (Beside store name) old.past new.past
+  pub same : Beside store name old.files new.files
+  pub fewer : (n : Name) → new.opened n ≤ old.opened n
 
-module _ (store : ℕ) (name : Name) (files later : Files) (opened after : Name → ℕ) (old new : Past) (call : OnStore store name files later opened after old new) where
+module _ (store : ℕ) (name : Name) (old new : Standing) (call : OnStore store name old new) where
   by_name : (a c : Files) → Beside store name a c → Beside store (manifest_name store) a c
   by_name a c step = subst (λ (n : Name). Beside store n a c) call.named step
 
-  untouched : (journal : JournalState) (own : Name) → journal.name ≡ own → own.0 ≡ 0 → ((n : Name) → IsOwn own n → IsOwn (manifest_name store) n → ⊥) → Untouched (Beside store name) journal files later opened after
+  untouched : (journal : JournalState) (own : Name) → journal.name ≡ own → own.0 ≡ 0 → ((n : Name) → IsOwn own n → IsOwn (manifest_name store) n → ⊥) → Untouched (Beside store name) journal old.files new.files old.opened new.opened
   untouched journal own is zero_store other =
       let mine : (n : Name) → IsOwn journal.name n → IsOwn own n = λ n its. subst (λ (m : Name). IsOwn m n) is its in
       record {
         step = λ a c step n its. journal_beside store own a c call.numbered zero_store other (by_name a c step) n (mine n its);
-        same = λ n its. journal_beside store own files later call.numbered zero_store other (by_name files later call.same) n (mine n its);
+        same = λ n its. journal_beside store own old.files new.files call.numbered zero_store other (by_name old.files new.files call.same) n (mine n its);
         fewer = λ n its. call.fewer n;
       }
 
-  pub rows_beside : (c : JournalState) (rows : List Row) → CatalogueStored c files opened old rows → CatalogueStored c later after new rows
-  rows_beside c rows stored = catalogue_stays (Beside store name) c files later opened after old new call.passes (untouched c catalogue_name stored.named refl (other_journal store)) rows stored
+  pub rows_beside : (c : JournalState) (rows : List Row) → CatalogueStored c old rows → CatalogueStored c new rows
+  rows_beside c rows stored = catalogue_stays (Beside store name) c old new call.passes (untouched c catalogue_name stored.named refl (other_journal store)) rows stored
 
-  pub safe_beside : (t : Held) → 1 ≤ t.store → t.store ≢ store → AreSafe t files opened old → AreSafe t later after new
+  pub safe_beside : (t : Held) → 1 ≤ t.store → t.store ≢ store → AreSafe t old → AreSafe t new
   safe_beside t numbered apart safe =
-      safe_stays t (Beside store name) files later opened after old new safe call.passes (λ a c step. in_beside store a c t numbered apart (by_name a c step)) (long_beside store files later t numbered apart (by_name files later call.same) safe.long) call.fewer
+      safe_stays t (Beside store name) old new safe call.passes (λ a c step. in_beside store a c t numbered apart (by_name a c step)) (long_beside store old.files new.files t numbered apart (by_name old.files new.files call.same) safe.long) call.fewer
 
-  pub tier_beside : (g : Granularity) (m : JournalState) (t : Held) → t.store ≢ store → TierStored g m files opened old t → TierStored g m later after new t
+  pub tier_beside : (g : Granularity) (m : JournalState) (t : Held) → t.store ≢ store → TierStored g m old t → TierStored g m new t
   tier_beside g m t apart stored =
       let numbered = stored.valid.filed.numbered in
-      tier_stays (Beside store name) m files later opened after old new call.passes (untouched m (manifest_name t.store) stored.named refl (manifests_differ t.store store apart)) g t stored
+      tier_stays (Beside store name) m old new call.passes (untouched m (manifest_name t.store) stored.named refl (manifests_differ t.store store apart)) g t stored
       (safe_beside t numbered apart stored.safe)
 
 -- CALLS THAT CHANGE NOTHING
@@ -176,33 +177,33 @@ every {A} {E} tells call old new end change = record { ends = λ held has. chang
 places_apart : (i k : ℕ) → k ≢ i → k + 1 ≢ i + 1
 places_apart i k apart is = apart (omega (arith, is))
 
-module _ {S : Type 0} (files_of : S → Files) (opened_of : S → Name → ℕ) (past_of : S → Past) (faults_of : S → ℕ) (tells : Bool) (c : CatalogueState) (ms : List ManifestState) (i : ℕ) (m made : ManifestState) (here : slice_get ms i ≡ Some m) (d after : S) where
+module _ {S : Type 0} (shows : S → Standing) (faults_of : S → ℕ) (tells : Bool) (c : CatalogueState) (ms : List ManifestState) (i : ℕ) (m made : ManifestState) (here : slice_get ms i ≡ Some m) (d after : S) where
   abbrev set : List ManifestState
   set = slice_set ms i made
 
   abbrev before : Seen
-  before = seen_on files_of opened_of past_of faults_of c ms d
+  before = seen_on shows faults_of c ms d
 
   abbrev behind : Seen
-  behind = seen_on files_of opened_of past_of faults_of c set after
+  behind = seen_on shows faults_of c set after
 
   -- what the call says of its own store's journal, of all that stands beside it, and of its faults
-  module _ (same_g : made.granularity ≡ m.granularity) (on_store : IsTrue tells → OnStore (i + 1) m.journal.name (files_of d) (files_of after) (opened_of d) (opened_of after) (past_of d) (past_of after)) (faults : faults_of d ≤ faults_of after) where
+  module _ (same_g : made.granularity ≡ m.granularity) (on_store : IsTrue tells → OnStore (i + 1) m.journal.name (shows d) (shows after)) (faults : faults_of d ≤ faults_of after) where
     -- the stores at other places
     known_beside : (held s : Stores) → IsKnown c ms held → ((k : ℕ) → k < 3 → k ≢ i → tier k s ≡ tier k held) → AtEach ms (λ k n. k ≢ i → IsKnownAt n (tier k s))
     known_beside held s known same k n there apart = subst (IsKnownAt n) (sym (same k (within_three ms k n known.three there) apart)) (known.each k n there)
 
-    stored_beside : (held s : Stores) → Has tells before held → IsTrue tells → ((k : ℕ) → k < 3 → k ≢ i → tier k s ≡ tier k held) → AtEach ms (λ k n. k ≢ i → TierStored n.granularity n.journal (files_of after) (opened_of after) (past_of after) (tier k s))
+    stored_beside : (held s : Stores) → Has tells before held → IsTrue tells → ((k : ℕ) → k < 3 → k ≢ i → tier k s ≡ tier k held) → AtEach ms (λ k n. k ≢ i → TierStored n.granularity n.journal (shows after) (tier k s))
     stored_beside held s has told same k n there apart =
-        subst (TierStored n.granularity n.journal (files_of after) (opened_of after) (past_of after)) (sym (same k (within_three ms k n has.known.three there) apart))
-        (tier_beside (i + 1) m.journal.name (files_of d) (files_of after) (opened_of d) (opened_of after) (past_of d) (past_of after) (on_store told) n.granularity n.journal (tier k held) (places_apart i k apart) ((has.disk told).each k n there))
+        subst (TierStored n.granularity n.journal (shows after)) (sym (same k (within_three ms k n has.known.three there) apart))
+        (tier_beside (i + 1) m.journal.name (shows d) (shows after) (on_store told) n.granularity n.journal (tier k held) (places_apart i k apart) ((has.disk told).each k n there))
 
-    rows_stored : (held : Stores) → Has tells before held → IsTrue tells → CatalogueStored c.journal (files_of after) (opened_of after) (past_of after) held.rows
-    rows_stored held has told = rows_beside (i + 1) m.journal.name (files_of d) (files_of after) (opened_of d) (opened_of after) (past_of d) (past_of after) (on_store told) c.journal held.rows (has.disk told).rows
+    rows_stored : (held : Stores) → Has tells before held → IsTrue tells → CatalogueStored c.journal (shows after) held.rows
+    rows_stored held has told = rows_beside (i + 1) m.journal.name (shows d) (shows after) (on_store told) c.journal held.rows (has.disk told).rows
 
     -- the place has this list, and nothing stands in doubt
     has_list : (held s : Stores) → Has tells before held → s.rows ≡ held.rows → ((k : ℕ) → k < 3 → k ≢ i → tier k s ≡ tier k held) → made.journal.sound ≡ true → made.entries ≡ map entry_of (list_at i s) → AreHeld m.granularity (tier i s)
-        → (IsTrue tells → TierStored made.granularity made.journal (files_of after) (opened_of after) (past_of after) (tier i s)) → Has tells behind s
+        → (IsTrue tells → TierStored made.granularity made.journal (shows after) (tier i s)) → Has tells behind s
     has_list held s has rows same sound entries valid stored = record {
       known = record {
         three = set_long ms i made ∙ has.known.three;
@@ -220,10 +221,10 @@ module _ {S : Type 0} (files_of : S → Files) (opened_of : S → Name → ℕ) 
         ];
       };
       disk = λ told. record {
-        rows = subst (CatalogueStored c.journal (files_of after) (opened_of after) (past_of after)) (sym rows) (rows_stored held has told);
+        rows = subst (CatalogueStored c.journal (shows after)) (sym rows) (rows_stored held has told);
         each = λ k n there. elim (set_cases ms i k m made n here there) [
-          | inl is ↦ subst (λ (j : ℕ). TierStored n.granularity n.journal (files_of after) (opened_of after) (past_of after) (tier j s)) (sym is.0)
-              (subst (λ (x : ManifestState). TierStored x.granularity x.journal (files_of after) (opened_of after) (past_of after) (tier i s)) (sym is.1) (stored told))
+          | inl is ↦ subst (λ (j : ℕ). TierStored n.granularity n.journal (shows after) (tier j s)) (sym is.0)
+              (subst (λ (x : ManifestState). TierStored x.granularity x.journal (shows after) (tier i s)) (sym is.1) (stored told))
           | inr is ↦ stored_beside held s has told same k n is.1 is.0
         ];
       };
@@ -235,20 +236,20 @@ module _ {S : Type 0} (files_of : S → Files) (opened_of : S → Name → ℕ) 
     beside : (held : Stores) → Has tells before held → (fs : List Filed) → (k : ℕ) → k < 3 → k ≢ i → tier k (with_list i fs held) ≡ tier k held
     beside held has fs k low apart = tier_other i k fs held (low_at held has) low apart
 
-    still_has : (held : Stores) → Has tells before held → made.entries ≡ m.entries → made.journal.sound ≡ true → (IsTrue tells → TierStored made.granularity made.journal (files_of after) (opened_of after) (past_of after) (tier i held)) → Has tells behind held
+    still_has : (held : Stores) → Has tells before held → made.entries ≡ m.entries → made.journal.sound ≡ true → (IsTrue tells → TierStored made.granularity made.journal (shows after) (tier i held)) → Has tells behind held
     still_has held has unchanged sound stored = has_list held held has refl (λ k low apart. refl) sound (unchanged ∙ (has.known.each i m here).entries) (has.known.each i m here).valid stored
 
     -- what the place is to list of stores of which this is true
     module _ {A E : Type 0} (Is : Stores → Type 0) (call : Call A E) (next : (held : Stores) → Has tells before held → Is held → List Filed) (by : (held : Stores) (has : Has tells before held) (is : Is held) → call.by held (with_list i (next held has is) held))
         (valid : (held : Stores) (has : Has tells before held) (is : Is held) → AreHeld m.granularity (holding i held (next held has is)))
-        (moment : IsTrue tells → (held : Stores) (has : Has tells before held) (is : Is held) → Passes (HoldsEither m.granularity (tier i held) (holding i held (next held has is))) (past_of d) (past_of after)) where
+        (moment : IsTrue tells → (held : Stores) (has : Has tells before held) (is : Is held) → Passes (HoldsEither m.granularity (tier i held) (holding i held (next held has is))) (shows d).past (shows after).past) where
       abbrev then : (held : Stores) → Has tells before held → Is held → Stores
       then held has is = with_list i (next held has is) held
 
       is_then : (held : Stores) (has : Has tells before held) (is : Is held) → tier i (then held has is) ≡ holding i held (next held has is)
       is_then held has is = tier_set i (next held has is) held (low_at held has)
 
-      any_moment : IsTrue tells → (held : Stores) → Has tells before held → Is held → Passes (HoldsBy (granularities ms) call.by held) (past_of d) (past_of after)
+      any_moment : IsTrue tells → (held : Stores) → Has tells before held → Is held → Passes (HoldsBy (granularities ms) call.by held) (shows d).past (shows after).past
       any_moment told held has given = record {
         later = own.later;
         kept = own.kept;
@@ -258,23 +259,23 @@ module _ {S : Type 0} (files_of : S → Files) (opened_of : S → Name → ℕ) 
             let mine = own.each k image from to left in (come.0, come.1, go come.0 image come.1 (subst (λ (n : Name). Beside (i + 1) n come.0 image) frame.named come.2) mine.2);
       }
         where
-          own : Passes (HoldsEither m.granularity (tier i held) (holding i held (next held has given))) (past_of d) (past_of after)
+          own : Passes (HoldsEither m.granularity (tier i held) (holding i held (next held has given))) (shows d).past (shows after).past
           own = moment told held has given
 
-          frame : OnStore (i + 1) m.journal.name (files_of d) (files_of after) (opened_of d) (opened_of after) (past_of d) (past_of after)
+          frame : OnStore (i + 1) m.journal.name (shows d) (shows after)
           frame = on_store told
 
-          all : (s : Stores) (a image : Files) → MayLeave (past_of d) a → Beside (i + 1) (manifest_name (i + 1)) a image → ((k : ℕ) → k < 3 → k ≢ i → tier k s ≡ tier k held) → Holds m.granularity image (tier i s) → HoldsAll (granularities ms) image s
+          all : (s : Stores) (a image : Files) → MayLeave (shows d).past a → Beside (i + 1) (manifest_name (i + 1)) a image → ((k : ℕ) → k < 3 → k ≢ i → tier k s ≡ tier k held) → Holds m.granularity image (tier i s) → HoldsAll (granularities ms) image s
           all s a image left step same holds = all_hold ms image s (λ k n there. elim (same_cases k i) [
             | inl is ↦ subst (λ (j : ℕ). Holds n.granularity image (tier j s)) (sym is) (subst (λ (x : ManifestState). Holds x.granularity image (tier i s)) (sym (one_manifest ms i k m n is here there)) holds)
             | inr apart ↦ subst (Holds n.granularity image) (sym (same k (within_three ms k n has.known.three there) apart))
                 (holds_beside (i + 1) n.granularity a image (tier k held) frame.numbered (places_apart i k apart) step (held_at k n there a left))
           ])
             where
-              held_at : (k : ℕ) (n : ManifestState) → slice_get ms k ≡ Some n → (a : Files) → MayLeave (past_of d) a → Holds n.granularity a (tier k held)
+              held_at : (k : ℕ) (n : ManifestState) → slice_get ms k ≡ Some n → (a : Files) → MayLeave (shows d).past a → Holds n.granularity a (tier k held)
               held_at k n there a left = hold_at ms a held (all_left before held a (has.disk told) left) k n there
 
-          go : (a image : Files) → MayLeave (past_of d) a → Beside (i + 1) (manifest_name (i + 1)) a image → Holds m.granularity image (tier i held) ⊎ Holds m.granularity image (holding i held (next held has given))
+          go : (a image : Files) → MayLeave (shows d).past a → Beside (i + 1) (manifest_name (i + 1)) a image → Holds m.granularity image (tier i held) ⊎ Holds m.granularity image (holding i held (next held has given))
               → HoldsAll (granularities ms) image held ⊎ ((made : Stores) × call.by held made × HoldsAll (granularities ms) image made)
           go a image left step (inl holds) = inl (all held a image left step (λ k low apart. refl) holds)
           go a image left step (inr holds) = inr (then held has given, by held has given, all (then held has given) a image left step (beside held has (next held has given)) (subst (Holds m.granularity image) (sym (is_then held has given)) holds))
@@ -283,14 +284,14 @@ module _ {S : Type 0} (files_of : S → Files) (opened_of : S → Name → ℕ) 
       granularity = same_granularities ms i m made here same_g
 
       pub given_done : (a : A) → ((held : Stores) (has : Has tells before held) (given : Is held) → call.says a held (then held has given)) → made.journal.sound ≡ true → ((held : Stores) (has : Has tells before held) (given : Is held) → made.entries ≡ map entry_of (next held has given))
-          → (IsTrue tells → (held : Stores) (has : Has tells before held) (given : Is held) → TierStored made.granularity made.journal (files_of after) (opened_of after) (past_of after) (holding i held (next held has given))) → ChangesGiven Is tells call before behind (Done a)
+          → (IsTrue tells → (held : Stores) (has : Has tells before held) (given : Is held) → TierStored made.granularity made.journal (shows after) (holding i held (next held has given))) → ChangesGiven Is tells call before behind (Done a)
       given_done a says sound entries stored = record {
         ends = λ held has given. (
           then held has given,
           by held has given,
           says held has given,
           has_list held (then held has given) has refl (beside held has (next held has given)) sound (entries held has given ∙ ap (λ (t : Held). map entry_of t.files) (sym (is_then held has given))) (subst (AreHeld m.granularity) (sym (is_then held has given)) (valid held has given))
-              (λ told. subst (TierStored made.granularity made.journal (files_of after) (opened_of after) (past_of after)) (sym (is_then held has given)) (stored told held has given)),
+              (λ told. subst (TierStored made.granularity made.journal (shows after)) (sym (is_then held has given)) (stored told held has given)),
         );
         any_moment = any_moment;
         costs = record { granularity = granularity; faults = faults; cause = λ failed. absurd failed };
@@ -298,8 +299,8 @@ module _ {S : Type 0} (files_of : S → Files) (opened_of : S → Name → ℕ) 
 
       -- it failed: what was held is stored still, or the manifest is in doubt
       module _ (unchanged : made.entries ≡ m.entries) (will : (held : Stores) (has : Has tells before held) (given : Is held) → made.journal.sound ≡ false → made.next ≡ map entry_of (next held has given))
-          (unmade : IsTrue tells → (held : Stores) (has : Has tells before held) (given : Is held) → made.journal.sound ≡ true → TierStored made.granularity made.journal (files_of after) (opened_of after) (past_of after) (tier i held))
-          (in_doubt : IsTrue tells → (held : Stores) (has : Has tells before held) (given : Is held) → made.journal.sound ≡ false → TierUnsure made.granularity made.journal (files_of after) (opened_of after) (past_of after) (tier i held) (holding i held (next held has given))) where
+          (unmade : IsTrue tells → (held : Stores) (has : Has tells before held) (given : Is held) → made.journal.sound ≡ true → TierStored made.granularity made.journal (shows after) (tier i held))
+          (in_doubt : IsTrue tells → (held : Stores) (has : Has tells before held) (given : Is held) → made.journal.sound ≡ false → TierUnsure made.granularity made.journal (shows after) (tier i held) (holding i held (next held has given))) where
         doubts : (held : Stores) (has : Has tells before held) (given : Is held) → made.journal.sound ≡ false → Doubts tells behind held (then held has given)
         doubts held has given unsound = record {
           known = record {
@@ -328,7 +329,7 @@ module _ {S : Type 0} (files_of : S → Files) (opened_of : S → Name → ℕ) 
               same = ap (λ (fs : List Filed). with_list i fs held) (sym (list_set i (next held has given) held (low_at held has)));
               disk = λ told. record {
                 rows = rows_stored held has told;
-                list = subst (λ (t : Held). TierUnsure made.granularity made.journal (files_of after) (opened_of after) (past_of after) (tier i held) t) (sym (is_then held has given)) (in_doubt told held has given unsound);
+                list = subst (λ (t : Held). TierUnsure made.granularity made.journal (shows after) (tier i held) t) (sym (is_then held has given)) (in_doubt told held has given unsound);
                 others = λ k n there apart. elim (set_cases ms i k m made n here there) [ inl is ↦ absurd (apart is.0) | inr is ↦ stored_beside held held has told (λ j low other. refl) k n is.1 is.0 ];
               };
             },
@@ -359,18 +360,18 @@ module _ {S : Type 0} (files_of : S → Files) (opened_of : S → Name → ℕ) 
     -- and of all stores
     module _ {A E : Type 0} (call : Call A E) (next : (held : Stores) → Has tells before held → List Filed) (by : (held : Stores) (has : Has tells before held) → call.by held (with_list i (next held has) held))
         (valid : (held : Stores) (has : Has tells before held) → AreHeld m.granularity (holding i held (next held has)))
-        (moment : IsTrue tells → (held : Stores) (has : Has tells before held) → Passes (HoldsEither m.granularity (tier i held) (holding i held (next held has))) (past_of d) (past_of after)) where
+        (moment : IsTrue tells → (held : Stores) (has : Has tells before held) → Passes (HoldsEither m.granularity (tier i held) (holding i held (next held has))) (shows d).past (shows after).past) where
       abbrev Any : Stores → Type 0
       Any s = Unit {0}
 
       pub place_done : (a : A) → ((held : Stores) (has : Has tells before held) → call.says a held (with_list i (next held has) held)) → made.journal.sound ≡ true → ((held : Stores) (has : Has tells before held) → made.entries ≡ map entry_of (next held has))
-          → (IsTrue tells → (held : Stores) (has : Has tells before held) → TierStored made.granularity made.journal (files_of after) (opened_of after) (past_of after) (holding i held (next held has))) → Changes tells call before behind (Done a)
+          → (IsTrue tells → (held : Stores) (has : Has tells before held) → TierStored made.granularity made.journal (shows after) (holding i held (next held has))) → Changes tells call before behind (Done a)
       place_done a says sound entries stored = every tells call before behind (Done a)
           (given_done Any call (λ held has given. next held has) (λ held has given. by held has) (λ held has given. valid held has) (λ told held has given. moment told held has) a (λ held has given. says held has) sound (λ held has given. entries held has) (λ told held has given. stored told held has))
 
       pub place_cut : made.entries ≡ m.entries → ((held : Stores) (has : Has tells before held) → made.journal.sound ≡ false → made.next ≡ map entry_of (next held has))
-          → (IsTrue tells → (held : Stores) (has : Has tells before held) → made.journal.sound ≡ true → TierStored made.granularity made.journal (files_of after) (opened_of after) (past_of after) (tier i held))
-          → (IsTrue tells → (held : Stores) (has : Has tells before held) → made.journal.sound ≡ false → TierUnsure made.granularity made.journal (files_of after) (opened_of after) (past_of after) (tier i held) (holding i held (next held has)))
+          → (IsTrue tells → (held : Stores) (has : Has tells before held) → made.journal.sound ≡ true → TierStored made.granularity made.journal (shows after) (tier i held))
+          → (IsTrue tells → (held : Stores) (has : Has tells before held) → made.journal.sound ≡ false → TierUnsure made.granularity made.journal (shows after) (tier i held) (holding i held (next held has)))
           → (e : DiskErr) (end : End A E) → end ≡ end_of_error e → (e ≡ Memory → made.journal.sound ≡ true) → (e ≡ Fault → Rose (faults_of d) (faults_of after)) → Changes tells call before behind end
       place_cut unchanged will unmade in_doubt e end is memory cause = every tells call before behind end
           (given_cut Any call (λ held has given. next held has) (λ held has given. by held has) (λ held has given. valid held has) (λ told held has given. moment told held has)
@@ -379,14 +380,14 @@ module _ {S : Type 0} (files_of : S → Files) (opened_of : S → Name → ℕ) 
 -- A FLUSH INTO STORE 1
 
 -- a store of which the list is in doubt, out of what is said of it with the catalogue
-pub list_unsure : (catalogue : JournalState) (m : ManifestState) (shelf : Shelf) (files : Files) (opened : Name → ℕ) (past : Past) (before after : Held) → IsDoubtedAs catalogue m shelf files opened past before after → m.journal.sound ≡ false → TierUnsure m.granularity m.journal files opened past before after
-list_unsure catalogue m shelf files opened past before after doubted unsound = elim doubted.in_doubt.doubt [
+pub list_unsure : (catalogue : JournalState) (m : ManifestState) (shelf : Shelf) (disk : Standing) (before after : Held) → IsDoubtedAs catalogue m shelf disk before after → m.journal.sound ≡ false → TierUnsure m.granularity m.journal disk before after
+list_unsure catalogue m shelf disk before after doubted unsound = elim doubted.in_doubt.doubt [
   | inl r ↦ absurd (cc (unsound, r.tier.sound))
   | inr l ↦ l.tier
 ]
 
 -- one store as it is stored with the rows
-pub stored_as : (tells : Bool) (at : Seen) (held : Stores) (i : ℕ) (m : ManifestState) → slice_get at.manifests i ≡ Some m → Has tells at held → IsTrue tells → IsStoredAs at.catalogue.journal m (i + 1, at.catalogue.rows) at.files at.opened at.past (tier i held)
+pub stored_as : (tells : Bool) (at : Seen) (held : Stores) (i : ℕ) (m : ManifestState) → slice_get at.manifests i ≡ Some m → Has tells at held → IsTrue tells → IsStoredAs at.catalogue.journal m (i + 1, at.catalogue.rows) (on_disk at) (tier i held)
 stored_as tells at held i m here has told = record {
   stored = record { rows = (has.disk told).rows; tier = (has.disk told).each i m here };
   of_rows = ap (λ (r : List Row). let s : Shelf = (i + 1, r) in s) (sym has.known.rows);
@@ -400,24 +401,24 @@ planned ms n m there here rows limbo batch pieces count plan =
     subst (λ (x : ManifestState). (held : Held) → HoldsBoth x.granularity rows x.entries limbo held → flush.Flushes x.granularity held batch pieces count) (one_manifest ms 0 0 m n refl here there) plan
 
 -- what the writing of the pieces says of all that stands beside store 1
-pub on_store : (tells : Bool) (at : Seen) (held : Stores) (i : ℕ) (m : ManifestState) → slice_get at.manifests i ≡ Some m → Has tells at held → (tells_it : IsTrue tells) → (later : Files) (after : Name → ℕ) (new : Past) → Passes (Beside (i + 1) m.journal.name) at.past new → ((n : Name) → n.0 ≢ i + 1 → (IsOwn m.journal.name n → ⊥) → later n ≡ at.files n) → ((n : Name) → after n ≤ at.opened n) → OnStore (i + 1) m.journal.name at.files later at.opened after at.past new
-on_store tells at held i m here has told later after new passes same fewer = record { numbered = omega arith; named = ((has.disk told).each i m here).named; passes = passes; same = same; fewer = fewer }
+pub on_store : (tells : Bool) (at : Seen) (held : Stores) (i : ℕ) (m : ManifestState) → slice_get at.manifests i ≡ Some m → Has tells at held → (tells_it : IsTrue tells) → (new : Standing) → Passes (Beside (i + 1) m.journal.name) at.past new.past → ((n : Name) → n.0 ≢ i + 1 → (IsOwn m.journal.name n → ⊥) → new.files n ≡ at.files n) → ((n : Name) → new.opened n ≤ at.opened n) → OnStore (i + 1) m.journal.name (on_disk at) new
+on_store tells at held i m here has told new passes same fewer = record { numbered = omega arith; named = ((has.disk told).each i m here).named; passes = passes; same = same; fewer = fewer }
 
 -- OTHER FILES AT ONE PLACE
 
-module _ {S : Type 0} (files_of : S → Files) (opened_of : S → Name → ℕ) (past_of : S → Past) (faults_of : S → ℕ) (tells : Bool) (c : CatalogueState) (ms : List ManifestState) (i : ℕ) (m made : ManifestState) (here : slice_get ms i ≡ Some m) (d after : S) (changes : List Change)
-    (can : (held : Stores) → Has tells (seen_on files_of opened_of past_of faults_of c ms d) held → (fs : List Filed) × CanList i tells (seen_on files_of opened_of past_of faults_of c ms d) changes held fs) where
+module _ {S : Type 0} (shows : S → Standing) (faults_of : S → ℕ) (tells : Bool) (c : CatalogueState) (ms : List ManifestState) (i : ℕ) (m made : ManifestState) (here : slice_get ms i ≡ Some m) (d after : S) (changes : List Change)
+    (can : (held : Stores) → Has tells (seen_on shows faults_of c ms d) held → (fs : List Filed) × CanList i tells (seen_on shows faults_of c ms d) changes held fs) where
   abbrev list_before : Seen
-  list_before = seen_on files_of opened_of past_of faults_of c ms d
+  list_before = seen_on shows faults_of c ms d
 
   abbrev list_behind : Seen
-  list_behind = seen_on files_of opened_of past_of faults_of c (slice_set ms i made) after
+  list_behind = seen_on shows faults_of c (slice_set ms i made) after
 
   abbrev shelf : Shelf
   shelf = (i + 1, c.rows)
 
   abbrev Can : JournalState → Shelf → Held → Held → Type 0
-  Can catalogue s held next = CanRelist catalogue m s (files_of d) (opened_of d) (past_of d) held next changes
+  Can catalogue s held next = CanRelist catalogue m s (shows d) held next changes
 
   abbrev pub files : (held : Stores) → Has tells list_before held → List Filed
   files held has = (can held has).0
@@ -437,36 +438,36 @@ module _ {S : Type 0} (files_of : S → Files) (opened_of : S → Name → ℕ) 
     same_shelf = refl;
     same_stands = refl;
     valid = valid held has;
-    safe = subst (λ (t : Held). AreSafe t (files_of d) (opened_of d) (past_of d)) (are held has) ((can held has).1.safe told);
+    safe = subst (λ (t : Held). AreSafe t (shows d)) (are held has) ((can held has).1.safe told);
     lists = lists held has;
   }
 
-  pub beside_all : (held : Stores) → Has tells list_before held → IsTrue tells → Passes (AtOwn m.journal.name Anything) (past_of d) (past_of after) → ((n : Name) → (IsOwn m.journal.name n → ⊥) → files_of after n ≡ files_of d n) → ((n : Name) → opened_of after n ≤ opened_of d n)
-      → OnStore (i + 1) m.journal.name (files_of d) (files_of after) (opened_of d) (opened_of after) (past_of d) (past_of after)
+  pub beside_all : (held : Stores) → Has tells list_before held → IsTrue tells → Passes (AtOwn m.journal.name Anything) (shows d).past (shows after).past → ((n : Name) → (IsOwn m.journal.name n → ⊥) → (shows after).files n ≡ (shows d).files n) → ((n : Name) → (shows after).opened n ≤ (shows d).opened n)
+      → OnStore (i + 1) m.journal.name (shows d) (shows after)
   beside_all held has told passes elsewhere fewer =
-      on_store tells list_before held i m here has told (files_of after) (opened_of after) (past_of after) (passes_weaker (AtOwn m.journal.name Anything) (Beside (i + 1) m.journal.name) (past_of d) (past_of after) passes (λ a x was step n other apart. step.elsewhere n apart))
+      on_store tells list_before held i m here has told (shows after) (passes_weaker (AtOwn m.journal.name Anything) (Beside (i + 1) m.journal.name) (shows d).past (shows after).past passes (λ a x was step n other apart. step.elsewhere n apart))
       (λ n other apart. elsewhere n apart) fewer
 
-  module _ (same_g : made.granularity ≡ m.granularity) (moment : IsTrue tells → (catalogue : JournalState) (s : Shelf) (held next : Held) → Can catalogue s held next → Passes (HoldsEither m.granularity held next) (past_of d) (past_of after))
-      (beside : IsTrue tells → OnStore (i + 1) m.journal.name (files_of d) (files_of after) (opened_of d) (opened_of after) (past_of d) (past_of after)) (faults : faults_of d ≤ faults_of after) where
-    at_moment : IsTrue tells → (held : Stores) (has : Has tells list_before held) → Passes (HoldsEither m.granularity (tier i held) (holding i held (files held has))) (past_of d) (past_of after)
+  module _ (same_g : made.granularity ≡ m.granularity) (moment : IsTrue tells → (catalogue : JournalState) (s : Shelf) (held next : Held) → Can catalogue s held next → Passes (HoldsEither m.granularity held next) (shows d).past (shows after).past)
+      (beside : IsTrue tells → OnStore (i + 1) m.journal.name (shows d) (shows after)) (faults : faults_of d ≤ faults_of after) where
+    at_moment : IsTrue tells → (held : Stores) (has : Has tells list_before held) → Passes (HoldsEither m.granularity (tier i held) (holding i held (files held has))) (shows d).past (shows after).past
     at_moment told held has = moment told c.journal shelf (tier i held) (holding i held (files held has)) (can_relist held has told)
 
     -- by whatever call lists these files
     module _ (call : Call (Unit {0}) ⊥) (by : (held : Stores) (has : Has tells list_before held) → call.by held (with_list i (files held has) held)) (says : (held : Stores) (has : Has tells list_before held) → call.says tt held (with_list i (files held has) held)) where
       pub call_done : made.entries ≡ all_changed m.entries changes → made.journal.sound ≡ true
-          → (IsTrue tells → (catalogue : JournalState) (s : Shelf) (held next : Held) → Can catalogue s held next → IsStoredAs catalogue made s (files_of after) (opened_of after) (past_of after) next)
+          → (IsTrue tells → (catalogue : JournalState) (s : Shelf) (held next : Held) → Can catalogue s held next → IsStoredAs catalogue made s (shows after) next)
           → Changes tells call list_before list_behind (Done tt)
       call_done entries sound stored =
-          place_done files_of opened_of past_of faults_of tells c ms i m made here d after same_g beside faults call files by valid at_moment tt says sound (λ held has. entries ∙ lists held has)
+          place_done shows faults_of tells c ms i m made here d after same_g beside faults call files by valid at_moment tt says sound (λ held has. entries ∙ lists held has)
           (λ told held has. (stored told c.journal shelf (tier i held) (holding i held (files held has)) (can_relist held has told)).stored.tier)
 
       pub call_cut : made.entries ≡ m.entries → (made.journal.sound ≡ false → made.next ≡ all_changed m.entries changes)
-          → (IsTrue tells → (catalogue : JournalState) (s : Shelf) (held next : Held) → Can catalogue s held next → made.journal.sound ≡ true → IsStoredAs catalogue made s (files_of after) (opened_of after) (past_of after) held)
-          → (IsTrue tells → (catalogue : JournalState) (s : Shelf) (held next : Held) → Can catalogue s held next → made.journal.sound ≡ false → IsDoubtedAs catalogue made s (files_of after) (opened_of after) (past_of after) held next)
+          → (IsTrue tells → (catalogue : JournalState) (s : Shelf) (held next : Held) → Can catalogue s held next → made.journal.sound ≡ true → IsStoredAs catalogue made s (shows after) held)
+          → (IsTrue tells → (catalogue : JournalState) (s : Shelf) (held next : Held) → Can catalogue s held next → made.journal.sound ≡ false → IsDoubtedAs catalogue made s (shows after) held next)
           → (e : DiskErr) (end : End (Unit {0}) ⊥) → end ≡ end_of_error e → (e ≡ Memory → made.journal.sound ≡ true) → (e ≡ Fault → Rose (faults_of d) (faults_of after)) → Changes tells call list_before list_behind end
       call_cut unchanged next unmade in_doubt e end is memory cause =
-          place_cut files_of opened_of past_of faults_of tells c ms i m made here d after same_g beside faults call files by valid at_moment unchanged (λ held has unsound. next unsound ∙ lists held has)
+          place_cut shows faults_of tells c ms i m made here d after same_g beside faults call files by valid at_moment unchanged (λ held has unsound. next unsound ∙ lists held has)
           (λ told held has sound. (unmade told c.journal shelf (tier i held) (holding i held (files held has)) (can_relist held has told) sound).stored.tier)
-          (λ told held has unsound. list_unsure c.journal made shelf (files_of after) (opened_of after) (past_of after) (tier i held) (holding i held (files held has)) (in_doubt told c.journal shelf (tier i held) (holding i held (files held has)) (can_relist held has told) unsound) unsound)
+          (λ told held has unsound. list_unsure c.journal made shelf (shows after) (tier i held) (holding i held (files held has)) (in_doubt told c.journal shelf (tier i held) (holding i held (files held has)) (can_relist held has told) unsound) unsound)
           e end is memory cause

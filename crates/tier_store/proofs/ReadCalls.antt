@@ -7,7 +7,7 @@ use Rattle.std.proofs.lemmas.Cmp.{nat_cmp_total}
 use Rattle.std.proofs.lemmas.List.{length-map, get_or-map}
 use Rattle.std.proofs.lemmas.Option.{same_Some, slice_get-get_or}
 use Rattle.disk_model.specs.Files.{Name, Files, HasFile, Rose}
-use Rattle.disk_model.specs.Past.{Past, Passes}
+use Rattle.disk_model.specs.Past.{Passes}
 use Rattle.partition_names.specs.declared.granularity.Granularity.{Granularity}
 use Rattle.pv_catalog.specs.Catalogue.{CatalogueState, catalogue_name}
 use Rattle.pins.specs.declared.table.PinErr.{PinErr}
@@ -34,7 +34,6 @@ use Rattle.disk_model.specs.declared.disk.DiskErr.{DiskErr}
 use Rattle.disk_model.specs.declared.disk.DiskErr.TheVariants.{Fault, Memory}
 use Rattle.series_model.specs.declared.sample.Sample.{Sample}
 use Rattle.durable_write.specs.Ends.{IsFailed, End, Done, end_of_disk}
-use Rattle.tier_store.specs.Counting.{ReadsDisk}
 use Rattle.tier_store.specs.Details.{SaysDescribed, is_described, none_has}
 use Rattle.tier_store.specs.Telling.{ReadsOf}
 use Rattle.disk_model.proofs.Passing.{passes_then, passes_weaker}
@@ -58,6 +57,7 @@ use Rattle.tier_store.specs.Revival.{AreWhole, IsAmong, IsOfLimbo}
 use Rattle.tier_store.proofs.Revival.{known_open, limbo_name}
 use Rattle.tier_store.proofs.Frames.{filed_fewer, name_at, safe_fewer, spared_whole}
 use Rattle.disk_model.proofs.Lookups.{is_same-true, is_same-same}
+use Rattle.gate_journal.specs.Standing.{Standing, ReadsDisk}
 use Rattle.durable_write.proofs.Written.{contains_entry, one_of_place}
 
 -- OPENING A FILE AT ITS PINNED LENGTH
@@ -130,25 +130,25 @@ stand_fewer tells all pins gone stand n i pin piece here there = stand n i pin p
 
 -- OPENING
 
-module _ {S : Type 0} (files_of : S → Files) (opened_of : S → Name → ℕ) (past_of : S → Past) (faults_of : S → ℕ) (tells : Bool) (c : CatalogueState) (ms : List ManifestState) (d after : S) (name : Name) (len : ℕ) (numbered : 1 ≤ name.0) (passes : IsTrue tells → Passes (λ a b. b ≡ a) (past_of d) (past_of after))
-    (same : IsTrue tells → files_of after ≡ files_of d) (here : IsTrue tells → opened_of after name ≤ max (opened_of d name) len) (others : IsTrue tells → (n : Name) → n ≢ name → opened_of after n ≡ opened_of d n) where
+module _ {S : Type 0} (shows : S → Standing) (faults_of : S → ℕ) (tells : Bool) (c : CatalogueState) (ms : List ManifestState) (d after : S) (name : Name) (len : ℕ) (numbered : 1 ≤ name.0) (passes : IsTrue tells → Passes (λ a b. b ≡ a) (shows d).past (shows after).past)
+    (same : IsTrue tells → (shows after).files ≡ (shows d).files) (here : IsTrue tells → (shows after).opened name ≤ max ((shows d).opened name) len) (others : IsTrue tells → (n : Name) → n ≢ name → (shows after).opened n ≡ (shows d).opened n) where
   abbrev old : Seen
-  old = seen_on files_of opened_of past_of faults_of c ms d
+  old = seen_on shows faults_of c ms d
 
   abbrev new : Seen
-  new = seen_on files_of opened_of past_of faults_of c ms after
+  new = seen_on shows faults_of c ms after
 
   -- no journal is opened
-  reads : IsTrue tells → Reads (files_of d) (files_of after) (opened_of d) (opened_of after) (past_of d) (past_of after)
+  reads : IsTrue tells → Reads (shows d) (shows after)
   reads told = record {
     passes = passes told;
     same = same told;
-    journals = λ n zero_store. let is : opened_of after n ≡ opened_of d n = others told n (λ is. let at_zero : n.0 ≡ name.0 = ap (λ (x : Name). x.0) is in absurd (omega (arith, at_zero, zero_store, numbered))) in omega (arith, is);
+    journals = λ n zero_store. let is : (shows after).opened n ≡ (shows d).opened n = others told n (λ is. let at_zero : n.0 ≡ name.0 = ap (λ (x : Name). x.0) is in absurd (omega (arith, at_zero, zero_store, numbered))) in omega (arith, is);
   }
 
   -- no file is opened beyond its listed length
   abbrev Stays : Stores → Type 0
-  Stays s = (g : Granularity) (k : ℕ) → k < 3 → AreHeld g (tier k s) → AreSafe (tier k s) (files_of d) (opened_of d) (past_of d) → AreUnopened (tier k s) (opened_of after)
+  Stays s = (g : Granularity) (k : ℕ) → k < 3 → AreHeld g (tier k s) → AreSafe (tier k s) (shows d) → AreUnopened (tier k s) (shows after).opened
 
   listed_stays : IsTrue tells → (s : Stores) (place : ℕ) → ListsTo place s name len → Stays s
   listed_stays told s place to g k low valid safe = elim (same_cases k place) [
@@ -156,18 +156,18 @@ module _ {S : Type 0} (files_of : S → Files) (opened_of : S → Name → ℕ) 
     | inr apart ↦ λ j f lt.
         let n = file_of (shelf_of (tier k s)) (get_or (list_at k s) j f).entry in
         let number : name.0 ≡ place + 1 = sym (ap (λ (x : Name). x.0) to.named) in
-        let is : opened_of after n ≡ opened_of d n = others told n (λ is. apart (let at : k + 1 ≡ name.0 = ap (λ (x : Name). x.0) is in omega (arith, at, number))) in
+        let is : (shows after).opened n ≡ (shows d).opened n = others told n (λ is. apart (let at : k + 1 ≡ name.0 = ap (λ (x : Name). x.0) is in omega (arith, at, number))) in
         let le = safe.unopened j f lt in omega (arith, is, le)
   ]
     where
-      mine : ListsTo k s name len → AreUnopened (tier k s) (opened_of after)
+      mine : ListsTo k s name len → AreUnopened (tier k s) (shows after).opened
       mine to =
           let f = contains_map (list_at k s) to.entry to.within in
           let named : file_of (shelf_of (tier k s)) f.0.entry ≡ name = ap (λ (e : Entry). file_of (shelf_of (tier k s)) e) f.2 ∙ to.named in
           let longer : len ≤ f.0.entry.len = subst (λ (e : Entry). len ≤ e.len) (sym f.2) to.longer in
           let le = here told in
-          unopened_listed g (tier k s) f.0 (files_of d) (opened_of d) (opened_of after) (past_of d) valid safe f.1
-          (subst (λ (n : Name). opened_of after n ≤ max (opened_of d n) f.0.entry.len) (sym named) (omega (arith, le, longer)))
+          unopened_listed g (tier k s) f.0 (shows d) (shows after).opened valid safe f.1
+          (subst (λ (n : Name). (shows after).opened n ≤ max ((shows d).opened n) f.0.entry.len) (sym named) (omega (arith, le, longer)))
           (λ n apart. others told n (λ is. apart (is ∙ sym named)))
 
   -- a name that is listed nowhere shorter
@@ -182,13 +182,13 @@ module _ {S : Type 0} (files_of : S → Files) (opened_of : S → Name → ℕ) 
             let short = subst (λ (e : Entry). file_of (shelf_of (tier k s)) e ≡ name → len ≤ e.len) same (spares k low j f.entry (let long = length-map (list_at k s) entry_of in omega (arith, lt, long))) in
             let long = short is in
             let le = here told in
-            let is_new : opened_of after n ≡ opened_of after name = ap (opened_of after) is in
-            let is_old : opened_of d n ≡ opened_of d name = ap (opened_of d) is in omega (arith, le, long, was, is_new, is_old)
-        | inr apart ↦ let is : opened_of after n ≡ opened_of d n = others told n apart in omega (arith, is, was)
+            let is_new : (shows after).opened n ≡ (shows after).opened name = ap (shows after).opened is in
+            let is_old : (shows d).opened n ≡ (shows d).opened name = ap (shows d).opened is in omega (arith, le, long, was, is_new, is_old)
+        | inr apart ↦ let is : (shows after).opened n ≡ (shows d).opened n = others told n apart in omega (arith, is, was)
       ]
 
   stored_still : IsTrue tells → (s : Stores) → Stays s → (k : ℕ) → k < 3 → (m : ManifestState) → IsStoredAt old m (tier k s) → IsStoredAt new m (tier k s)
-  stored_still told s stays k low m stored = tier_read (files_of d) (files_of after) (opened_of d) (opened_of after) (past_of d) (past_of after) (reads told) m.granularity m.journal (tier k s) stored (stays m.granularity k low stored.valid stored.safe)
+  stored_still told s stays k low m stored = tier_read (shows d) (shows after) (reads told) m.granularity m.journal (tier k s) stored (stays m.granularity k low stored.valid stored.safe)
 
   module _ (three : length ms ≡ 3) where
     low_at : (k : ℕ) (m : ManifestState) → slice_get ms k ≡ Some m → k < 3
@@ -196,7 +196,7 @@ module _ {S : Type 0} (files_of : S → Files) (opened_of : S → Name → ℕ) 
 
     all_still : IsTrue tells → (s : Stores) → Stays s → AllStored old s → AllStored new s
     all_still told s stays stored = record {
-      rows = catalogue_read (files_of d) (files_of after) (opened_of d) (opened_of after) (past_of d) (past_of after) (reads told) c.journal s.rows stored.rows;
+      rows = catalogue_read (shows d) (shows after) (reads told) c.journal s.rows stored.rows;
       each = λ k m there. stored_still told s stays k (low_at k m there) m (stored.each k m there);
     }
 
@@ -204,7 +204,7 @@ module _ {S : Type 0} (files_of : S → Files) (opened_of : S → Name → ℕ) 
     rows_unsure told one other stays stays_other unsure =
         let quiet = reads told in
         record {
-          rows = catalogue_unsure_stays (λ a b. b ≡ a) c.journal (files_of d) (files_of after) (opened_of d) (opened_of after) (past_of d) (past_of after) quiet.passes (quietly _ _ _ _ _ _ quiet c.journal catalogue_name unsure.rows.named refl) one.rows other.rows unsure.rows;
+          rows = catalogue_unsure_stays (λ a b. b ≡ a) c.journal (shows d) (shows after) quiet.passes (quietly _ _ quiet c.journal catalogue_name unsure.rows.named refl) one.rows other.rows unsure.rows;
           each = λ k m there. stored_still told one stays k (low_at k m there) m (unsure.each k m there);
           each_after = λ k m there. stored_still told other stays_other k (low_at k m there) m (unsure.each_after k m there);
         }
@@ -213,10 +213,10 @@ module _ {S : Type 0} (files_of : S → Files) (opened_of : S → Name → ℕ) 
     place_unsure told i m one other low stays stays_other unsure =
         let quiet = reads told in
         record {
-          rows = catalogue_read (files_of d) (files_of after) (opened_of d) (opened_of after) (past_of d) (past_of after) quiet c.journal one.rows unsure.rows;
-          list = tier_unsure_stays (λ a b. b ≡ a) m.journal (files_of d) (files_of after) (opened_of d) (opened_of after) (past_of d) (past_of after) quiet.passes (quietly _ _ _ _ _ _ quiet m.journal (manifest_name (i + 1)) unsure.list.named refl) m.granularity (tier i one) (tier i other) unsure.list
-              (safe_read (tier i one) (files_of d) (files_of after) (opened_of d) (opened_of after) (past_of d) (past_of after) unsure.list.safe quiet.passes quiet.same (stays m.granularity i low unsure.list.valid unsure.list.safe))
-              (safe_read (tier i other) (files_of d) (files_of after) (opened_of d) (opened_of after) (past_of d) (past_of after) unsure.list.safe_after quiet.passes quiet.same (stays_other m.granularity i low unsure.list.valid_after unsure.list.safe_after));
+          rows = catalogue_read (shows d) (shows after) quiet c.journal one.rows unsure.rows;
+          list = tier_unsure_stays (λ a b. b ≡ a) m.journal (shows d) (shows after) quiet.passes (quietly _ _ quiet m.journal (manifest_name (i + 1)) unsure.list.named refl) m.granularity (tier i one) (tier i other) unsure.list
+              (safe_read (tier i one) (shows d) (shows after) unsure.list.safe quiet.passes quiet.same (stays m.granularity i low unsure.list.valid unsure.list.safe))
+              (safe_read (tier i other) (shows d) (shows after) unsure.list.safe_after quiet.passes quiet.same (stays_other m.granularity i low unsure.list.valid_after unsure.list.safe_after));
           others = λ k n there apart. stored_still told one stays k (low_at k n there) n (unsure.others k n there apart);
         }
 
@@ -269,31 +269,31 @@ opened_most was now len is = omega (arith, is)
 -- CALLS THAT ONLY READ
 
 -- whatever stood so does so still
-module _ {S : Type 0} (files_of : S → Files) (opened_of : S → Name → ℕ) (past_of : S → Past) (faults_of : S → ℕ) (tells : Bool) (c : CatalogueState) (ms : List ManifestState) (d after : S) (passes : IsTrue tells → Passes (λ a b. b ≡ a) (past_of d) (past_of after)) (same : IsTrue tells → files_of after ≡ files_of d) (unopened : IsTrue tells → opened_of after ≡ opened_of d) where
+module _ {S : Type 0} (shows : S → Standing) (faults_of : S → ℕ) (tells : Bool) (c : CatalogueState) (ms : List ManifestState) (d after : S) (passes : IsTrue tells → Passes (λ a b. b ≡ a) (shows d).past (shows after).past) (same : IsTrue tells → (shows after).files ≡ (shows d).files) (unopened : IsTrue tells → (shows after).opened ≡ (shows d).opened) where
   abbrev any : Name
   any = (1, [])
 
-  unopened_at : IsTrue tells → (n : Name) → opened_of after n ≡ opened_of d n
+  unopened_at : IsTrue tells → (n : Name) → (shows after).opened n ≡ (shows d).opened n
   unopened_at told n = ap (λ (o : Name → ℕ). o n) (unopened told)
 
-  all_stay : (s : Stores) → IsTrue tells → (g : Granularity) (k : ℕ) → k < 3 → AreHeld g (tier k s) → AreSafe (tier k s) (files_of d) (opened_of d) (past_of d) → AreUnopened (tier k s) (opened_of after)
+  all_stay : (s : Stores) → IsTrue tells → (g : Granularity) (k : ℕ) → k < 3 → AreHeld g (tier k s) → AreSafe (tier k s) (shows d) → AreUnopened (tier k s) (shows after).opened
   all_stay s told g k low valid safe j f lt =
       let is = unopened_at told (file_of (shelf_of (tier k s)) (get_or (list_at k s) j f).entry) in
       let le = safe.unopened j f lt in omega (arith, is, le)
 
-  pub read_has : (one : Stores) → Has tells (seen_on files_of opened_of past_of faults_of c ms d) one → Has tells (seen_on files_of opened_of past_of faults_of c ms after) one
-  read_has one has = has_still files_of opened_of past_of faults_of tells c ms d after any 0 (omega arith) passes same (λ told. unopened_most (opened_of d) (opened_of after) any 0 (unopened told)) (λ told n apart. unopened_at told n) one (all_stay one) has
+  pub read_has : (one : Stores) → Has tells (seen_on shows faults_of c ms d) one → Has tells (seen_on shows faults_of c ms after) one
+  read_has one has = has_still shows faults_of tells c ms d after any 0 (omega arith) passes same (λ told. unopened_most (shows d).opened (shows after).opened any 0 (unopened told)) (λ told n apart. unopened_at told n) one (all_stay one) has
 
-  pub read_open : (one other : Stores) → IsOpen tells (seen_on files_of opened_of past_of faults_of c ms d) one other → IsOpen tells (seen_on files_of opened_of past_of faults_of c ms after) one other
+  pub read_open : (one other : Stores) → IsOpen tells (seen_on shows faults_of c ms d) one other → IsOpen tells (seen_on shows faults_of c ms after) one other
   read_open one other (inl has) = inl (read_has one has)
-  read_open one other (inr doubt) = inr (doubts_still files_of opened_of past_of faults_of tells c ms d after any 0 (omega arith) passes same (λ told. unopened_most (opened_of d) (opened_of after) any 0 (unopened told)) (λ told n apart. unopened_at told n) one other (all_stay one) (all_stay other) doubt)
+  read_open one other (inr doubt) = inr (doubts_still shows faults_of tells c ms d after any 0 (omega arith) passes same (λ told. unopened_most (shows d).opened (shows after).opened any 0 (unopened told)) (λ told n apart. unopened_at told n) one other (all_stay one) (all_stay other) doubt)
 
 -- READING FILES
 
 -- what is held is so still when files were read
-module _ {S : Type 0} (files_of : S → Files) (opened_of : S → Name → ℕ) (past_of : S → Past) (faults_of : S → ℕ) (tells : Bool) (c : CatalogueState) (ms : List ManifestState) (d after : S) (reads : IsTrue tells → ReadsDisk (files_of d) (files_of after) (opened_of d) (opened_of after) (past_of d) (past_of after)) where
-  pub has_read : (held : Stores) → Has tells (seen_on files_of opened_of past_of faults_of c ms d) held → Has tells (seen_on files_of opened_of past_of faults_of c ms after) held
-  has_read held has = read_has files_of opened_of past_of faults_of tells c ms d after (λ told. (reads told).any_moment) (λ told. (reads told).same) (λ told. (reads told).same_opened) held has
+module _ {S : Type 0} (shows : S → Standing) (faults_of : S → ℕ) (tells : Bool) (c : CatalogueState) (ms : List ManifestState) (d after : S) (reads : IsTrue tells → ReadsDisk (shows d) (shows after)) where
+  pub has_read : (held : Stores) → Has tells (seen_on shows faults_of c ms d) held → Has tells (seen_on shows faults_of c ms after) held
+  has_read held has = read_has shows faults_of tells c ms d after (λ told. (reads told).any_moment) (λ told. (reads told).same) (λ told. (reads told).same_opened) held has
 
 -- what is told of a variable is so
 module _ {R : Type 0} (tells : Bool) (name : List ℕ) (tail : List Sample) (held : Stores) where
@@ -321,15 +321,15 @@ module _ {R : Type 0} (tells : Bool) (name : List ℕ) (tail : List Sample) (hel
 -- ASKING WHICH FILES ARE THERE
 
 -- a call that only read
-pub reads_look : {S A : Type 0} (files_of : S → Files) (opened_of : S → Name → ℕ) (past_of : S → Past) (faults_of : S → ℕ) (tells : Bool) (c : CatalogueState) (ms : List ManifestState) (limbo : List Retired) (d after : S) (r : Result A DiskErr)
-    → (IsTrue tells → ReadsDisk (files_of d) (files_of after) (opened_of d) (opened_of after) (past_of d) (past_of after)) → faults_of d ≤ faults_of after → (r ≡ Err Fault → Rose (faults_of d) (faults_of after))
-    → OnlyLooks tells (beside (seen_on files_of opened_of past_of faults_of c ms d) limbo) (beside (seen_on files_of opened_of past_of faults_of c ms after) limbo) (end_of_disk {A = A} r)
-reads_look {S} {A} files_of opened_of past_of faults_of tells c ms limbo d after r reads more cause = record {
-  kept = λ held was. has_read files_of opened_of past_of faults_of tells c ms d after reads held was;
+pub reads_look : {S A : Type 0} (shows : S → Standing) (faults_of : S → ℕ) (tells : Bool) (c : CatalogueState) (ms : List ManifestState) (limbo : List Retired) (d after : S) (r : Result A DiskErr)
+    → (IsTrue tells → ReadsDisk (shows d) (shows after)) → faults_of d ≤ faults_of after → (r ≡ Err Fault → Rose (faults_of d) (faults_of after))
+    → OnlyLooks tells (beside (seen_on shows faults_of c ms d) limbo) (beside (seen_on shows faults_of c ms after) limbo) (end_of_disk {A = A} r)
+reads_look {S} {A} shows faults_of tells c ms limbo d after r reads more cause = record {
+  kept = λ held was. has_read shows faults_of tells c ms d after reads held was;
   catalogue = refl;
   manifests = refl;
   limbo = refl;
-  shown = read_shown files_of opened_of past_of faults_of tells c ms limbo d after (λ told. (reads told).same);
+  shown = read_shown shows faults_of tells c ms limbo d after (λ told. (reads told).same);
   leaves = read_leaves tells _ _ refl (λ told. (reads told).same) (λ told. (reads told).same_opened) (λ told. (reads told).any_moment);
   opened = λ told. (reads told).same_opened;
   reads = only_reads tells _ _ r (λ told. (reads told).same) (λ told. (reads told).any_moment) more cause;
@@ -453,13 +453,13 @@ held_less at n len h = record {
   rows_in_doubt = λ unsound. less_to _ n len (h.rows_in_doubt unsound);
 }
 
-module _ {S : Type 0} (files_of : S → Files) (opened_of : S → Name → ℕ) (past_of : S → Past) (faults_of : S → ℕ) (tells : Bool) (c : CatalogueState) (ms : List ManifestState) (limbo : List Retired) (d after : S) (name : Name) (len : ℕ) (there : IsThereTo (beside (seen_on files_of opened_of past_of faults_of c ms d) limbo) name len)
-    (passes : IsTrue tells → Passes (λ a b. b ≡ a) (past_of d) (past_of after)) (same : IsTrue tells → files_of after ≡ files_of d) (here : IsTrue tells → opened_of after name ≤ max (opened_of d name) len) (others : IsTrue tells → (n : Name) → n ≢ name → opened_of after n ≡ opened_of d n) where
+module _ {S : Type 0} (shows : S → Standing) (faults_of : S → ℕ) (tells : Bool) (c : CatalogueState) (ms : List ManifestState) (limbo : List Retired) (d after : S) (name : Name) (len : ℕ) (there : IsThereTo (beside (seen_on shows faults_of c ms d) limbo) name len)
+    (passes : IsTrue tells → Passes (λ a b. b ≡ a) (shows d).past (shows after).past) (same : IsTrue tells → (shows after).files ≡ (shows d).files) (here : IsTrue tells → (shows after).opened name ≤ max ((shows d).opened name) len) (others : IsTrue tells → (n : Name) → n ≢ name → (shows after).opened n ≡ (shows d).opened n) where
   abbrev at : Seen
-  at = seen_on files_of opened_of past_of faults_of c ms d
+  at = seen_on shows faults_of c ms d
 
   abbrev later : Seen
-  later = seen_on files_of opened_of past_of faults_of c ms after
+  later = seen_on shows faults_of c ms after
 
   -- LIMBO
 
@@ -517,10 +517,10 @@ module _ {S : Type 0} (files_of : S → Files) (opened_of : S → Name → ℕ) 
     pub opened_whole : (stands : Bool) (files : List Filed) → AreWhole i tells at limbo stands files → (left : List Filed) × AreWhole i tells later limbo stands left
     opened_whole stands files whole = (
       left,
-      spared_whole i low tells (beside at limbo) (beside later limbo) known.three (keeps_same c.rows) refl (λ n. Unit {0}) (λ told n spared. ap (λ (f : Files). f n) (same told)) (λ told. passes_weaker (λ a b. b ≡ a) (λ a b. (n : Name) → Unit {0} → b n ≡ a n) (past_of d) (past_of after) (passes told) (λ a b was is n spared. ap (λ (f : Files). f n) is)) stands left
+      spared_whole i low tells (beside at limbo) (beside later limbo) known.three (keeps_same c.rows) refl (λ n. Unit {0}) (λ told n spared. ap (λ (f : Files). f n) (same told)) (λ told. passes_weaker (λ a b. b ≡ a) (λ a b. (n : Name) → Unit {0} → b n ≡ a n) (shows d).past (shows after).past (passes told) (λ a b was is n spared. ap (λ (f : Files). f n) is)) stands left
           among (λ k x lt. All-contains (λ (f : Filed). IsOfLimbo i limbo f.entry) files (get_or left k x) whole.from (within k x lt)) (rise_filter keep files whole.rise)
           (λ m there. filed_fewer i c.rows files left stands within m.granularity (whole.filed m there))
-          (λ told. safe_fewer i c.rows files left stands within (files_of d) (opened_of d) (past_of d) (whole.safe told))
+          (λ told. safe_fewer i c.rows files left stands within (shows d) (whole.safe told))
           (λ k x lt. tt) unopened,
     )
       where
@@ -544,13 +544,13 @@ module _ {S : Type 0} (files_of : S → Files) (opened_of : S → Name → ℕ) 
             by_test u u_in r same_entry named true is = inr (subst (Contains (map entry_of left)) same_entry (contains_entry left u (contains_filter keep files u u_in is)))
             by_test u u_in r same_entry named false is = inl (held_later r.name (subst (λ (n : Name). IsHeldTo at n 0) named (not_kept u is)))
 
-        unopened : IsTrue tells → All (λ (f : Filed). opened_of after (name_at i c.rows f) ≤ f.entry.len) left
+        unopened : IsTrue tells → All (λ (f : Filed). (shows after).opened (name_at i c.rows f) ≤ f.entry.len) left
         unopened told k x lt = elim (name_cases (name_at i c.rows f) name) [
-          | inr apart ↦ let is : opened_of after (name_at i c.rows f) ≡ opened_of d (name_at i c.rows f) = others told (name_at i c.rows f) apart in omega (arith, is, was)
+          | inr apart ↦ let is : (shows after).opened (name_at i c.rows f) ≡ (shows d).opened (name_at i c.rows f) = others told (name_at i c.rows f) apart in omega (arith, is, was)
           | inl is ↦
               let long = long_enough is in
-              let is_after : opened_of after (name_at i c.rows f) ≡ opened_of after name = ap (opened_of after) is in
-              let is_before : opened_of d (name_at i c.rows f) ≡ opened_of d name = ap (opened_of d) is in
+              let is_after : (shows after).opened (name_at i c.rows f) ≡ (shows after).opened name = ap (shows after).opened is in
+              let is_before : (shows d).opened (name_at i c.rows f) ≡ (shows d).opened name = ap (shows d).opened is in
               let le = here told in
               omega (arith, is_after, is_before, le, was, long)
         ]
@@ -561,8 +561,8 @@ module _ {S : Type 0} (files_of : S → Files) (opened_of : S → Name → ℕ) 
             f_in : Contains files f
             f_in = within k x lt
 
-            was : opened_of d (name_at i c.rows f) ≤ f.entry.len
-            was = All-contains (λ (y : Filed). opened_of d (name_at i c.rows y) ≤ y.entry.len) files f (whole.safe told).unopened f_in
+            was : (shows d).opened (name_at i c.rows f) ≤ f.entry.len
+            was = All-contains (λ (y : Filed). (shows d).opened (name_at i c.rows y) ≤ y.entry.len) files f (whole.safe told).unopened f_in
 
             not_held : (n : Name) (k : ℕ) → name_at i c.rows f ≡ n → IsHeldTo at n k → ⊥
             not_held n l is h = kept f (filter_passes keep files k x lt) (subst (λ (m : Name). IsHeldTo at m 0) (sym is) (held_less at n l h))
@@ -646,17 +646,17 @@ module _ {S : Type 0} (files_of : S → Files) (opened_of : S → Name → ℕ) 
           omega (arith, more, same_len, longer)
     ]
 
-    unopened_files : IsTrue tells → AreUnopened (of_files i held files) (opened_of after)
+    unopened_files : IsTrue tells → AreUnopened (of_files i held files) (shows after).opened
     unopened_files told k x lt =
         let f : Filed = get_or files k x in
         let n = file_of (i + 1, held.rows) f.entry in
         let was = (runs.ahead.safe told).unopened k x lt in
         elim (name_cases n name) [
-          | inr apart ↦ let is : opened_of after n ≡ opened_of d n = others told n apart in omega (arith, is, was)
+          | inr apart ↦ let is : (shows after).opened n ≡ (shows d).opened n = others told n apart in omega (arith, is, was)
           | inl is ↦
               let long = reaches f (Contains-get_or files k x lt) is in
-              let is_after : opened_of after n ≡ opened_of after name = ap (opened_of after) is in
-              let is_before : opened_of d n ≡ opened_of d name = ap (opened_of d) is in
+              let is_after : (shows after).opened n ≡ (shows after).opened name = ap (shows after).opened is in
+              let is_before : (shows d).opened n ≡ (shows d).opened name = ap (shows d).opened is in
               let le = here told in
               omega (arith, is_after, is_before, le, was, long)
         ]
@@ -679,7 +679,7 @@ module _ {S : Type 0} (files_of : S → Files) (opened_of : S → Name → ℕ) 
       ahead = record {
         rise = runs.ahead.rise;
         filed = runs.ahead.filed;
-        safe = λ told. safe_read (of_files i held files) (files_of d) (files_of after) (opened_of d) (opened_of after) (past_of d) (past_of after) (runs.ahead.safe told) (passes told) (same told) (unopened_files told);
+        safe = λ told. safe_read (of_files i held files) (shows d) (shows after) (runs.ahead.safe told) (passes told) (same told) (unopened_files told);
         longer = runs.ahead.longer;
         longer_retired = runs.ahead.longer_retired;
       };

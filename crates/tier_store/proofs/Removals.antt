@@ -38,6 +38,7 @@ use Rattle.std.specs.Result.{result_and}
 use Rattle.std.specs.List.Retain.{IsFiltered, ReturnsInTurn}
 use Rattle.std.proofs.lemmas.List.{get_or_default, take_more}
 use Rattle.disk_model.specs.declared.disk.DiskErr.{DiskErr}
+use Rattle.gate_journal.specs.Standing.{Standing}
 use Rattle.pv_catalog.specs.Catalogue.{CatalogueState}
 use Rattle.store_manifest.specs.Listing.{OfSeries}
 use Rattle.std.proofs.lemmas.List.Quantifiers.{all_pairs_push}
@@ -442,12 +443,12 @@ read_fewer opened after same n = let is : after n ≡ opened n = ap (λ (o : Nam
 -- ONE AFTER ANOTHER
 
 module _ (pins : FinMap nat_cmp PinOf) (copied : List Name) (limbo : List Retired) where
-  module _ (files mid later : Files) (opened between after : Name → ℕ) (old now new : Past) (so_far : Removes pins copied limbo files mid opened between old now) where
-    pub removes_read : later ≡ mid → after ≡ between → Passes (λ a b. b ≡ a) now new → Removes pins copied limbo files later opened after old new
+  module _ (old now new : Standing) (so_far : Removes pins copied limbo old now) where
+    pub removes_read : new.files ≡ now.files → new.opened ≡ now.opened → Passes (λ a b. b ≡ a) now.past new.past → Removes pins copied limbo old new
     removes_read same opened_same passes = record {
-      any_moment = spares_then pins copied limbo old now new so_far.any_moment (passes_weaker (λ a b. b ≡ a) (Spares pins copied limbo) now new passes (λ a c left step n other. ap (λ (f : Files). f n) step));
+      any_moment = spares_then pins copied limbo old.past now.past new.past so_far.any_moment (passes_weaker (λ a b. b ≡ a) (Spares pins copied limbo) now.past new.past passes (λ a c left step n other. ap (λ (f : Files). f n) step));
       spares = λ n other. ap (λ (f : Files). f n) same ∙ so_far.spares n other;
-      fewer = λ n. let a = read_fewer between after opened_same n in let b = so_far.fewer n in omega (arith, a, b);
+      fewer = λ n. let a = read_fewer now.opened new.opened opened_same n in let b = so_far.fewer n in omega (arith, a, b);
     }
 
 -- no crash brings back what is removed and synced
@@ -612,17 +613,17 @@ found_still Goes limbo files later names same found = record {
 
 -- THE REMOVAL
 
-pub names_none : (names : List Name) (files : Files) (opened : Name → ℕ) (past : Past) → RemovesNames names files files opened opened past past
-names_none names files opened past = record {
-  any_moment = passes_none (SparesNames names) past (λ a left n other. refl);
+pub names_none : (names : List Name) (disk : Standing) → RemovesNames names disk disk
+names_none names disk = record {
+  any_moment = passes_none (SparesNames names) disk.past (λ a left n other. refl);
   spares = λ n other. refl;
   fewer = λ n. omega arith;
 }
 
-pub names_more : (names : List Name) (files mid later : Files) (opened between after : Name → ℕ) (old now new : Past) (name : Name) → Contains names name → RemovesNames names files mid opened between old now → Elsewhere name mid later → Passes (Elsewhere name) now new → ((n : Name) → after n ≤ between n) → RemovesNames names files later opened after old new
-names_more names files mid later opened between after old now new name within so_far elsewhere passes fewer = record {
-  any_moment = passes_then (SparesNames names) (SparesNames names) old now new so_far.any_moment (passes_weaker (Elsewhere name) (SparesNames names) now new passes (λ a c left step. apart a c step)) (λ a b c was one left two n other. two n other ∙ one n other);
-  spares = λ n other. apart mid later elsewhere n other ∙ so_far.spares n other;
+pub names_more : (names : List Name) (old now new : Standing) (name : Name) → Contains names name → RemovesNames names old now → Elsewhere name now.files new.files → Passes (Elsewhere name) now.past new.past → ((n : Name) → new.opened n ≤ now.opened n) → RemovesNames names old new
+names_more names old now new name within so_far elsewhere passes fewer = record {
+  any_moment = passes_then (SparesNames names) (SparesNames names) old.past now.past new.past so_far.any_moment (passes_weaker (Elsewhere name) (SparesNames names) now.past new.past passes (λ a c left step. apart a c step)) (λ a b c was one left two n other. two n other ∙ one n other);
+  spares = λ n other. apart now.files new.files elsewhere n other ∙ so_far.spares n other;
   fewer = λ n. let a = fewer n in let b = so_far.fewer n in omega (arith, a, b);
 }
   where
@@ -645,25 +646,25 @@ pub both_err : (a b : Result (Unit {0}) DiskErr) (P : Type 0) → (IsErr a → P
 both_err (Ok u) b P one two is = two is
 both_err (Err e) b P one two is = one refl
 
-module _ (pins : FinMap nat_cmp PinOf) (copied : List Name) (limbo : List Retired) (names : List Name) (files later : Files) (opened after : Name → ℕ) (old new : Past) (found : AreRemovable (IsUseless pins copied) limbo files names) (removes : RemovesNames names files later opened after old new) where
+module _ (pins : FinMap nat_cmp PinOf) (copied : List Name) (limbo : List Retired) (names : List Name) (old new : Standing) (found : AreRemovable (IsUseless pins copied) limbo old.files names) (removes : RemovesNames names old new) where
   own_spared : (a b : Files) → SparesNames names a b → Spares pins copied limbo a b
   own_spared a b step n other = step n (λ within.
       let o = All-contains (λ (m : Name). (r : Retired) × Contains limbo r × (r.name ≡ m) × IsUseless pins copied r) names n found.own within in
       o.3 (subst (IsNeeded pins copied) (sym o.2) (other o.0 o.1 o.2)))
 
-  pub own_removed : Removes pins copied limbo files later opened after old new
+  pub own_removed : Removes pins copied limbo old new
   own_removed = record {
-    any_moment = passes_weaker (SparesNames names) (Spares pins copied limbo) old new removes.any_moment (λ a c left step. own_spared a c step);
-    spares = own_spared files later removes.spares;
+    any_moment = passes_weaker (SparesNames names) (Spares pins copied limbo) old.past new.past removes.any_moment (λ a c left step. own_spared a c step);
+    spares = own_spared old.files new.files removes.spares;
     fewer = removes.fewer;
   }
 
-  pub own_gone : All (λ (n : Name). later n ≡ None) names → AreFree pins copied (λ n. later n ≡ None) limbo
+  pub own_gone : All (λ (n : Name). new.files n ≡ None) names → AreFree pins copied (λ n. new.files n ≡ None) limbo
   own_gone gone k d lt useless =
       let n : Name = (get_or limbo k d).name in
       elim (found.each k d lt useless) [
-        | inl within ↦ All-contains (λ (m : Name). later m ≡ None) names n gone within
-        | inr none ↦ removes.spares n (λ within. none_not_some (files n) none (All-contains (λ (m : Name). IsSome (files m)) names n found.there within)) ∙ none
+        | inl within ↦ All-contains (λ (m : Name). new.files m ≡ None) names n gone within
+        | inr none ↦ removes.spares n (λ within. none_not_some (old.files n) none (All-contains (λ (m : Name). IsSome (old.files m)) names n found.there within)) ∙ none
       ]
 
 -- The entries of files in limbo that their store doesn't list, one after another

@@ -7,10 +7,11 @@ use Rattle.std.specs.Ordering.{nat_cmp}
 use Rattle.std.proofs.lemmas.List.Elements.{All-contains, Contains-get_or, Contains-append_left, All-filter, All-head, All-tail, All-take, All-append, Contains-append_cases, Contains-append_right, filter_passes}
 use Rattle.std.proofs.lemmas.Option.{same_Some}
 use Rattle.disk_model.specs.Files.{Name, Files, Rose}
-use Rattle.disk_model.specs.Past.{Past, Passes, Only}
+use Rattle.disk_model.specs.Past.{Passes, Only}
 use Rattle.disk_model.proofs.Passing.{passes_weaker, passes_then}
 use Rattle.gate_journal.specs.Generations.{IsOwn}
 use Rattle.gate_journal.specs.Journal.{JournalState}
+use Rattle.gate_journal.specs.Standing.{Standing, standing}
 use Rattle.gate_journal.proofs.Keeping.{says_stays}
 use Rattle.gate_journal.proofs.Owning.{own_store}
 use Rattle.partition_names.specs.declared.granularity.Granularity.{Granularity}
@@ -28,7 +29,7 @@ use Rattle.durable_write.specs.Held.{Filed, Held, AreIn, bytes_of, entry_of, fil
 use Rattle.durable_write.specs.Stored.{Holds, AreLong, CatalogueStored, TierStored}
 use Rattle.durable_write.proofs.Staying.{Untouched, catalogue_stays, tier_stays, safe_stays, same_place, contains_map, same_cases}
 use Rattle.tier_store.specs.Stores.{Stores, list_at, tier}
-use Rattle.tier_store.specs.Seen.{Seen, granularities, seen, seen_on}
+use Rattle.tier_store.specs.Seen.{Seen, granularities, seen, seen_on, on_disk}
 use Rattle.tier_store.specs.declared.store.TierStore.{TierStore}
 use Rattle.disk_model.specs.declared.disk.Disk.{Ghosts}
 use Rattle.tier_store.specs.Change.{IsKnown, Has, HoldsBy, EndsFrom, Changes, Call}
@@ -83,26 +84,26 @@ module _ (Spared : Name → Type 0) (journals : (n : Name) → n.0 ≡ 0 → Spa
     files = in_spared t a c spared step holds.files;
   }
 
-  module _ (files later : Files) (opened after : Name → ℕ) (old new : Past) (passes : Passes Step old new) (same : Step files later) (fewer : (n : Name) → after n ≤ opened n) where
-    untouched : (journal : JournalState) (own : Name) → journal.name ≡ own → own.0 ≡ 0 → Untouched Step journal files later opened after
+  module _ (old new : Standing) (passes : Passes Step old.past new.past) (same : Step old.files new.files) (fewer : (n : Name) → new.opened n ≤ old.opened n) where
+    untouched : (journal : JournalState) (own : Name) → journal.name ≡ own → own.0 ≡ 0 → Untouched Step journal old.files new.files old.opened new.opened
     untouched journal own is zero_store =
         let spared : (n : Name) → IsOwn journal.name n → Spared n = λ n own. journals n (own_store journal.name n own ∙ ap (λ (m : Name). m.0) is ∙ zero_store) in
         record { step = λ a c step n own. step n (spared n own); same = λ n own. same n (spared n own); fewer = λ n own. fewer n }
 
-    rows_spared : (c : JournalState) (rows : List Row) → CatalogueStored c files opened old rows → CatalogueStored c later after new rows
-    rows_spared c rows stored = catalogue_stays Step c files later opened after old new passes (untouched c catalogue_name stored.named refl) rows stored
+    rows_spared : (c : JournalState) (rows : List Row) → CatalogueStored c old rows → CatalogueStored c new rows
+    rows_spared c rows stored = catalogue_stays Step c old new passes (untouched c catalogue_name stored.named refl) rows stored
 
-    tier_spared : (g : Granularity) (m : JournalState) (t : Held) → AreSpared t → TierStored g m files opened old t → TierStored g m later after new t
+    tier_spared : (g : Granularity) (m : JournalState) (t : Held) → AreSpared t → TierStored g m old t → TierStored g m new t
     tier_spared g m t spared stored =
-        tier_stays Step m files later opened after old new passes (untouched m (manifest_name t.store) stored.named refl) g t stored
-        (safe_stays t Step files later opened after old new stored.safe passes (λ a c step. in_spared t a c spared step) (long_spared t files later spared same stored.safe.long) fewer)
+        tier_stays Step m old new passes (untouched m (manifest_name t.store) stored.named refl) g t stored
+        (safe_stays t Step old new stored.safe passes (λ a c step. in_spared t a c spared step) (long_spared t old.files new.files spared same stored.safe.long) fewer)
 
 -- THE MEMORY IS THE SAME
 
-abbrev pub after_disk : Seen → Files → (Name → ℕ) → Past → ℕ → Seen
-after_disk at files opened past faults = record { catalogue = at.catalogue; manifests = at.manifests; files = files; opened = opened; past = past; faults = faults }
+abbrev pub after_disk : Seen → Standing → ℕ → Seen
+after_disk at disk faults = record { catalogue = at.catalogue; manifests = at.manifests; files = disk.files; opened = disk.opened; past = disk.past; faults = faults }
 
-pub same_memory : (old new : Seen) → new.catalogue ≡ old.catalogue → new.manifests ≡ old.manifests → after_disk old new.files new.opened new.past new.faults ≡ new
+pub same_memory : (old new : Seen) → new.catalogue ≡ old.catalogue → new.manifests ≡ old.manifests → after_disk old (on_disk new) new.faults ≡ new
 same_memory old new rows lists i = record { catalogue = sym rows i; manifests = sym lists i; files = new.files; opened = new.opened; past = new.past; faults = new.faults }
 
 -- the memory and what reads give are the same
@@ -113,7 +114,7 @@ same_shown tells old new rows lists limbo same = subst (λ (s : Seen). KeepsShow
     (λ told. fronts_same old mid (same told)))
   where
     mid : SeenAll
-    mid = beside (after_disk old.stores new.stores.files new.stores.opened new.stores.past new.stores.faults) new.limbo
+    mid = beside (after_disk old.stores (on_disk new.stores) new.stores.faults) new.limbo
 
 -- more files are in limbo
 pub more_shown : (tells : Bool) (old new : SeenAll) (more : List Retired) → new.stores ≡ old.stores → new.limbo ≡ old.limbo ++ more → KeepsShown tells old new
@@ -127,8 +128,8 @@ more_shown tells old new more same limbo = subst (λ (all : SeenAll). KeepsShown
 })
 
 -- stores of these parts
-pub seen_new : {D R : Type 0} (disk : Ghosts D R) (store : TierStore D R) (catalogue : CatalogueState) (manifests : List ManifestState) (d : D) → store.catalogue ≡ catalogue → store.manifests.items ≡ manifests → store.disk ≡ d → seen disk store ≡ seen_on disk.files disk.opened disk.past disk.faults catalogue manifests d
-seen_new {D} {R} disk store catalogue manifests d rows lists is i = seen_on disk.files disk.opened disk.past disk.faults (rows i) (lists i) (is i)
+pub seen_new : {D R : Type 0} (disk : Ghosts D R) (store : TierStore D R) (catalogue : CatalogueState) (manifests : List ManifestState) (d : D) → store.catalogue ≡ catalogue → store.manifests.items ≡ manifests → store.disk ≡ d → seen disk store ≡ seen_on (standing disk) disk.faults catalogue manifests d
+seen_new {D} {R} disk store catalogue manifests d rows lists is i = seen_on (standing disk) disk.faults (rows i) (lists i) (is i)
 
 -- NAMES THAT ARE LISTED
 
@@ -144,13 +145,13 @@ listed_name at s k m f known here within = record {
 
 -- THE SWEEP
 
-module _ (tells : Bool) (at : Seen) (pins : FinMap nat_cmp PinOf) (copied : List Name) (limbo retired : List Retired) (stands : LimboStands at limbo) (unlisted : StayUnlisted at limbo retired) (files : Files) (opened : Name → ℕ) (past : Past) (faults : ℕ)
-    (removes : IsTrue tells → Removes pins copied retired at.files files at.opened opened at.past past) where
+module _ (tells : Bool) (at : Seen) (pins : FinMap nat_cmp PinOf) (copied : List Name) (limbo retired : List Retired) (stands : LimboStands at limbo) (unlisted : StayUnlisted at limbo retired) (seen : Standing) (faults : ℕ)
+    (removes : IsTrue tells → Removes pins copied retired (on_disk at) seen) where
   abbrev Spared : Name → Type 0
   Spared n = (r : Retired) → Contains retired r → r.name ≡ n → IsNeeded pins copied n
 
   abbrev swept : Seen
-  swept = after_disk at files opened past faults
+  swept = after_disk at seen faults
 
   journals : (n : Name) → n.0 ≡ 0 → Spared n
   journals n zero_store r within is =
@@ -171,13 +172,13 @@ module _ (tells : Bool) (at : Seen) (pins : FinMap nat_cmp PinOf) (copied : List
     disk = λ told.
         let stored = has.disk told in
         record {
-          rows = rows_spared Spared journals at.files files at.opened opened at.past past (removes told).any_moment (removes told).spares (removes told).fewer at.catalogue.journal held.rows stored.rows;
-          each = λ k m here. tier_spared Spared journals at.files files at.opened opened at.past past (removes told).any_moment (removes told).spares (removes told).fewer m.granularity m.journal (tier k held) (listed_spared held k m has.known here) (stored.each k m here);
+          rows = rows_spared Spared journals (on_disk at) seen (removes told).any_moment (removes told).spares (removes told).fewer at.catalogue.journal held.rows stored.rows;
+          each = λ k m here. tier_spared Spared journals (on_disk at) seen (removes told).any_moment (removes told).spares (removes told).fewer m.granularity m.journal (tier k held) (listed_spared held k m has.known here) (stored.each k m here);
         };
   }
 
-  pub swept_holds : (held : Stores) → Has tells at held → IsTrue tells → Passes (HoldsBy (granularities at.manifests) (λ old made. made ≡ old) held) at.past past
-  swept_holds held has told = passes_weaker (Spares pins copied retired) (HoldsBy (granularities at.manifests) (λ old made. made ≡ old) held) at.past past (removes told).any_moment (λ a c left step.
+  pub swept_holds : (held : Stores) → Has tells at held → IsTrue tells → Passes (HoldsBy (granularities at.manifests) (λ old made. made ≡ old) held) at.past seen.past
+  swept_holds held has told = passes_weaker (Spares pins copied retired) (HoldsBy (granularities at.manifests) (λ old made. made ≡ old) held) at.past seen.past (removes told).any_moment (λ a c left step.
       let was = has_left tells at held has told a left in
       inl (λ k g here. let m = manifest_of at.manifests k g here in holds_spared Spared journals g (tier k held) a c (listed_spared held k m.0 has.known m.1) step (was k g here)))
 
@@ -252,8 +253,8 @@ module _ (tells : Bool) (at : Seen) (pins : FinMap nat_cmp PinOf) (copied : List
       some = was.some;
       front = λ told. subst (Begins bytes) (sym ((removes told).spares name (λ r within is. kept_needed name r within is kept))) (was.front told);
     };
-    files = λ told. spares_kept at.files files (removes told).spares;
-    any_moment = λ told. passes_weaker (Spares pins copied retired) (SparesKept swept pins copied limbo) at.past past (removes told).any_moment (λ a c left step. spares_kept a c step);
+    files = λ told. spares_kept at.files seen.files (removes told).spares;
+    any_moment = λ told. passes_weaker (Spares pins copied retired) (SparesKept swept pins copied limbo) at.past seen.past (removes told).any_moment (λ a c left step. spares_kept a c step);
   }
 
   -- WHAT LEAVES LIMBO
@@ -269,11 +270,11 @@ module _ (tells : Bool) (at : Seen) (pins : FinMap nat_cmp PinOf) (copied : List
     count = count;
   }
 
-  pub are_gone : AreFree pins copied (λ n. Only past n None) retired → AreGone swept pins copied limbo
+  pub are_gone : AreFree pins copied (λ n. Only seen.past n None) retired → AreGone swept pins copied limbo
   are_gone free k d lt unneeded =
       let r : Retired = get_or limbo k d in
       elim (stay_cases Unlisted Listed limbo retired r unlisted (Contains-get_or limbo k d lt)) [
-        | inl within ↦ All-contains (λ (x : Retired). (IsNeeded pins copied x.name → ⊥) → Only past x.name None) retired r free within unneeded.1
+        | inl within ↦ All-contains (λ (x : Retired). (IsNeeded pins copied x.name → ⊥) → Only seen.past x.name None) retired r free within unneeded.1
         | inr listed ↦ absurd (unneeded.0 (listed_now r.name listed))
       ]
 
@@ -302,9 +303,9 @@ pins_kept tells pins copied old new leaves stand n i pin piece here there =
 -- Stores whose memory and disk are the same
 
 -- the memory and the disk are the same
-pub same_seen : {S : Type 0} (files_of : S → Files) (opened_of : S → Name → ℕ) (past_of : S → Past) (faults_of : S → ℕ) (c later : CatalogueState) (ms ns : List ManifestState) (d after : S) → later ≡ c → ns ≡ ms → after ≡ d
-    → seen_on files_of opened_of past_of faults_of c ms d ≡ seen_on files_of opened_of past_of faults_of later ns after
-same_seen {S} files_of opened_of past_of faults_of c later ms ns d after is is₂ is₃ = λ i. seen_on files_of opened_of past_of faults_of (sym is i) (sym is₂ i) (sym is₃ i)
+pub same_seen : {S : Type 0} (shows : S → Standing) (faults_of : S → ℕ) (c later : CatalogueState) (ms ns : List ManifestState) (d after : S) → later ≡ c → ns ≡ ms → after ≡ d
+    → seen_on shows faults_of c ms d ≡ seen_on shows faults_of later ns after
+same_seen {S} shows faults_of c later ms ns d after is is₂ is₃ = λ i. seen_on shows faults_of (sym is i) (sym is₂ i) (sym is₃ i)
 
 -- and what is in limbo too
 pub same_all : (at later : Seen) (limbo rest : List Retired) → at ≡ later → rest ≡ limbo → beside at limbo ≡ beside later rest
@@ -380,10 +381,10 @@ module _ (pins : FinMap nat_cmp PinOf) (files limbo left : List Retired) (stay :
   spares_left : All (Contains limbo) files → (a b : Files) → Spares pins [] files a b → Spares pins (names_in left) limbo a b
   spares_left among a b spares n other = spares n (λ r within is. inl (left_pinned n (r, within, is) (other r (All-contains (Contains limbo) files r among within) is)))
 
-  pub removes_left : All (Contains limbo) files → (was later : Files) (opened after : Name → ℕ) (old new : Past) → Removes pins [] files was later opened after old new → Removes pins (names_in left) limbo was later opened after old new
-  removes_left among was later opened after old new removes = record {
-    any_moment = passes_weaker (Spares pins [] files) (Spares pins (names_in left) limbo) old new removes.any_moment (λ a c was step. spares_left among a c step);
-    spares = spares_left among was later removes.spares;
+  pub removes_left : All (Contains limbo) files → (old new : Standing) → Removes pins [] files old new → Removes pins (names_in left) limbo old new
+  removes_left among old new removes = record {
+    any_moment = passes_weaker (Spares pins [] files) (Spares pins (names_in left) limbo) old.past new.past removes.any_moment (λ a c there step. spares_left among a c step);
+    spares = spares_left among old.files new.files removes.spares;
     fewer = removes.fewer;
   }
 

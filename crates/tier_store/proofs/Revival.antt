@@ -3,10 +3,11 @@ use Rattle.std.proofs.Common.{◌≡◌, inl, inr, true, false, Bool, ℕ, ◌�
 use Rattle.std.specs.Prelude.{All, Contains, IsTrue, slice_get, slice_set, OnErr, OnOk, Result}
 use Rattle.std.proofs.lemmas.List.Elements.{All-nil, All-cons, All-contains, All-head, All-tail, Contains-get_or, All-filter, filter_passes}
 use Rattle.disk_model.specs.Files.{Name, Files, HasFile, Rose}
-use Rattle.disk_model.specs.Past.{Past, Passes}
+use Rattle.disk_model.specs.Past.{Passes}
 use Rattle.disk_model.specs.declared.disk.DiskErr.{DiskErr}
 use Rattle.disk_model.specs.declared.disk.DiskErr.TheVariants.{Fault, Memory}
 use Rattle.gate_journal.specs.Journal.{JournalState}
+use Rattle.gate_journal.specs.Standing.{Standing}
 use Rattle.partition_names.specs.Part.{IsPart}
 use Rattle.pv_catalog.specs.Catalogue.{CatalogueState}
 use Rattle.pv_catalog.specs.declared.row.Row.{Row}
@@ -26,7 +27,7 @@ use Rattle.durable_write.proofs.Written.{contains_entry, copied_beside, entries_
 use Rattle.durable_write.proofs.Places.{found, listed_at, rise_filter}
 use Rattle.durable_write.proofs.Staying.{contains_map, filed_still, safe_grows, same_file, safe_stays, same_cases}
 use Rattle.tier_store.specs.Stores.{Stores, tier, with_list, list_at}
-use Rattle.tier_store.specs.Seen.{AtEach, Seen, seen_on, granularities}
+use Rattle.tier_store.specs.Seen.{AtEach, Seen, seen_on, granularities, on_disk}
 use Rattle.tier_store.specs.Change.{IsKnown, Has, IsOpen, HasEither, SameFiles, EndsFrom}
 use Rattle.tier_store.specs.Given.{ChangesGiven}
 use Rattle.tier_store.specs.Limbo.{IsOfPlace, IsListedName, LimboStands, ListsPlace}
@@ -93,10 +94,10 @@ pick files (e ∷ es) all =
     (one.0 ∷ more.0, ap (λ (x : Entry). x ∷ map entry_of more.0) one.2 ∙ ap (λ (l : List Entry). e ∷ l) more.1, All-cons (Contains files) one.0 more.0 one.1 more.2)
 
 -- some of the files that are safe
-safe_some : (t : Held) (back : List Filed) (files : Files) (opened : Name → ℕ) (past : Past) → All (Contains t.files) back → AreSafe t files opened past → AreSafe (having t back) files opened past
-safe_some t back files opened past known safe = record {
-  long = λ k d lt. All-contains (λ (f : Filed). HasFile files (file_of (shelf_of t) f.entry) (λ b. f.entry.len ≤ length b)) t.files (get_or back k d) safe.long (known k d lt);
-  unopened = λ k d lt. All-contains (λ (f : Filed). opened (file_of (shelf_of t) f.entry) ≤ f.entry.len) t.files (get_or back k d) safe.unopened (known k d lt);
+safe_some : (t : Held) (back : List Filed) (disk : Standing) → All (Contains t.files) back → AreSafe t disk → AreSafe (having t back) disk
+safe_some t back disk known safe = record {
+  long = λ k d lt. All-contains (λ (f : Filed). HasFile disk.files (file_of (shelf_of t) f.entry) (λ b. f.entry.len ≤ length b)) t.files (get_or back k d) safe.long (known k d lt);
+  unopened = λ k d lt. All-contains (λ (f : Filed). disk.opened (file_of (shelf_of t) f.entry) ≤ f.entry.len) t.files (get_or back k d) safe.unopened (known k d lt);
   left = λ image left stands k d lt. All-contains (IsIn (shelf_of t) image) t.files (get_or back k d) (safe.left image left stands) (known k d lt);
 }
 
@@ -152,10 +153,10 @@ module _ (tells : Bool) (at : Seen) (limbo : List Retired) (stands : LimboStands
           subst (λ (es : List Entry). Contains es r.entry) (sym back_are) (listed.every r within (number, λ lists. listed_there at.manifests m held.short r here known_at.entries known_at.valid.apart number none lists));
     }
 
-  pub back_safe : IsTrue tells → AreSafe (having (tier 0 held) back) at.files at.opened at.past
+  pub back_safe : IsTrue tells → AreSafe (having (tier 0 held) back) (on_disk at)
   back_safe told =
       let T : List Row → Held = λ rows. record { store = 1; rows = rows; files = back; stands = held.stands } in
-      subst (λ (rows : List Row). AreSafe (T rows) at.files at.opened at.past) has.known.rows (safe_some (store_with 0 at held.stands files) back at.files at.opened at.past back_known (whole.safe told))
+      subst (λ (rows : List Row). AreSafe (T rows) (on_disk at)) has.known.rows (safe_some (store_with 0 at held.stands files) back (on_disk at) back_known (whole.safe told))
 
 -- what the flush makes of what is held
 pub record ToRevive (tells : Bool) (at : Seen) (m : ManifestState) (limbo : List Retired) (entries : List Entry) (files : List Filed) (batch : List RowSamples) (pieces : List Piece) (count : ℕ) (held : Stores) : Type 0 where
@@ -164,7 +165,7 @@ pub record ToRevive (tells : Bool) (at : Seen) (m : ManifestState) (limbo : List
   pub counts : IsTrue held.stands → CountsOver limbo files batch count held (with_list 0 (put_all held.short filed) held)
   pub are : map entry_of by.back ≡ entries
   pub in_limbo : one_store.AreInLimbo m.granularity (tier 0 held) by.back
-  pub safe : IsTrue tells → AreSafe (having (tier 0 held) by.back) at.files at.opened at.past
+  pub safe : IsTrue tells → AreSafe (having (tier 0 held) by.back) (on_disk at)
   pub makes : MakesFiles m.granularity (with_files (tier 0 held) by.back) pieces filed
   pub valid : AreHeld m.granularity (with_files (tier 0 held) filed)
   pub lists : all_changed m.entries (map set_of pieces) ≡ map entry_of (put_all held.short filed)
@@ -185,17 +186,17 @@ listed_as ms list limbo found es entries list_is found_is entries_are says order
 
 -- THE CALL
 
-module _ {S : Type 0} (files_of : S → Files) (opened_of : S → Name → ℕ) (past_of : S → Past) (faults_of : S → ℕ) (tells : Bool) (c : CatalogueState) (ms : List ManifestState) (m made : ManifestState) (here : slice_get ms 0 ≡ Some m) (d after : S) (rows : List Row) (same_rows : rows ≡ c.rows) (batch : List RowSamples) (planned pieces : List Piece) (are : pieces ≡ planned) (count : ℕ)
-    (limbo : List Retired) (stands : LimboStands (seen_on files_of opened_of past_of faults_of c ms d) limbo) (entries : List Entry) (listed : (held : Stores) → IsKnown c ms held → AreUnlistedIn ms 1 limbo entries) (files : List Filed)
+module _ {S : Type 0} (shows : S → Standing) (faults_of : S → ℕ) (tells : Bool) (c : CatalogueState) (ms : List ManifestState) (m made : ManifestState) (here : slice_get ms 0 ≡ Some m) (d after : S) (rows : List Row) (same_rows : rows ≡ c.rows) (batch : List RowSamples) (planned pieces : List Piece) (are : pieces ≡ planned) (count : ℕ)
+    (limbo : List Retired) (stands : LimboStands (seen_on shows faults_of c ms d) limbo) (entries : List Entry) (listed : (held : Stores) → IsKnown c ms held → AreUnlistedIn ms 1 limbo entries) (files : List Filed)
     (flushes : (held : Held) → HoldsBoth m.granularity rows m.entries entries held → flush.Flushes m.granularity held batch planned count) where
   abbrev before : Seen
-  before = seen_on files_of opened_of past_of faults_of c ms d
+  before = seen_on shows faults_of c ms d
 
   abbrev Whole : Stores → Type 0
   Whole held = AreWhole 0 tells before limbo held.stands files
 
   abbrev IsAheadOf : JournalState → Held → Held → Type 0
-  IsAheadOf catalogue held ahead = HasCopied catalogue m (1, rows) (files_of d) (opened_of d) (past_of d) held ahead
+  IsAheadOf catalogue held ahead = HasCopied catalogue m (1, rows) (shows d) held ahead
 
   pub to : (held : Stores) → Whole held → Has tells before held → ToRevive tells before m limbo entries files batch pieces count held
   to held whole has =
@@ -227,35 +228,35 @@ module _ {S : Type 0} (files_of : S → Files) (opened_of : S → Name → ℕ) 
   pub is_ahead : (held : Stores) (whole : Whole held) (has : Has tells before held) → IsTrue tells → IsAheadOf c.journal (tier 0 held) (with_files (tier 0 held) (to held whole has).by.back)
   is_ahead held whole has told =
       let t = to held whole has in
-      let store = subst (λ (r : List Row). IsStoredAs c.journal m (1, r) (files_of d) (opened_of d) (past_of d) (tier 0 held)) (sym same_rows) (stored_as tells before held 0 m here has told) in
-      copied_beside c.journal m (1, rows) (files_of d) (opened_of d) (past_of d) (tier 0 held) t.by.back store t.in_limbo (t.safe told)
+      let store = subst (λ (r : List Row). IsStoredAs c.journal m (1, r) (shows d) (tier 0 held)) (sym same_rows) (stored_as tells before held 0 m here has told) in
+      copied_beside c.journal m (1, rows) (shows d) (tier 0 held) t.by.back store t.in_limbo (t.safe told)
 
   abbrev files_then : (held : Stores) → Has tells before held → Whole held → List Filed
   files_then held has whole = put_all held.short (to held whole has).filed
 
   module _ (same_g : made.granularity ≡ m.granularity)
-      (moment : IsTrue tells → (catalogue : JournalState) (held ahead : Held) (fs : List Filed) → IsAheadOf catalogue held ahead → MakesFiles m.granularity ahead pieces fs → Passes (HoldsEither m.granularity held (with_files held fs)) (past_of d) (past_of after))
-      (on_store : IsTrue tells → OnStore 1 m.journal.name (files_of d) (files_of after) (opened_of d) (opened_of after) (past_of d) (past_of after)) (faults : faults_of d ≤ faults_of after) where
-    at_moment : IsTrue tells → (held : Stores) (has : Has tells before held) (whole : Whole held) → Passes (HoldsEither m.granularity (tier 0 held) (with_files (tier 0 held) (to held whole has).filed)) (past_of d) (past_of after)
+      (moment : IsTrue tells → (catalogue : JournalState) (held ahead : Held) (fs : List Filed) → IsAheadOf catalogue held ahead → MakesFiles m.granularity ahead pieces fs → Passes (HoldsEither m.granularity held (with_files held fs)) (shows d).past (shows after).past)
+      (on_store : IsTrue tells → OnStore 1 m.journal.name (shows d) (shows after)) (faults : faults_of d ≤ faults_of after) where
+    at_moment : IsTrue tells → (held : Stores) (has : Has tells before held) (whole : Whole held) → Passes (HoldsEither m.granularity (tier 0 held) (with_files (tier 0 held) (to held whole has).filed)) (shows d).past (shows after).past
     at_moment told held has whole = let t = to held whole has in moment told c.journal (tier 0 held) (with_files (tier 0 held) t.by.back) t.filed (is_ahead held whole has told) t.makes
 
     pub over_done : made.entries ≡ all_changed m.entries (map set_of pieces) → made.journal.sound ≡ true
-        → (IsTrue tells → (catalogue : JournalState) (held ahead : Held) (fs : List Filed) → IsAheadOf catalogue held ahead → MakesFiles m.granularity ahead pieces fs → IsStoredAs catalogue made (1, rows) (files_of after) (opened_of after) (past_of after) (with_files held fs))
-        → ChangesGiven Whole tells (flushing_over limbo files batch) before (seen_on files_of opened_of past_of faults_of c (slice_set ms 0 made) after) (Done count)
+        → (IsTrue tells → (catalogue : JournalState) (held ahead : Held) (fs : List Filed) → IsAheadOf catalogue held ahead → MakesFiles m.granularity ahead pieces fs → IsStoredAs catalogue made (1, rows) (shows after) (with_files held fs))
+        → ChangesGiven Whole tells (flushing_over limbo files batch) before (seen_on shows faults_of c (slice_set ms 0 made) after) (Done count)
     over_done entries sound stored =
-        given_done files_of opened_of past_of faults_of tells c ms 0 m made here d after same_g on_store faults Whole (flushing_over limbo files batch) files_then (λ held has whole. (to held whole has).by) (λ held has whole. (to held whole has).valid) at_moment count (λ held has whole. (to held whole has).counts) sound
+        given_done shows faults_of tells c ms 0 m made here d after same_g on_store faults Whole (flushing_over limbo files batch) files_then (λ held has whole. (to held whole has).by) (λ held has whole. (to held whole has).valid) at_moment count (λ held has whole. (to held whole has).counts) sound
         (λ held has whole. entries ∙ (to held whole has).lists)
         (λ told held has whole. let t = to held whole has in (stored told c.journal (tier 0 held) (with_files (tier 0 held) t.by.back) t.filed (is_ahead held whole has told) t.makes).stored.tier)
 
     pub over_cut : made.entries ≡ m.entries → (made.journal.sound ≡ false → made.next ≡ all_changed m.entries (map set_of pieces))
-        → (IsTrue tells → (catalogue : JournalState) (held ahead : Held) (fs : List Filed) → IsAheadOf catalogue held ahead → MakesFiles m.granularity ahead pieces fs → made.journal.sound ≡ true → IsStoredAs catalogue made (1, rows) (files_of after) (opened_of after) (past_of after) held)
-        → (IsTrue tells → (catalogue : JournalState) (held ahead : Held) (fs : List Filed) → IsAheadOf catalogue held ahead → MakesFiles m.granularity ahead pieces fs → made.journal.sound ≡ false → IsDoubtedAs catalogue made (1, rows) (files_of after) (opened_of after) (past_of after) held (with_files held fs))
-        → (e : DiskErr) (end : End ℕ ⊥) → end ≡ end_of_error e → (e ≡ Memory → made.journal.sound ≡ true) → (e ≡ Fault → Rose (faults_of d) (faults_of after)) → ChangesGiven Whole tells (flushing_over limbo files batch) before (seen_on files_of opened_of past_of faults_of c (slice_set ms 0 made) after) end
+        → (IsTrue tells → (catalogue : JournalState) (held ahead : Held) (fs : List Filed) → IsAheadOf catalogue held ahead → MakesFiles m.granularity ahead pieces fs → made.journal.sound ≡ true → IsStoredAs catalogue made (1, rows) (shows after) held)
+        → (IsTrue tells → (catalogue : JournalState) (held ahead : Held) (fs : List Filed) → IsAheadOf catalogue held ahead → MakesFiles m.granularity ahead pieces fs → made.journal.sound ≡ false → IsDoubtedAs catalogue made (1, rows) (shows after) held (with_files held fs))
+        → (e : DiskErr) (end : End ℕ ⊥) → end ≡ end_of_error e → (e ≡ Memory → made.journal.sound ≡ true) → (e ≡ Fault → Rose (faults_of d) (faults_of after)) → ChangesGiven Whole tells (flushing_over limbo files batch) before (seen_on shows faults_of c (slice_set ms 0 made) after) end
     over_cut unchanged next unmade in_doubt e end is memory cause =
-        given_cut files_of opened_of past_of faults_of tells c ms 0 m made here d after same_g on_store faults Whole (flushing_over limbo files batch) files_then (λ held has whole. (to held whole has).by) (λ held has whole. (to held whole has).valid) at_moment unchanged
+        given_cut shows faults_of tells c ms 0 m made here d after same_g on_store faults Whole (flushing_over limbo files batch) files_then (λ held has whole. (to held whole has).by) (λ held has whole. (to held whole has).valid) at_moment unchanged
         (λ held has whole unsound. next unsound ∙ (to held whole has).lists)
         (λ told held has whole sound. let t = to held whole has in (unmade told c.journal (tier 0 held) (with_files (tier 0 held) t.by.back) t.filed (is_ahead held whole has told) t.makes sound).stored.tier)
-        (λ told held has whole unsound. let t = to held whole has in list_unsure c.journal made (1, rows) (files_of after) (opened_of after) (past_of after) (tier 0 held) (with_files (tier 0 held) t.filed) (in_doubt told c.journal (tier 0 held) (with_files (tier 0 held) t.by.back) t.filed (is_ahead held whole has told) t.makes unsound) unsound)
+        (λ told held has whole unsound. let t = to held whole has in list_unsure c.journal made (1, rows) (shows after) (tier 0 held) (with_files (tier 0 held) t.filed) (in_doubt told c.journal (tier 0 held) (with_files (tier 0 held) t.by.back) t.filed (is_ahead held whole has told) t.makes unsound) unsound)
         e end is memory cause
 
 -- WHAT IS LISTED
@@ -366,8 +367,8 @@ whole_out tells old new limbo three held keeps same_g same fewer passes i stands
       subst (λ (g : Granularity). AreFiled g (store_with i new stands files)) is.2 (filed_still is.0.granularity (store_with i old stands files) new.catalogue.rows keeps (whole.filed is.0 is.1));
   safe = λ told.
       let own = manifest_at old.manifests i (omega (arith, three, low)) in
-      safe_grows own.0.granularity (store_with i old stands files) new.catalogue.rows new.files new.opened new.past keeps (whole.filed own.0 own.1)
-      (safe_stays (store_with i old stands files) SameFiles old.files new.files old.opened new.opened old.past new.past (whole.safe told) (passes told) (λ a c step. in_out a c (store_with i old stands files) (omega arith) step)
+      safe_grows own.0.granularity (store_with i old stands files) new.catalogue.rows (on_disk new) keeps (whole.filed own.0 own.1)
+      (safe_stays (store_with i old stands files) SameFiles (on_disk old) (on_disk new) (whole.safe told) (passes told) (λ a c step. in_out a c (store_with i old stands files) (omega arith) step)
       (long_out old.files new.files (store_with i old stands files) (omega arith) (same told) (whole.safe told).long) (fewer told));
 }
 
@@ -453,8 +454,8 @@ module _ (tells : Bool) (files : List Filed) (batch : List RowSamples) (old new 
   filed_were : AreFiled m.granularity (store_of 0 held.rows were stand)
   filed_were = subst (λ (rows : List Row). AreFiled m.granularity (store_of 0 rows were stand)) has.known.rows (whole.filed m here)
 
-  safe_were : IsTrue tells → AreSafe (store_of 0 held.rows were stand) old.stores.files old.stores.opened old.stores.past
-  safe_were told = subst (λ (rows : List Row). AreSafe (store_of 0 rows were stand) old.stores.files old.stores.opened old.stores.past) has.known.rows (whole.safe told)
+  safe_were : IsTrue tells → AreSafe (store_of 0 held.rows were stand) (on_disk old.stores)
+  safe_were told = subst (λ (rows : List Row). AreSafe (store_of 0 rows were stand) (on_disk old.stores)) has.known.rows (whole.safe told)
 
   filed_left : AreFiled m.granularity (store_of 0 held.rows left stand)
   filed_left = record {
@@ -463,7 +464,7 @@ module _ (tells : Bool) (files : List Filed) (batch : List RowSamples) (old new 
     filed = λ is k d lt. All-contains (IsFiled m.granularity held.rows) were (get_or left k d) (filed_were.filed is) (was_in k d lt);
   }
 
-  safe_left : IsTrue tells → AreSafe (store_of 0 held.rows left stand) new.stores.files new.stores.opened new.stores.past
+  safe_left : IsTrue tells → AreSafe (store_of 0 held.rows left stand) (on_disk new.stores)
   safe_left told = record {
     long = λ k d lt.
         let f = back_has k d lt in
@@ -494,5 +495,5 @@ module _ (tells : Bool) (files : List Filed) (batch : List RowSamples) (old new 
     filed = λ n there.
         let same : n.granularity ≡ m.granularity = same_Some n.granularity m.granularity (sym (granularity_at new.stores.manifests 0 n there) ∙ (ap (λ (gs : List Granularity). slice_get gs 0) same_g ∙ granularity_at old.stores.manifests 0 m here)) in
         subst (λ (g : Granularity). AreFiled g (store_with 0 new.stores stand left)) (sym same) (subst (λ (rows : List Row). AreFiled m.granularity (store_of 0 rows left stand)) (sym rows_are) filed_left);
-    safe = λ told. subst (λ (rows : List Row). AreSafe (store_of 0 rows left stand) new.stores.files new.stores.opened new.stores.past) (sym rows_are) (safe_left told);
+    safe = λ told. subst (λ (rows : List Row). AreSafe (store_of 0 rows left stand) (on_disk new.stores)) (sym rows_are) (safe_left told);
   }

@@ -2,7 +2,7 @@
 use Rattle.std.proofs.Common.{◌≡◌, ◌≢◌, ◌⊎◌, inl, inr, true, false, Bool, ℕ, ◌≤◌, ◌<◌, ◌+◌, ◌++◌, ◌∷◌, [], List, length, map, Ok, Err, refl, sym, ◌∙◌, ap, subst, arith}
 use Rattle.std.specs.Prelude.{IsTrue, Result, OnOk, OnErr, IfOk, IfErr, ◌↔◌}
 use Rattle.disk_model.specs.Files.{Name, Files, Rose}
-use Rattle.disk_model.specs.Past.{Past, Passes}
+use Rattle.disk_model.specs.Past.{Passes}
 use Rattle.disk_model.specs.declared.disk.DiskErr.TheVariants.{Fault, Memory}
 use Rattle.disk_model.proofs.Passing.{passes_none, passes_weaker}
 use Rattle.pb_messages.specs.declared.about.About.{About}
@@ -12,6 +12,7 @@ use Rattle.gate_journal.specs.Generations.{IsOwn, AtOwn}
 use Rattle.gate_journal.specs.Journal.{JournalState}
 use Rattle.gate_journal.specs.Kept as journal
 use Rattle.gate_journal.specs.Kept.{Says, SaysEither}
+use Rattle.gate_journal.specs.Standing.{Standing}
 use Rattle.gate_journal.proofs.Keeping.{says_stays}
 use Rattle.partition_names.specs.declared.granularity.Granularity.{Granularity}
 use Rattle.pv_catalog.specs.Catalogue as catalogue
@@ -82,52 +83,52 @@ module _ (name : Name) (R : Files → Files → Type 0) (named : name ≡ catalo
     files = in_grows g (tier i s) later c keeps holds.filed (in_still (tier i s) a c holds.filed.numbered step holds.files);
   }
 
-  module _ (files last : Files) (opened after : Name → ℕ) (old new : Past) (passes : Passes (AtOwn name R) old new) (elsewhere : (n : Name) → (IsOwn name n → ⊥) → last n ≡ files n) (same : after ≡ opened) where
-    fewer : (n : Name) → after n ≤ opened n
-    fewer n = let here : after n ≡ opened n = ap (λ (f : Name → ℕ). f n) same in omega (arith, here)
+  module _ (old new : Standing) (passes : Passes (AtOwn name R) old.past new.past) (elsewhere : (n : Name) → (IsOwn name n → ⊥) → new.files n ≡ old.files n) (same : new.opened ≡ old.opened) where
+    fewer : (n : Name) → new.opened n ≤ old.opened n
+    fewer n = let here : new.opened n ≡ old.opened n = ap (λ (f : Name → ℕ). f n) same in omega (arith, here)
 
-    tier_beside : (g : Granularity) (m : JournalState) (t : Held) → TierStored g m files opened old t → TierStored g m last after new t
+    tier_beside : (g : Granularity) (m : JournalState) (t : Held) → TierStored g m old t → TierStored g m new t
     tier_beside g m t stored =
         let numbered = stored.valid.filed.numbered in
         let other : (n : Name) → IsOwn m.name n → IsOwn name n → ⊥ = λ n own its. manifest_out t.store n (subst (λ (k : Name). IsOwn k n) stored.named own) its in
-        tier_stays (AtOwn name R) m files last opened after old new passes (record { step = λ a c step n own. step.elsewhere n (other n own); same = λ n own. elsewhere n (other n own); fewer = λ n own. fewer n }) g t stored
-        (safe_stays t (AtOwn name R) files last opened after old new stored.safe passes (λ a c step. in_still t a c numbered step) (own_long t name files last (name_out t numbered) elsewhere stored.safe.long) fewer)
+        tier_stays (AtOwn name R) m old new passes (record { step = λ a c step n own. step.elsewhere n (other n own); same = λ n own. elsewhere n (other n own); fewer = λ n own. fewer n }) g t stored
+        (safe_stays t (AtOwn name R) old new stored.safe passes (λ a c step. in_still t a c numbered step) (own_long t name old.files new.files (name_out t numbered) elsewhere stored.safe.long) fewer)
 
-    tier_grown : (g : Granularity) (m : JournalState) (s : Stores) (i : ℕ) (later : List Row) → KeepsRows s.rows later → AreHeld g (tier i (with_rows s later)) → TierStored g m files opened old (tier i s) → TierStored g m last after new (tier i (with_rows s later))
+    tier_grown : (g : Granularity) (m : JournalState) (s : Stores) (i : ℕ) (later : List Row) → KeepsRows s.rows later → AreHeld g (tier i (with_rows s later)) → TierStored g m old (tier i s) → TierStored g m new (tier i (with_rows s later))
     tier_grown g m s i later keeps valid stored =
         let now = tier_beside g m (tier i s) stored in
-        record { named = now.named; sound = now.sound; kept = now.kept; valid = valid; safe = safe_grows g (tier i s) later last after new keeps now.valid.filed now.safe }
+        record { named = now.named; sound = now.sound; kept = now.kept; valid = valid; safe = safe_grows g (tier i s) later new keeps now.valid.filed now.safe }
 
 -- THE CALL
 
-module _ {S : Type 0} (files_of : S → Files) (opened_of : S → Name → ℕ) (past_of : S → Past) (faults_of : S → ℕ) (tells : Bool) (c made : CatalogueState) (ms : List ManifestState) (d after : S) where
+module _ {S : Type 0} (shows : S → Standing) (faults_of : S → ℕ) (tells : Bool) (c made : CatalogueState) (ms : List ManifestState) (d after : S) where
   abbrev before : Seen
-  before = seen_on files_of opened_of past_of faults_of c ms d
+  before = seen_on shows faults_of c ms d
 
   abbrev behind : Seen
-  behind = seen_on files_of opened_of past_of faults_of made ms after
+  behind = seen_on shows faults_of made ms after
 
   -- the rows and the disk are as they were
   rows_same : {A E : Type 0} (call : Call A E) (end : End A E) → made.journal ≡ c.journal → made.rows ≡ c.rows → after ≡ d → ((held : Stores) → Has tells behind held → held.rows ≡ c.rows → EndsFrom tells call behind held end) → (IsFailed end → ⊥) → Changes tells call before behind end
   rows_same {A} {E} call end journal rows same ends not_failed = record {
     ends = λ held has. ends held (still held has) (sym has.known.rows);
     any_moment = λ told held has.
-        subst (λ (x : S). Passes (HoldsBy (granularities ms) call.by held) (past_of d) (past_of x)) (sym same) (passes_none (HoldsBy (granularities ms) call.by held) (past_of d) (λ image left. inl (has_left tells before held has told image left)));
+        subst (λ (x : S). Passes (HoldsBy (granularities ms) call.by held) (shows d).past (shows x).past) (sym same) (passes_none (HoldsBy (granularities ms) call.by held) (shows d).past (λ image left. inl (has_left tells before held has told image left)));
     costs = record { granularity = refl; faults = subst (λ (x : S). faults_of d ≤ faults_of x) (sym same) (omega arith); cause = λ failed. absurd (not_failed failed) };
   }
     where
       still : (held : Stores) → Has tells before held → Has tells behind held
-      still held has = subst (λ (x : S). Has tells (seen_on files_of opened_of past_of faults_of made ms x) held) (sym same) (record {
+      still held has = subst (λ (x : S). Has tells (seen_on shows faults_of made ms x) held) (sym same) (record {
         known = record { three = has.known.three; rows = rows ∙ has.known.rows; each = has.known.each };
         settled = record { catalogue = ap (λ (j : JournalState). j.sound) journal ∙ has.settled.catalogue; manifests = has.settled.manifests };
         disk = λ told. record {
-          rows = subst (λ (j : JournalState). CatalogueStored j (files_of d) (opened_of d) (past_of d) held.rows) (sym journal) (has.disk told).rows;
+          rows = subst (λ (j : JournalState). CatalogueStored j (shows d) held.rows) (sym journal) (has.disk told).rows;
           each = (has.disk told).each;
         };
       })
 
-  module _ (next : List Row) (keeps : KeepsRows c.rows next) (name : made.journal.name ≡ c.journal.name) (passes : IsTrue tells → Passes (AtOwn c.journal.name (SaysEither IsCatalogue c.rows next c.journal.name)) (past_of d) (past_of after)) (elsewhere : IsTrue tells → (n : Name) → (IsOwn c.journal.name n → ⊥) → files_of after n ≡ files_of d n)
-      (opened : IsTrue tells → opened_of after ≡ opened_of d) (faults : faults_of d ≤ faults_of after) {A E : Type 0} (call : Call A E) (by : (held : Stores) → held.rows ≡ c.rows → call.by held (with_rows held next)) (keys : KeysDiffer c.rows → KeysDiffer next) where
+  module _ (next : List Row) (keeps : KeepsRows c.rows next) (name : made.journal.name ≡ c.journal.name) (passes : IsTrue tells → Passes (AtOwn c.journal.name (SaysEither IsCatalogue c.rows next c.journal.name)) (shows d).past (shows after).past) (elsewhere : IsTrue tells → (n : Name) → (IsOwn c.journal.name n → ⊥) → (shows after).files n ≡ (shows d).files n)
+      (opened : IsTrue tells → (shows after).opened ≡ (shows d).opened) (faults : faults_of d ≤ faults_of after) {A E : Type 0} (call : Call A E) (by : (held : Stores) → held.rows ≡ c.rows → call.by held (with_rows held next)) (keys : KeysDiffer c.rows → KeysDiffer next) where
     abbrev R : Files → Files → Type 0
     R = SaysEither IsCatalogue c.rows next c.journal.name
 
@@ -139,9 +140,9 @@ module _ {S : Type 0} (files_of : S → Files) (opened_of : S → Name → ℕ) 
         let valid = (known.each i m here).valid in
         held_grows m.granularity (tier i held) next (keeps_held held known) (keys (subst KeysDiffer (sym known.rows) valid.keys)) valid
 
-    any_moment : IsTrue tells → (held : Stores) → Has tells before held → Passes (HoldsBy (granularities ms) call.by held) (past_of d) (past_of after)
+    any_moment : IsTrue tells → (held : Stores) → Has tells before held → Passes (HoldsBy (granularities ms) call.by held) (shows d).past (shows after).past
     any_moment told held has =
-        passes_weaker (AtOwn c.journal.name R) (HoldsBy (granularities ms) call.by held) (past_of d) (past_of after) (passes told) (λ a image left step.
+        passes_weaker (AtOwn c.journal.name R) (HoldsBy (granularities ms) call.by held) (shows d).past (shows after).past (passes told) (λ a image left step.
         let stored = has.disk told in
         let was = all_left before held a stored left in
         let named = stored.rows.named in
@@ -154,7 +155,7 @@ module _ {S : Type 0} (files_of : S → Files) (opened_of : S → Name → ℕ) 
               inr (with_rows held next, by held (sym has.known.rows), λ i g here. holds_new c.journal.name R named g held i next a image (keeps_held held has.known) step rows (was i g here))
         ])
 
-    rows_done : (a : A) → ((held : Stores) → held.rows ≡ c.rows → call.says a held (with_rows held next)) → made.rows ≡ next → made.journal.sound ≡ true → (IsTrue tells → catalogue.IsStored made (files_of after) (opened_of after) (past_of after)) → Changes tells call before behind (Done a)
+    rows_done : (a : A) → ((held : Stores) → held.rows ≡ c.rows → call.says a held (with_rows held next)) → made.rows ≡ next → made.journal.sound ≡ true → (IsTrue tells → catalogue.IsStored made (shows after)) → Changes tells call before behind (Done a)
     rows_done a says rows sound stored = record {
       ends = λ held has. (
         with_rows held next,
@@ -166,8 +167,8 @@ module _ {S : Type 0} (files_of : S → Files) (opened_of : S → Name → ℕ) 
           disk = λ told.
               let had = has.disk told in
               record {
-                rows = record { named = name ∙ had.rows.named; sound = sound; kept = subst (journal.IsKept IsCatalogue made.journal (files_of after) (opened_of after) (past_of after)) rows (stored told) };
-                each = λ i m here. tier_grown c.journal.name R had.rows.named (files_of d) (files_of after) (opened_of d) (opened_of after) (past_of d) (past_of after) (passes told) (elsewhere told) (opened told) m.granularity m.journal held i next (keeps_held held has.known) (grows held has.known i m here) (had.each i m here);
+                rows = record { named = name ∙ had.rows.named; sound = sound; kept = subst (journal.IsKept IsCatalogue made.journal (shows after)) rows (stored told) };
+                each = λ i m here. tier_grown c.journal.name R had.rows.named (shows d) (shows after) (passes told) (elsewhere told) (opened told) m.granularity m.journal held i next (keeps_held held has.known) (grows held has.known i m here) (had.each i m here);
               };
         },
       );
@@ -175,7 +176,7 @@ module _ {S : Type 0} (files_of : S → Files) (opened_of : S → Name → ℕ) 
       costs = record { granularity = refl; faults = faults; cause = λ failed. absurd failed };
     }
 
-    rows_failed : made.rows ≡ c.rows → made.next ≡ next → made.journal.sound ≡ false → (IsTrue tells → catalogue.IsInDoubt made (files_of after) (opened_of after) (past_of after)) → Rose (faults_of d) (faults_of after) → Changes tells call before behind Failed
+    rows_failed : made.rows ≡ c.rows → made.next ≡ next → made.journal.sound ≡ false → (IsTrue tells → catalogue.IsInDoubt made (shows after)) → Rose (faults_of d) (faults_of after) → Changes tells call before behind Failed
     rows_failed rows is unsound doubt rose = record {
       ends = λ held has. inr (
         with_rows held next,
@@ -194,11 +195,11 @@ module _ {S : Type 0} (files_of : S → Files) (opened_of : S → Name → ℕ) 
                   rows = record {
                     named = name ∙ had.rows.named;
                     unsound = unsound;
-                    unsure = subst (λ (rs : List Row). journal.IsUnsure IsCatalogue made.journal (files_of after) (opened_of after) (past_of after) rs next) (rows ∙ has.known.rows)
-                        (subst (journal.IsUnsure IsCatalogue made.journal (files_of after) (opened_of after) (past_of after) made.rows) is (doubt told));
+                    unsure = subst (λ (rs : List Row). journal.IsUnsure IsCatalogue made.journal (shows after) rs next) (rows ∙ has.known.rows)
+                        (subst (journal.IsUnsure IsCatalogue made.journal (shows after) made.rows) is (doubt told));
                   };
-                  each = λ i m here. tier_beside c.journal.name R had.rows.named (files_of d) (files_of after) (opened_of d) (opened_of after) (past_of d) (past_of after) (passes told) (elsewhere told) (opened told) m.granularity m.journal (tier i held) (had.each i m here);
-                  each_after = λ i m here. tier_grown c.journal.name R had.rows.named (files_of d) (files_of after) (opened_of d) (opened_of after) (past_of d) (past_of after) (passes told) (elsewhere told) (opened told) m.granularity m.journal held i next (keeps_held held has.known) (grows held has.known i m here) (had.each i m here);
+                  each = λ i m here. tier_beside c.journal.name R had.rows.named (shows d) (shows after) (passes told) (elsewhere told) (opened told) m.granularity m.journal (tier i held) (had.each i m here);
+                  each_after = λ i m here. tier_grown c.journal.name R had.rows.named (shows d) (shows after) (passes told) (elsewhere told) (opened told) m.granularity m.journal held i next (keeps_held held has.known) (grows held has.known i m here) (had.each i m here);
                 };
           });
         },
@@ -210,11 +211,11 @@ module _ {S : Type 0} (files_of : S → Files) (opened_of : S → Name → ℕ) 
   -- REGISTERING
 
   pub register_changes : (name : List ℕ) (about : About) (r : Result ℕ RegisterErr) → made.journal.name ≡ c.journal.name
-      → (IsTrue tells → Passes (AtOwn c.journal.name (SaysEither IsCatalogue c.rows (c.rows ++ registered c.rows name about ∷ []) c.journal.name)) (past_of d) (past_of after)) → (IsTrue tells → (n : Name) → (IsOwn c.journal.name n → ⊥) → files_of after n ≡ files_of d n)
-      → (IsTrue tells → opened_of after ≡ opened_of d) → faults_of d ≤ faults_of after
-      → IfOk r (λ id. id ≡ length c.rows) → OnOk r (made.rows ≡ c.rows ++ registered c.rows name about ∷ []) → OnOk r (made.journal.sound ≡ true) → (IsTrue tells → OnOk r (catalogue.IsStored made (files_of after) (opened_of after) (past_of after)))
+      → (IsTrue tells → Passes (AtOwn c.journal.name (SaysEither IsCatalogue c.rows (c.rows ++ registered c.rows name about ∷ []) c.journal.name)) (shows d).past (shows after).past) → (IsTrue tells → (n : Name) → (IsOwn c.journal.name n → ⊥) → (shows after).files n ≡ (shows d).files n)
+      → (IsTrue tells → (shows after).opened ≡ (shows d).opened) → faults_of d ≤ faults_of after
+      → IfOk r (λ id. id ≡ length c.rows) → OnOk r (made.rows ≡ c.rows ++ registered c.rows name about ∷ []) → OnOk r (made.journal.sound ≡ true) → (IsTrue tells → OnOk r (catalogue.IsStored made (shows after)))
       → IfErr r (IsRefusal c.rows name) → ((e : RegisterErr) → Refuses c.rows name e → (r ≡ Err e) ⊎ (r ≡ Err (of_register.Disk Memory))) → IfErr r (λ e. IsOfRows e → (made ≡ c) × (after ≡ d)) → OnErr r (made.rows ≡ c.rows)
-      → (IsTrue tells → r ≡ Err (of_register.Disk Fault) → catalogue.IsInDoubt made (files_of after) (opened_of after) (past_of after)) → (r ≡ Err (of_register.Disk Fault) → made.next ≡ c.rows ++ registered c.rows name about ∷ [])
+      → (IsTrue tells → r ≡ Err (of_register.Disk Fault) → catalogue.IsInDoubt made (shows after)) → (r ≡ Err (of_register.Disk Fault) → made.next ≡ c.rows ++ registered c.rows name about ∷ [])
       → (r ≡ Err (of_register.Disk Fault) → (made.journal.sound ≡ false) × Rose (faults_of d) (faults_of after)) → (r ≡ Err (of_register.Disk Memory) → (made.journal ≡ c.journal) × (after ≡ d))
       → Changes tells (registering name about) before behind (end_of_register r)
   register_changes name about (Ok id) named passes elsewhere opened faults is_id rows sound stored refusal exactly unchanged kept doubt next fault memory =
@@ -235,8 +236,8 @@ module _ {S : Type 0} (files_of : S → Files) (opened_of : S → Name → ℕ) 
   -- RENAMING
 
   module _ (row : ℕ) (within : row < length c.rows) (name : List ℕ) (r : Result ℕ RenameErr) (named : made.journal.name ≡ c.journal.name)
-      (passes : IsTrue tells → Passes (AtOwn c.journal.name (SaysEither IsCatalogue c.rows (renamed row name c.rows) c.journal.name)) (past_of d) (past_of after))
-      (elsewhere : IsTrue tells → (n : Name) → (IsOwn c.journal.name n → ⊥) → files_of after n ≡ files_of d n) (opened : IsTrue tells → opened_of after ≡ opened_of d) (faults : faults_of d ≤ faults_of after)
+      (passes : IsTrue tells → Passes (AtOwn c.journal.name (SaysEither IsCatalogue c.rows (renamed row name c.rows) c.journal.name)) (shows d).past (shows after).past)
+      (elsewhere : IsTrue tells → (n : Name) → (IsOwn c.journal.name n → ⊥) → (shows after).files n ≡ (shows d).files n) (opened : IsTrue tells → (shows after).opened ≡ (shows d).opened) (faults : faults_of d ≤ faults_of after)
       (exactly : (e : RenameErr) → RefusesName c.rows row name e → (r ≡ Err e) × (made ≡ c) × (after ≡ d)) where
     -- where the name was not refused, the change is made
     taken : ((e : RenameErr) → r ≡ Err e → RefusesName c.rows row name e → ⊥) → HasState c.rows row Paused × ((e : RenameErr) → RefusesName c.rows row name e → ⊥)
@@ -249,12 +250,12 @@ module _ {S : Type 0} (files_of : S → Files) (opened_of : S → Name → ℕ) 
         let same = exactly e refuses in
         rows_same (renaming row name) (Refused e) (ap (λ (s : CatalogueState). s.journal) same.1) kept same.2 (λ held has rows. (has, subst (λ (rs : List Row). RefusesName rs row name e) (sym rows) refuses)) (λ failed. failed)
 
-    pub rename_changes : IfOk r (λ id. id ≡ length c.rows) → OnOk r (made.rows ≡ renamed row name c.rows) → OnOk r (made.journal.sound ≡ true) → (IsTrue tells → OnOk r (catalogue.IsStored made (files_of after) (opened_of after) (past_of after)))
-        → IfErr r (IsNameRefusal c.rows row name) → OnErr r (made.rows ≡ c.rows) → (IsTrue tells → r ≡ Err (of_rename.Disk Fault) → catalogue.IsInDoubt made (files_of after) (opened_of after) (past_of after)) → (r ≡ Err (of_rename.Disk Fault) → made.next ≡ renamed row name c.rows)
+    pub rename_changes : IfOk r (λ id. id ≡ length c.rows) → OnOk r (made.rows ≡ renamed row name c.rows) → OnOk r (made.journal.sound ≡ true) → (IsTrue tells → OnOk r (catalogue.IsStored made (shows after)))
+        → IfErr r (IsNameRefusal c.rows row name) → OnErr r (made.rows ≡ c.rows) → (IsTrue tells → r ≡ Err (of_rename.Disk Fault) → catalogue.IsInDoubt made (shows after)) → (r ≡ Err (of_rename.Disk Fault) → made.next ≡ renamed row name c.rows)
         → (r ≡ Err (of_rename.Disk Fault) → (made.journal.sound ≡ false) × Rose (faults_of d) (faults_of after)) → (r ≡ Err (of_rename.Disk Memory) → (made.journal ≡ c.journal) × (after ≡ d)) → Changes tells (renaming row name) before behind (end_of_rename r)
     rename_changes is_id rows sound stored refusal kept doubt next fault memory = go r refl is_id rows sound stored refusal kept
       where
-        go : (x : Result ℕ RenameErr) → r ≡ x → IfOk x (λ id. id ≡ length c.rows) → OnOk x (made.rows ≡ renamed row name c.rows) → OnOk x (made.journal.sound ≡ true) → (IsTrue tells → OnOk x (catalogue.IsStored made (files_of after) (opened_of after) (past_of after)))
+        go : (x : Result ℕ RenameErr) → r ≡ x → IfOk x (λ id. id ≡ length c.rows) → OnOk x (made.rows ≡ renamed row name c.rows) → OnOk x (made.journal.sound ≡ true) → (IsTrue tells → OnOk x (catalogue.IsStored made (shows after)))
             → IfErr x (IsNameRefusal c.rows row name) → OnErr x (made.rows ≡ c.rows) → Changes tells (renaming row name) before behind (end_of_rename x)
         go (Ok id) is is_id rows sound stored refusal kept =
             let may = taken (λ e not. let wrong : ◌≡◌ {A = Result ℕ RenameErr} (Ok id) (Err e) = sym is ∙ not in absurd (cc wrong)) in
@@ -271,17 +272,17 @@ module _ {S : Type 0} (files_of : S → Files) (opened_of : S → Name → ℕ) 
 
   -- SWITCHING
 
-  module _ (row : ℕ) (within : row < length c.rows) (named : made.journal.name ≡ c.journal.name) (elsewhere : IsTrue tells → (n : Name) → (IsOwn c.journal.name n → ⊥) → files_of after n ≡ files_of d n) (opened : IsTrue tells → opened_of after ≡ opened_of d) (faults : faults_of d ≤ faults_of after) (r : Result (Unit {0}) StateErr)
-      (sound : OnOk r (made.journal.sound ≡ true)) (stored : IsTrue tells → OnOk r (catalogue.IsStored made (files_of after) (opened_of after) (past_of after))) (kept : OnErr r (made.rows ≡ c.rows)) (doubt : IsTrue tells → r ≡ Err (of_state.Disk Fault) → catalogue.IsInDoubt made (files_of after) (opened_of after) (past_of after))
+  module _ (row : ℕ) (within : row < length c.rows) (named : made.journal.name ≡ c.journal.name) (elsewhere : IsTrue tells → (n : Name) → (IsOwn c.journal.name n → ⊥) → (shows after).files n ≡ (shows d).files n) (opened : IsTrue tells → (shows after).opened ≡ (shows d).opened) (faults : faults_of d ≤ faults_of after) (r : Result (Unit {0}) StateErr)
+      (sound : OnOk r (made.journal.sound ≡ true)) (stored : IsTrue tells → OnOk r (catalogue.IsStored made (shows after))) (kept : OnErr r (made.rows ≡ c.rows)) (doubt : IsTrue tells → r ≡ Err (of_state.Disk Fault) → catalogue.IsInDoubt made (shows after))
       (fault : r ≡ Err (of_state.Disk Fault) → (made.journal.sound ≡ false) × Rose (faults_of d) (faults_of after)) (memory : r ≡ Err (of_state.Disk Memory) → (made.journal ≡ c.journal) × (after ≡ d)) where
-    pub pause_changes : (IsTrue tells → Passes (AtOwn c.journal.name (SaysEither IsCatalogue c.rows (switched row Paused c.rows) c.journal.name)) (past_of d) (past_of after)) → OnOk r (made.rows ≡ switched row Paused c.rows) → ((r ≡ Err of_state.NotRunning) ↔ (HasState c.rows row Running → ⊥)) → (r ≡ Err of_state.NotPaused → ⊥)
+    pub pause_changes : (IsTrue tells → Passes (AtOwn c.journal.name (SaysEither IsCatalogue c.rows (switched row Paused c.rows) c.journal.name)) (shows d).past (shows after).past) → OnOk r (made.rows ≡ switched row Paused c.rows) → ((r ≡ Err of_state.NotRunning) ↔ (HasState c.rows row Running → ⊥)) → (r ≡ Err of_state.NotPaused → ⊥)
         → (r ≡ Err of_state.NotRunning → (made ≡ c) × (after ≡ d)) → (r ≡ Err (of_state.Disk Fault) → made.next ≡ switched row Paused c.rows) → Changes tells (pausing row) before behind (end_of_switch r)
     pause_changes passes rows exactly never unchanged next = go r refl sound stored kept rows
       where
         by : (r ≡ Err of_state.NotRunning → ⊥) → (held : Stores) → held.rows ≡ c.rows → Switches row Running Paused held (with_rows held (switched row Paused c.rows))
         by other held same = switches row Running Paused c.rows held same (elim (has_state c.rows row Running within) [ inl has ↦ has | inr not ↦ absurd (other (exactly.1 not)) ])
 
-        go : (x : Result (Unit {0}) StateErr) → r ≡ x → OnOk x (made.journal.sound ≡ true) → (IsTrue tells → OnOk x (catalogue.IsStored made (files_of after) (opened_of after) (past_of after))) → OnErr x (made.rows ≡ c.rows) → OnOk x (made.rows ≡ switched row Paused c.rows) → Changes tells (pausing row) before behind (end_of_switch x)
+        go : (x : Result (Unit {0}) StateErr) → r ≡ x → OnOk x (made.journal.sound ≡ true) → (IsTrue tells → OnOk x (catalogue.IsStored made (shows after))) → OnErr x (made.rows ≡ c.rows) → OnOk x (made.rows ≡ switched row Paused c.rows) → Changes tells (pausing row) before behind (end_of_switch x)
         go (Ok a) is sound stored kept rows =
             rows_done (switched row Paused c.rows) (keeps_switched row Paused c.rows) named passes elsewhere opened faults (pausing row) (by (λ other. absurd (cc (is, other)))) (keys_switched row Paused c.rows) a (λ held same. tt) rows sound stored
         go (Err of_state.NotRunning) is sound stored kept rows =
@@ -291,14 +292,14 @@ module _ {S : Type 0} (files_of : S → Files) (opened_of : S → Name → ℕ) 
             rows_failed (switched row Paused c.rows) (keeps_switched row Paused c.rows) named passes elsewhere opened faults (pausing row) (by (λ other. absurd (cc (is, other)))) (keys_switched row Paused c.rows) kept (next is) (fault is).0 (λ told. doubt told is) (fault is).1
         go (Err (of_state.Disk Memory)) is sound stored kept rows = rows_same (pausing row) Spent (memory is).0 kept (memory is).1 (λ held has same. has) (λ failed. failed)
 
-    pub resume_changes : (IsTrue tells → Passes (AtOwn c.journal.name (SaysEither IsCatalogue c.rows (switched row Running c.rows) c.journal.name)) (past_of d) (past_of after)) → OnOk r (made.rows ≡ switched row Running c.rows) → ((r ≡ Err of_state.NotPaused) ↔ (HasState c.rows row Paused → ⊥)) → (r ≡ Err of_state.NotRunning → ⊥)
+    pub resume_changes : (IsTrue tells → Passes (AtOwn c.journal.name (SaysEither IsCatalogue c.rows (switched row Running c.rows) c.journal.name)) (shows d).past (shows after).past) → OnOk r (made.rows ≡ switched row Running c.rows) → ((r ≡ Err of_state.NotPaused) ↔ (HasState c.rows row Paused → ⊥)) → (r ≡ Err of_state.NotRunning → ⊥)
         → (r ≡ Err of_state.NotPaused → (made ≡ c) × (after ≡ d)) → (r ≡ Err (of_state.Disk Fault) → made.next ≡ switched row Running c.rows) → Changes tells (resuming row) before behind (end_of_switch r)
     resume_changes passes rows exactly never unchanged next = go r refl sound stored kept rows
       where
         by : (r ≡ Err of_state.NotPaused → ⊥) → (held : Stores) → held.rows ≡ c.rows → Switches row Paused Running held (with_rows held (switched row Running c.rows))
         by other held same = switches row Paused Running c.rows held same (elim (has_state c.rows row Paused within) [ inl has ↦ has | inr not ↦ absurd (other (exactly.1 not)) ])
 
-        go : (x : Result (Unit {0}) StateErr) → r ≡ x → OnOk x (made.journal.sound ≡ true) → (IsTrue tells → OnOk x (catalogue.IsStored made (files_of after) (opened_of after) (past_of after))) → OnErr x (made.rows ≡ c.rows) → OnOk x (made.rows ≡ switched row Running c.rows) → Changes tells (resuming row) before behind (end_of_switch x)
+        go : (x : Result (Unit {0}) StateErr) → r ≡ x → OnOk x (made.journal.sound ≡ true) → (IsTrue tells → OnOk x (catalogue.IsStored made (shows after))) → OnErr x (made.rows ≡ c.rows) → OnOk x (made.rows ≡ switched row Running c.rows) → Changes tells (resuming row) before behind (end_of_switch x)
         go (Ok a) is sound stored kept rows =
             rows_done (switched row Running c.rows) (keeps_switched row Running c.rows) named passes elsewhere opened faults (resuming row) (by (λ other. absurd (cc (is, other)))) (keys_switched row Running c.rows) a (λ held same. tt) rows sound stored
         go (Err of_state.NotPaused) is sound stored kept rows =

@@ -6,7 +6,7 @@ use Rattle.std.specs.Ordering.{nat_cmp}
 use Rattle.std.specs.Prelude.{All, Contains, IsTrue, nat_eq, slice_get, Result, slice_set}
 use Rattle.std.proofs.lemmas.List.Elements.{All-contains, All-map, All-nil, Contains-get_or, All-head, All-tail}
 use Rattle.disk_model.specs.Files.{Name, Files, HasFile, Content, Rose}
-use Rattle.disk_model.specs.Past.{Passes, MayLeave, Past}
+use Rattle.disk_model.specs.Past.{Passes, MayLeave}
 use Rattle.disk_model.proofs.Passing.{passes_none, passes_then, passes_weaker}
 use Rattle.gate_journal.specs.Generations.{IsOwn, AtOwn}
 use Rattle.gate_journal.proofs.Owning.{own_store}
@@ -16,7 +16,7 @@ use Rattle.durable_write.specs.Three.{Beside}
 use Rattle.tier_store.specs.Limbo.{IsNeeded, Removes, Spares}
 use Rattle.tier_store.specs.Moving.{LeavesNames, LeavesLater, LeavesFiles, names_of, of_files, ListsParts, RunsBeside, GoesBeside, parts_in, MayBeListed, ListsAlso, publishing}
 use Rattle.tier_store.specs.Pinned.{SeenAll, beside, NoneShorter, IsRetiredTo}
-use Rattle.tier_store.specs.Seen.{Seen, granularities, seen_on}
+use Rattle.tier_store.specs.Seen.{Seen, granularities, seen_on, on_disk}
 use Rattle.tier_store.specs.declared.limbo.Retired.{Retired}
 use Rattle.std.proofs.lemmas.Bool.Decides.{Decides-eqb}
 use Rattle.std.proofs.lemmas.List.{append_assoc, length-map, map-append, take_at, take-append-drop, take-map, take-take, take_all}
@@ -49,6 +49,7 @@ use Rattle.disk_model.specs.declared.disk.DiskErr.TheVariants.{Fault, Memory}
 use Rattle.etl_mover.specs.Lists.{Relists, Commits, Knows, Stands, published}
 use Rattle.etl_mover.proofs.Written.{entries_with}
 use Rattle.gate_journal.specs.Journal.{JournalState}
+use Rattle.gate_journal.specs.Standing.{Standing}
 use Rattle.pv_catalog.specs.Catalogue.{CatalogueState}
 use Rattle.durable_write.specs.Ends.{end_of_disk, end_of_error}
 use Rattle.durable_write.specs.Writing.{IsStoredAs, IsDoubtedAs}
@@ -107,7 +108,7 @@ fewer_names names more tells old new among leaves = record {
 
 -- a removal of files in limbo that leaves those into which moves have copied
 pub removal_leaves : (tells : Bool) (old new : SeenAll) (pins : FinMap nat_cmp PinOf) (copied : List Name) (retired : List Retired) → ((r : Retired) → Contains new.limbo r → Contains old.limbo r)
-    → (IsTrue tells → Removes pins copied retired old.stores.files new.stores.files old.stores.opened new.stores.opened old.stores.past new.stores.past) → LeavesNames copied tells old new
+    → (IsTrue tells → Removes pins copied retired (on_disk old.stores) (on_disk new.stores)) → LeavesNames copied tells old new
 removal_leaves tells old new pins copied retired limbo removes = record {
   files = λ told n within. (removes told).spares n (λ r there is. inr within);
   fewer = λ told n within. (removes told).fewer n;
@@ -117,7 +118,7 @@ removal_leaves tells old new pins copied retired limbo removes = record {
 
 -- a removal of files that have none of the names
 pub removal_apart : (names : List Name) (tells : Bool) (old new : SeenAll) (pins : FinMap nat_cmp PinOf) (files : List Retired) → ((r : Retired) → Contains new.limbo r → Contains old.limbo r) → All (λ (r : Retired). Contains names r.name → ⊥) files
-    → (IsTrue tells → Removes pins [] files old.stores.files new.stores.files old.stores.opened new.stores.opened old.stores.past new.stores.past) → LeavesNames names tells old new
+    → (IsTrue tells → Removes pins [] files (on_disk old.stores) (on_disk new.stores)) → LeavesNames names tells old new
 removal_apart names tells old new pins files limbo apart removes = record {
   files = λ told n within. (removes told).spares n (other n within);
   fewer = λ told n within. (removes told).fewer n;
@@ -249,7 +250,7 @@ module _ (i : ℕ) (tells : Bool) (old new : SeenAll) (move : MoveState) (files 
   name_stays : (f : Filed) → Contains files f → file_of (i + 1, made.rows) f.entry ≡ file_of (i + 1, held.rows) f.entry
   name_stays f within = file_grows move.granularity (i + 1) held.rows made.rows f goes.rows (All-contains (IsListed move.granularity held.rows) files f are_listed within)
 
-  safe_still : (told : IsTrue tells) → AreSafe (of_files i made files) new.stores.files new.stores.opened new.stores.past
+  safe_still : (told : IsTrue tells) → AreSafe (of_files i made files) (on_disk new.stores)
   safe_still told = record {
     long = λ k d lt.
         let f : Filed = get_or files k d in
@@ -273,7 +274,7 @@ module _ (i : ℕ) (tells : Bool) (old new : SeenAll) (move : MoveState) (files 
         subst (Begins (bytes_of f)) (sym is) was;
   }
     where
-      was_safe : AreSafe (of_files i held files) old.stores.files old.stores.opened old.stores.past
+      was_safe : AreSafe (of_files i held files) (on_disk old.stores)
       was_safe = runs.ahead.safe told
 
   -- they are of the move's row
@@ -505,14 +506,14 @@ module _ (i : ℕ) (tells : Bool) (all : SeenAll) (held : Stores) (files : List 
         ];
   }
 
-  pub has_copied : IsTrue tells → MayLeave all.stores.past all.stores.files → HasCopied all.stores.catalogue.journal m (i + 1, all.stores.catalogue.rows) all.stores.files all.stores.opened all.stores.past (tier i held) (with_files (tier i held) files)
+  pub has_copied : IsTrue tells → MayLeave all.stores.past all.stores.files → HasCopied all.stores.catalogue.journal m (i + 1, all.stores.catalogue.rows) (on_disk all.stores) (tier i held) (with_files (tier i held) files)
   has_copied told left = record {
     stored = stored_as tells all.stores held i m here has told;
     leads = leads told left;
     safe = record {
       of_rows = ap (λ (r : List Row). let s : Shelf = (i + 1, r) in s) (sym has.known.rows);
       valid = valid_with;
-      safe = safe_both (tier i held) files all.stores.files all.stores.opened all.stores.past ((has.disk told).each i m here).safe (ahead.safe told);
+      safe = safe_both (tier i held) files (on_disk all.stores) ((has.disk told).each i m here).safe (ahead.safe told);
     };
   }
 
@@ -563,23 +564,23 @@ next_by : (m made : ManifestState) (next : List Entry) (e : DiskErr) (b : Bool) 
 next_by m made next e true is knows = absurd (cc (is))
 next_by m made next e false is knows = knows.1
 
-unmade_by : (catalogue : JournalState) (made : ManifestState) (shelf : Shelf) (files : Files) (opened : Name → ℕ) (past : Past) (held next : Held) (e : DiskErr) (b : Bool) → b ≡ true → Stands catalogue made shelf files opened past held next (published (Err e) b) → IsStoredAs catalogue made shelf files opened past held
-unmade_by catalogue made shelf files opened past held next e true is stands = stands
-unmade_by catalogue made shelf files opened past held next e false is stands = absurd (cc (is))
+unmade_by : (catalogue : JournalState) (made : ManifestState) (shelf : Shelf) (disk : Standing) (held next : Held) (e : DiskErr) (b : Bool) → b ≡ true → Stands catalogue made shelf disk held next (published (Err e) b) → IsStoredAs catalogue made shelf disk held
+unmade_by catalogue made shelf disk held next e true is stands = stands
+unmade_by catalogue made shelf disk held next e false is stands = absurd (cc (is))
 
-doubted_by : (catalogue : JournalState) (made : ManifestState) (shelf : Shelf) (files : Files) (opened : Name → ℕ) (past : Past) (held next : Held) (e : DiskErr) (b : Bool) → b ≡ false → Stands catalogue made shelf files opened past held next (published (Err e) b) → IsDoubtedAs catalogue made shelf files opened past held next
-doubted_by catalogue made shelf files opened past held next e true is stands = absurd (cc (is))
-doubted_by catalogue made shelf files opened past held next e false is stands = stands
+doubted_by : (catalogue : JournalState) (made : ManifestState) (shelf : Shelf) (disk : Standing) (held next : Held) (e : DiskErr) (b : Bool) → b ≡ false → Stands catalogue made shelf disk held next (published (Err e) b) → IsDoubtedAs catalogue made shelf disk held next
+doubted_by catalogue made shelf disk held next e true is stands = absurd (cc (is))
+doubted_by catalogue made shelf disk held next e false is stands = stands
 
 -- THE CALL
 
-module _ {S : Type 0} (files_of : S → Files) (opened_of : S → Name → ℕ) (past_of : S → Past) (faults_of : S → ℕ) (tells : Bool) (c : CatalogueState) (ms : List ManifestState) (limbo : List Retired) (i : ℕ) (m made : ManifestState) (here : slice_get ms i ≡ Some m) (d after : S)
-    (seen_it : IsTrue tells → MayLeave (past_of d) (files_of d)) (move : MoveState) (fs : List Filed) where
+module _ {S : Type 0} (shows : S → Standing) (faults_of : S → ℕ) (tells : Bool) (c : CatalogueState) (ms : List ManifestState) (limbo : List Retired) (i : ℕ) (m made : ManifestState) (here : slice_get ms i ≡ Some m) (d after : S)
+    (seen_it : IsTrue tells → MayLeave (shows d).past (shows d).files) (move : MoveState) (fs : List Filed) where
   abbrev before : Seen
-  before = seen_on files_of opened_of past_of faults_of c ms d
+  before = seen_on shows faults_of c ms d
 
   abbrev behind : Seen
-  behind = seen_on files_of opened_of past_of faults_of c (slice_set ms i made) after
+  behind = seen_on shows faults_of c (slice_set ms i made) after
 
   abbrev Is : Stores → Type 0
   Is held = RunsBeside i tells (beside before limbo) move fs held
@@ -593,7 +594,7 @@ module _ {S : Type 0} (files_of : S → Files) (opened_of : S → Name → ℕ) 
   abbrev then : Stores → Held
   then held = with_files (tier i held) fs
 
-  copied : (held : Stores) → Has tells before held → Is held → IsTrue tells → HasCopied c.journal m shelf (files_of d) (opened_of d) (past_of d) (tier i held) (then held)
+  copied : (held : Stores) → Has tells before held → Is held → IsTrue tells → HasCopied c.journal m shelf (shows d) (tier i held) (then held)
   copied held has is told = has_copied i tells (beside before limbo) held fs is.ahead m here has told (seen_it told)
 
   lists : (held : Stores) → Has tells before held → Is held → all_changed m.entries (map set_entry move.pending) ≡ map entry_of (put_all (list_at i held) fs)
@@ -603,25 +604,25 @@ module _ {S : Type 0} (files_of : S → Files) (opened_of : S → Name → ℕ) 
       ∙ entries_with (list_at i held) fs
 
   abbrev Relisted : Result (Unit {0}) DiskErr → Type 0
-  Relisted r = (catalogue : JournalState) (s : Shelf) (held ahead : Held) → HasCopied catalogue m s (files_of d) (opened_of d) (past_of d) held ahead → IsAhead move held ahead → Relists catalogue m made s (files_of after) (opened_of after) (past_of d) (past_of after) held ahead (published r made.journal.sound)
+  Relisted r = (catalogue : JournalState) (s : Shelf) (held ahead : Held) → HasCopied catalogue m s (shows d) held ahead → IsAhead move held ahead → Relists catalogue m made s (shows d).past (shows after) held ahead (published r made.journal.sound)
 
   pub publish_ends : (r : Result (Unit {0}) DiskErr) → Commits m made (all_changed m.entries (map set_entry move.pending)) (published r made.journal.sound) → (IsTrue tells → Relisted r)
-      → (IsTrue tells → OnStore (i + 1) m.journal.name (files_of d) (files_of after) (opened_of d) (opened_of after) (past_of d) (past_of after)) → faults_of d ≤ faults_of after
+      → (IsTrue tells → OnStore (i + 1) m.journal.name (shows d) (shows after)) → faults_of d ≤ faults_of after
       → (r ≡ Err Memory → made.journal.sound ≡ true) → (r ≡ Err Fault → Rose (faults_of d) (faults_of after)) → ChangesGiven Is tells (publishing i fs) before behind (end_of_disk r)
   publish_ends (Ok a) commits relisted on_store faults memory cause =
-      given_done files_of opened_of past_of faults_of tells c ms i m made here d after commits.granularity on_store faults Is (publishing i fs) next (λ held has is. refl) (λ held has is. valid_with i tells (beside before limbo) held fs is.ahead m here has)
+      given_done shows faults_of tells c ms i m made here d after commits.granularity on_store faults Is (publishing i fs) next (λ held has is. refl) (λ held has is. valid_with i tells (beside before limbo) held fs is.ahead m here has)
       (λ told held has is. (relisted told c.journal shelf (tier i held) (then held) (copied held has is told) (is_ahead i tells (beside before limbo) move fs held is)).any_moment) a (λ held has is. tt) commits.knows.1 (λ held has is. commits.knows.0 ∙ lists held has is)
       (λ told held has is. (relisted told c.journal shelf (tier i held) (then held) (copied held has is told) (is_ahead i tells (beside before limbo) move fs held is)).stands.stored.tier)
   publish_ends (Err e) commits relisted on_store faults memory cause =
-      given_cut files_of opened_of past_of faults_of tells c ms i m made here d after commits.granularity on_store faults Is (publishing i fs) next (λ held has is. refl) (λ held has is. valid_with i tells (beside before limbo) held fs is.ahead m here has)
+      given_cut shows faults_of tells c ms i m made here d after commits.granularity on_store faults Is (publishing i fs) next (λ held has is. refl) (λ held has is. valid_with i tells (beside before limbo) held fs is.ahead m here has)
       (λ told held has is. (relisted told c.journal shelf (tier i held) (then held) (copied held has is told) (is_ahead i tells (beside before limbo) move fs held is)).any_moment)
       (unchanged_by m made (all_changed m.entries (map set_entry move.pending)) e made.journal.sound commits.knows)
       (λ held has is unsound. next_by m made (all_changed m.entries (map set_entry move.pending)) e made.journal.sound unsound commits.knows ∙ lists held has is)
       (λ told held has is sound.
-      (unmade_by c.journal made shelf (files_of after) (opened_of after) (past_of after) (tier i held) (then held) e made.journal.sound sound (relisted told c.journal shelf (tier i held) (then held) (copied held has is told) (is_ahead i tells (beside before limbo) move fs held is)).stands).stored.tier)
+      (unmade_by c.journal made shelf (shows after) (tier i held) (then held) e made.journal.sound sound (relisted told c.journal shelf (tier i held) (then held) (copied held has is told) (is_ahead i tells (beside before limbo) move fs held is)).stands).stored.tier)
       (λ told held has is unsound.
-      list_unsure c.journal made shelf (files_of after) (opened_of after) (past_of after) (tier i held) (then held)
-      (doubted_by c.journal made shelf (files_of after) (opened_of after) (past_of after) (tier i held) (then held) e made.journal.sound unsound (relisted told c.journal shelf (tier i held) (then held) (copied held has is told) (is_ahead i tells (beside before limbo) move fs held is)).stands) unsound)
+      list_unsure c.journal made shelf (shows after) (tier i held) (then held)
+      (doubted_by c.journal made shelf (shows after) (tier i held) (then held) e made.journal.sound unsound (relisted told c.journal shelf (tier i held) (then held) (copied held has is told) (is_ahead i tells (beside before limbo) move fs held is)).stands) unsound)
       e (end_of_error e) refl (λ is. memory (ap (λ (x : DiskErr). Err x) is)) (λ is. cause (ap (λ (x : DiskErr). Err x) is))
 
 -- IT COPIES BESIDE THEM

@@ -4,10 +4,10 @@ use Rattle.std.proofs.Common.{◌≡◌, ◌⊎◌, inl, inr, false, Bool, ℕ, 
 use Rattle.std.specs.Prelude.{Contains, IsTrue, slice_get, All, nat_eq}
 use Rattle.std.proofs.lemmas.List.Elements.{All-contains, Contains-get_or, All-map, Contains-append_left, Contains-append_right}
 use Rattle.disk_model.specs.Files.{Name, Files}
-use Rattle.disk_model.specs.Past.{Past}
 use Rattle.pb_messages.specs.declared.about.About.{About}
 use Rattle.pb_messages.specs.declared.about.State.{State}
 use Rattle.gate_journal.specs.Generations.{IsOwn}
+use Rattle.gate_journal.specs.Standing.{Standing}
 use Rattle.gate_journal.proofs.Owning.{own_store}
 use Rattle.pv_catalog.specs.Catalogue.{CatalogueState, registered, renamed}
 use Rattle.pv_catalog.specs.Rows.{KeepsRows, switched}
@@ -359,20 +359,20 @@ pub fronts_beside : (old new : SeenAll) (journal : Name) → journal.0 ≡ 0 →
 fronts_beside old new journal zero_store same name len held front some within begins = subst (Begins front) (sym (same name (not_own old journal zero_store name len held))) begins
 
 -- the memory is the same
-pub held_same : {S : Type 0} (files_of : S → Files) (opened_of : S → Name → ℕ) (past_of : S → Past) (faults_of : S → ℕ) (c : CatalogueState) (ms : List ManifestState) (d after : S) (name : Name) (len : ℕ) → IsHeldTo (seen_on files_of opened_of past_of faults_of c ms d) name len → IsHeldTo (seen_on files_of opened_of past_of faults_of c ms after) name len
-held_same {S} files_of opened_of past_of faults_of c ms d after name len h = record { place = h.place; manifest = h.manifest; here = h.here; listed = h.listed; in_doubt = h.in_doubt; rows_in_doubt = h.rows_in_doubt }
+pub held_same : {S : Type 0} (shows : S → Standing) (faults_of : S → ℕ) (c : CatalogueState) (ms : List ManifestState) (d after : S) (name : Name) (len : ℕ) → IsHeldTo (seen_on shows faults_of c ms d) name len → IsHeldTo (seen_on shows faults_of c ms after) name len
+held_same {S} shows faults_of c ms d after name len h = record { place = h.place; manifest = h.manifest; here = h.here; listed = h.listed; in_doubt = h.in_doubt; rows_in_doubt = h.rows_in_doubt }
 
-pub read_shown : {S : Type 0} (files_of : S → Files) (opened_of : S → Name → ℕ) (past_of : S → Past) (faults_of : S → ℕ) (tells : Bool) (c : CatalogueState) (ms : List ManifestState) (limbo : List Retired) (d after : S) → (IsTrue tells → files_of after ≡ files_of d)
-    → KeepsShown tells (beside (seen_on files_of opened_of past_of faults_of c ms d) limbo) (beside (seen_on files_of opened_of past_of faults_of c ms after) limbo)
-read_shown {S} files_of opened_of past_of faults_of tells c ms limbo d after same = shown tells old new refl (λ name len h. held_same files_of opened_of past_of faults_of c ms d after name len h)
+pub read_shown : {S : Type 0} (shows : S → Standing) (faults_of : S → ℕ) (tells : Bool) (c : CatalogueState) (ms : List ManifestState) (limbo : List Retired) (d after : S) → (IsTrue tells → (shows after).files ≡ (shows d).files)
+    → KeepsShown tells (beside (seen_on shows faults_of c ms d) limbo) (beside (seen_on shows faults_of c ms after) limbo)
+read_shown {S} shows faults_of tells c ms limbo d after same = shown tells old new refl (λ name len h. held_same shows faults_of c ms d after name len h)
     (λ name len r. record { listed = r.no_shorter.listed; in_doubt = r.no_shorter.in_doubt; rows_in_doubt = r.no_shorter.rows_in_doubt })
     (λ told. fronts_same old new (same told))
   where
     old : SeenAll
-    old = beside (seen_on files_of opened_of past_of faults_of c ms d) limbo
+    old = beside (seen_on shows faults_of c ms d) limbo
 
     new : SeenAll
-    new = beside (seen_on files_of opened_of past_of faults_of c ms after) limbo
+    new = beside (seen_on shows faults_of c ms after) limbo
 
 -- THE CALLS
 

@@ -7,9 +7,10 @@ use Rattle.std.proofs.lemmas.Bool.{cases_lt}
 use Rattle.std.proofs.lemmas.Option.{same_Some}
 use Rattle.std.proofs.lemmas.List.Elements.{All-contains, Contains-append_cases, Contains-append_left, Contains-append_right}
 use Rattle.disk_model.specs.Files.{Name, Content, Files, HasFile}
-use Rattle.disk_model.specs.Past.{MayLeave, Only, Past}
+use Rattle.disk_model.specs.Past.{MayLeave, Only}
 use Rattle.disk_model.specs.declared.disk.DiskErr.{DiskErr}
 use Rattle.gate_journal.specs.Generations.{IsOwn}
+use Rattle.gate_journal.specs.Standing.{Standing, ReadsDisk}
 use Rattle.gate_journal.proofs.Owning.{own_store}
 use Rattle.partition_names.specs.Part.{HoldsMoment, IsPart}
 use Rattle.partition_names.specs.Path.{path_of}
@@ -23,7 +24,6 @@ use Rattle.store_manifest.specs.Manifest.{ManifestState}
 use Rattle.store_manifest.specs.declared.entry.Entry.{Entry}
 use Rattle.etl_mover.specs.Copying.{SetsLast, last_of, starts}
 use Rattle.etl_mover.specs.Move.{MoveState, IsMove, part_file}
-use Rattle.etl_mover.specs.Reading.{OnlyReads}
 use Rattle.etl_mover.specs.Step.{Advances, Copies, CopiesPart, GoesTo, IsPlacedOrNot, source_file, target_file}
 use Rattle.etl_mover.specs.Writing.{LeavesFile}
 use Rattle.durable_write.specs.Ends.{Done, End, end_of_disk}
@@ -352,7 +352,7 @@ targets_then move mid moved files then later first second = record {
   still = λ n t. second.still n (first.still n t);
 }
 
-module _ (fine : Granularity) (move new : MoveState) (revived : Option Entry) (part : Entry) (from len : ℕ) (files later : Files) (opened after : Name → ℕ) (past then : Past) (running : IsMove fine move) (still_running : IsMove fine new) (advances : Advances move new revived len) where
+module _ (fine : Granularity) (move new : MoveState) (revived : Option Entry) (part : Entry) (from len : ℕ) (disk then : Standing) (running : IsMove fine move) (still_running : IsMove fine new) (advances : Advances move new revived len) where
   same_to : new.destination ≡ move.destination
   same_to = elim advances.is [ inl is ↦ ap (λ (m : MoveState). m.destination) is | inr (p, here, is) ↦ ap (λ (m : MoveState). m.destination) is ]
 
@@ -402,19 +402,19 @@ module _ (fine : Granularity) (move new : MoveState) (revived : Option Entry) (p
             goes_on e.0 entry n e.2 (ap (λ (p : Part). p.name) (sym one)) (set_within entry sets)
       ]
 
-  pub step_targets : slice_get move.parts move.at ≡ Some part → IsPlacedOrNot move revived part → HasFile files (source_file move part) (λ b. len ≤ length b)
-      → ((p : Entry) (start : Start) → GoesTo move revived p start → LeavesFile (target_file move start) start.at files later opened after past then)
-      → ((p : Entry) (start : Start) (b : List ℕ) → GoesTo move revived p start → files (source_file move p) ≡ Some b → CopiesPart move new start p from len 1_048_576 b files later after then)
-      → (((p : Entry) (start : Start) → GoesTo move revived p start → ⊥) → OnlyReads files later opened after past then) → WritesTargets move new files later
+  pub step_targets : slice_get move.parts move.at ≡ Some part → IsPlacedOrNot move revived part → HasFile disk.files (source_file move part) (λ b. len ≤ length b)
+      → ((p : Entry) (start : Start) → GoesTo move revived p start → LeavesFile (target_file move start) start.at disk then)
+      → ((p : Entry) (start : Start) (b : List ℕ) → GoesTo move revived p start → disk.files (source_file move p) ≡ Some b → CopiesPart move new start p from len 1_048_576 b disk.files then)
+      → (((p : Entry) (start : Start) → GoesTo move revived p start → ⊥) → ReadsDisk disk then) → WritesTargets move new disk.files then.files
   step_targets here (inl (start, goes)) file leaves copies nowhere = let done = copies part start file.bytes goes file.file in go done.0 done.1
     where
-      go : (lines : List ℕ) → Copies (target_file move start) start part from len 1_048_576 file.bytes move.pending new.pending files later after then lines → WritesTargets move new files later
+      go : (lines : List ℕ) → Copies (target_file move start) start part from len 1_048_576 file.bytes move.pending new.pending disk.files then lines → WritesTargets move new disk.files then.files
       go lines copied = elim copied.writes [
         | inl writes ↦ record {
           others = λ n not. (leaves part start goes).elsewhere n (λ is. not (goes_on start.entry copied.entry n (sym is) (ap (λ (p : Part). p.name) copied.part_is) (set_within copied.entry writes.set)));
           still = set_still copied.entry writes.set;
         }
-        | inr none ↦ targets_same move new files later (ap (λ (es : List Entry). map (part_file new.destination new.name) es) none.same ∙ (ap (λ (n : ℕ). map (part_file n new.name) move.pending) same_to ∙ ap (λ (t : List ℕ). map (part_file move.destination t) move.pending) same_name)) none.same_files
+        | inr none ↦ targets_same move new disk.files then.files (ap (λ (es : List Entry). map (part_file new.destination new.name) es) none.same ∙ (ap (λ (n : ℕ). map (part_file n new.name) move.pending) same_to ∙ ap (λ (t : List ℕ). map (part_file move.destination t) move.pending) same_name)) none.same_files
       ]
   step_targets here (inr none) file leaves copies nowhere = record {
     others = λ n not. ap (λ (f : Files). f n) (nowhere never).same;

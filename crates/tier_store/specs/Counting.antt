@@ -1,8 +1,8 @@
 -- How many samples of a file are later than a moment.
 use Rattle.std.specs.Prelude.{◌≡◌, ◌-◌, ◌+◌, ℕ, ℤ, List, ◌++◌, length, take, drop, Option, None, Some, IsTrue}
 use Rattle.disk_model.specs.Files.{Name, Files, HasFile}
-use Rattle.disk_model.specs.Past.{Past, Passes}
 use Rattle.disk_model.specs.declared.disk.Disk.{Ghosts}
+use Rattle.gate_journal.specs.Standing.{ReadsDisk, standing}
 use Rattle.pb_wire.specs.declared.payload.PayloadType.{PayloadType}
 use Rattle.series_model.specs.declared.sample.Sample.{Sample}
 use Rattle.series_model.specs.Series.{since}
@@ -14,14 +14,9 @@ abbrev pub behind : Option ℕ → ℕ
 behind None = 0
 behind (Some t) = t + 1
 
--- the disk was only read
-pub record ReadsDisk (files later : Files) (opened after : Name → ℕ) (old new : Past) : Type 0 where
-  pub same : later ≡ files
-  pub same_opened : after ≡ opened
-  pub any_moment : Passes (λ a b. b ≡ a) old new
-
+-- a disk that tells its files was only read
 abbrev pub OnlyReadsDisk : {D R : Type 0} → Ghosts D R → D → D → Type 0
-OnlyReadsDisk {D} {R} disk old new = IsTrue disk.tells → ReadsDisk (disk.files old) (disk.files new) (disk.opened old) (disk.opened new) (disk.past old) (disk.past new)
+OnlyReadsDisk {D} {R} disk old new = IsTrue disk.tells → ReadsDisk (standing disk old) (standing disk new)
 
 -- So many bytes are the lines of all samples that stand at the front one after another, and so many of these are not earlier than n.
 pub record CountsLines (ty : PayloadType) (year : ℤ) (bytes : List ℕ) (n len count : ℕ) : Type 0 where

@@ -4,7 +4,8 @@ use Rattle.std.specs.Ordering.{nat_cmp}
 use Rattle.std.specs.List.{AllPairs}
 use Rattle.std.specs.Prelude.{◌≡◌, ◌≢◌, ◌⊎◌, ◌≤◌, ◌+◌, ℕ, Bool, List, [], ◌∷◌, All, Contains, IsSome, IsTrue, length, map, None, Some, slice_get}
 use Rattle.disk_model.specs.Files.{Name, Files}
-use Rattle.disk_model.specs.Past.{Past, Passes, Only}
+use Rattle.disk_model.specs.Past.{Passes, Only}
+use Rattle.gate_journal.specs.Standing.{Standing}
 use Rattle.partition_names.specs.declared.granularity.Granularity.{Granularity}
 use Rattle.partition_names.specs.Part.{IsPart}
 use Rattle.pins.specs.Pieces.{PinOf}
@@ -140,20 +141,20 @@ abbrev pub Spares : FinMap nat_cmp PinOf → List Name → List Retired → File
 Spares pins copied limbo old new = (n : Name) → ((r : Retired) → Contains limbo r → r.name ≡ n → IsNeeded pins copied n) → new n ≡ old n
 
 -- Reads and a crash at any moment spare all others and those that are needed, and no name is opened further.
-pub record Removes (pins : FinMap nat_cmp PinOf) (copied : List Name) (limbo : List Retired) (files later : Files) (opened after : Name → ℕ) (old new : Past) : Type 0 where
-  pub any_moment : Passes (Spares pins copied limbo) old new
-  pub spares : Spares pins copied limbo files later
-  pub fewer : (n : Name) → after n ≤ opened n
+pub record Removes (pins : FinMap nat_cmp PinOf) (copied : List Name) (limbo : List Retired) (old new : Standing) : Type 0 where
+  pub any_moment : Passes (Spares pins copied limbo) old.past new.past
+  pub spares : Spares pins copied limbo old.files new.files
+  pub fewer : (n : Name) → new.opened n ≤ old.opened n
 
 -- all but these names has what it had
 abbrev pub SparesNames : List Name → Files → Files → Type 0
 SparesNames names old new = (n : Name) → (Contains names n → ⊥) → new n ≡ old n
 
 -- Reads and a crash at any moment spare all but these names, and no name is opened further.
-pub record RemovesNames (names : List Name) (files later : Files) (opened after : Name → ℕ) (old new : Past) : Type 0 where
-  pub any_moment : Passes (SparesNames names) old new
-  pub spares : SparesNames names files later
-  pub fewer : (n : Name) → after n ≤ opened n
+pub record RemovesNames (names : List Name) (old new : Standing) : Type 0 where
+  pub any_moment : Passes (SparesNames names) old.past new.past
+  pub spares : SparesNames names old.files new.files
+  pub fewer : (n : Name) → new.opened n ≤ old.opened n
 
 -- of the files this is true of the name of each that isn't needed
 abbrev pub AreFree : FinMap nat_cmp PinOf → List Name → (Name → Type 0) → List Retired → Type 0

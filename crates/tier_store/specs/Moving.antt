@@ -14,7 +14,7 @@ use Rattle.durable_write.specs.Plan.{IsLastOf, of_row}
 use Rattle.durable_write.specs.Stored.{AreSafe}
 use Rattle.tier_store.specs.Change.{Call, Has, Doubts}
 use Rattle.tier_store.specs.Pinned.{SeenAll}
-use Rattle.tier_store.specs.Seen.{Seen, granularities}
+use Rattle.tier_store.specs.Seen.{Seen, granularities, on_disk}
 use Rattle.tier_store.specs.Stores.{Stores, list_at, with_list}
 use Rattle.tier_store.specs.declared.limbo.Retired.{Retired}
 
@@ -37,7 +37,7 @@ NoneRetiredShortened shelf limbo listed files = (r : Retired) (f : Filed) → Co
 pub record MayBeListed (i : ℕ) (tells : Bool) (all : SeenAll) (held : Stores) (files : List Filed) : Type 0 where
   pub rise : PlacesRise files
   pub filed : (g : Granularity) → slice_get (granularities all.stores.manifests) i ≡ Some g → AreFiled g (of_files i held files)
-  pub safe : IsTrue tells → AreSafe (of_files i held files) all.stores.files all.stores.opened all.stores.past
+  pub safe : IsTrue tells → AreSafe (of_files i held files) (on_disk all.stores)
   pub longer : NoneShortened (list_at i held) files
   pub longer_retired : NoneRetiredShortened (i + 1, held.rows) all.limbo (list_at i held) files
 

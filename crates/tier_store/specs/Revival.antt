@@ -13,7 +13,7 @@ use Rattle.durable_write.specs.Stored.{AreSafe}
 use Rattle.tier_store.specs.Change.{Call}
 use Rattle.tier_store.specs.Limbo.{ListsPlace}
 use Rattle.tier_store.specs.Pinned.{SeenAll, IsHeldTo}
-use Rattle.tier_store.specs.Seen.{Seen}
+use Rattle.tier_store.specs.Seen.{Seen, on_disk}
 use Rattle.tier_store.specs.Stores.{Stores, tier, with_list}
 use Rattle.tier_store.specs.declared.limbo.Retired.{Retired}
 
@@ -57,7 +57,7 @@ pub record AreWhole (i : ℕ) (tells : Bool) (at : Seen) (limbo : List Retired) 
   pub from : All (λ (f : Filed). IsOfLimbo i limbo f.entry) files
   pub rise : PlacesRise files
   pub filed : (m : ManifestState) → slice_get at.manifests i ≡ Some m → AreFiled m.granularity (store_with i at stands files)
-  pub safe : IsTrue tells → AreSafe (store_with i at stands files) at.files at.opened at.past
+  pub safe : IsTrue tells → AreSafe (store_with i at stands files) (on_disk at)
 
 -- limbo of each store stays whole: of whatever files it was, it is so of some still
 abbrev pub KeepsWhole : Bool → SeenAll → SeenAll → Type 0

@@ -9,6 +9,7 @@ ghost use Rattle.std.specs.Prelude.{IsTrue, IsSome, length};
 ghost use Rattle.disk_model.specs.Files.{Name, Rose};
 ghost use Rattle.disk_model.specs.Past.{Passes, Only};
 ghost use Rattle.disk_model.specs.Record.{is_same};
+ghost use Rattle.gate_journal.specs.Standing.{standing};
 ghost use Rattle.std.specs.List.{list_any, AllPairs};
 ghost use Rattle.store_manifest.specs.Entries.{InOrder};
 ghost use Rattle.tier_store.specs.Counting.{OnlyReadsDisk};
@@ -101,8 +102,7 @@ pub(crate) fn clear_limbo<D: Disk>(
         → AreRemovable (IsUseless pinned.now copied.now) limbo.old.items (D.files disk.old) removable.now }
 
     ensures removes { IsTrue D.tells
-        → Removes pinned.now copied.now limbo.old.items (D.files disk.old) (D.files disk.new)
-        (D.opened disk.old) (D.opened disk.new) (D.past disk.old) (D.past disk.new) }
+        → Removes pinned.now copied.now limbo.old.items (standing D.Disk disk.old) (standing D.Disk disk.new) }
     ensures gone { IsTrue D.tells
         → OnOk result.removed (AreFree pinned.now copied.now (λ n. Only (D.past disk.new) n None) limbo.old.items) }
     ensures needed { StayNeeded pinned.now copied.now limbo.old.items limbo.new.items }
@@ -126,8 +126,8 @@ pub(crate) fn remove_for_good<D: Disk>(
     requires { IsTrue D.tells
         → AreRemovable (IsUseless pinned.now copied.now) files.now (D.files disk.old) removable.now }
 
-    ensures removes { IsTrue D.tells → Removes pinned.now copied.now files.now (D.files disk.old) (D.files disk.new)
-        (D.opened disk.old) (D.opened disk.new) (D.past disk.old) (D.past disk.new) }
+    ensures removes { IsTrue D.tells
+        → Removes pinned.now copied.now files.now (standing D.Disk disk.old) (standing D.Disk disk.new) }
     ensures gone { IsTrue D.tells
         → OnOk result (AreFree pinned.now copied.now (λ n. Only (D.past disk.new) n None) files.now) }
     ensures faults { D.faults disk.old ≤ D.faults disk.new }
@@ -168,8 +168,7 @@ fn remove_all<D: Disk>(disk: &mut D, names: &[FileName]) -> Result<(), DiskErr>
     requires { IsTrue D.tells
         → AllPairs (λ (a b : Name). a ≢ b) names.now × All (λ (n : Name). IsSome (D.files disk.old n)) names.now }
 
-    ensures removes { IsTrue D.tells → RemovesNames names.now (D.files disk.old) (D.files disk.new)
-        (D.opened disk.old) (D.opened disk.new) (D.past disk.old) (D.past disk.new) }
+    ensures removes { IsTrue D.tells → RemovesNames names.now (standing D.Disk disk.old) (standing D.Disk disk.new) }
     ensures gone { IsTrue D.tells → OnOk result (All (λ (n : Name). D.files disk.new n ≡ None) names.now) }
     ensures faults { D.faults disk.old ≤ D.faults disk.new }
     ensures cause { IsErr result → Rose (D.faults disk.old) (D.faults disk.new) }

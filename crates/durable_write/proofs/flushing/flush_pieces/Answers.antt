@@ -17,18 +17,18 @@ write_all-requires-clause-can g c tells =
 
 pub returns-in_err-changes-clause-any_moment : goal.returns-in_err-changes-clause-any_moment
 returns-in_err-changes-clause-any_moment g c tells catalogue held ahead fs has makes =
-    still_held catalogue c.args.manifest.now (c.args.store, c.args.rows.now) _ _ _ (g.D.Disk.past c.args.disk.now) held (with_files held fs) has.stored
+    still_held catalogue c.args.manifest.now (c.args.store, c.args.rows.now) _ (g.D.Disk.past c.args.disk.now) held (with_files held fs) has.stored
     (behind_none held (g.D.Disk.past c.args.disk.now))
 
 pub returns-in_err-write_all-clause-any_moment : goal.returns-in_err-write_all-clause-any_moment
 returns-in_err-write_all-clause-any_moment g c tells catalogue held ahead fs has makes =
-    still_held catalogue c.args.manifest.now (c.args.store, c.args.rows.now) _ _ _ (g.D.Disk.past c.write_all.new.disk) held (with_files held fs) has.stored
-    (leads_behind held ahead _ _ _ _ has.leads has.safe.safe (c.write_all.ensures.any_moment tells c.args.manifest.now.granularity ahead fs has.safe makes))
+    still_held catalogue c.args.manifest.now (c.args.store, c.args.rows.now) _ (g.D.Disk.past c.write_all.new.disk) held (with_files held fs) has.stored
+    (leads_behind held ahead _ _ has.leads has.safe.safe (c.write_all.ensures.any_moment tells c.args.manifest.now.granularity ahead fs has.safe makes))
 
 pub returns-in_err-write_all-clause-unmade : goal.returns-in_err-write_all-clause-unmade
 returns-in_err-write_all-clause-unmade g c tells catalogue held ahead fs has makes =
     let p = err_from_is_err_and c.from_residual-in_err-write_all.result c.from_residual-in_err-write_all.ensures.1 in
-    rw p.1 (λ sound. still_copied catalogue c.args.manifest.now (c.args.store, c.args.rows.now) _ _ _ _ _ _ held ahead has
+    rw p.1 (λ sound. still_copied catalogue c.args.manifest.now (c.args.store, c.args.rows.now) _ _ held ahead has
     (c.write_all.ensures.any_moment tells c.args.manifest.now.granularity ahead fs has.safe makes) (c.write_all.ensures.still tells c.args.manifest.now.granularity ahead fs has.safe makes) (c.write_all.ensures.elsewhere tells) (c.write_all.ensures.no_more tells))
 
 pub returns-in_err-changes-clause-frame : goal.returns-in_err-changes-clause-frame
@@ -69,37 +69,37 @@ relist-requires-clause-can g c tells =
       (c.args.store, c.args.rows.now),
       is.1,
       with_files is.1 is.3,
-      can_relist_over is.0 c.args.manifest.now (c.args.store, c.args.rows.now) _ _ _ _ _ _ is.1 is.2 c.args.pieces.now is.3 c.deref.result.now is.4 is.5 (c.deref.ensures.value ∙ c.in_ok-changes.ensures)
+      can_relist_over is.0 c.args.manifest.now (c.args.store, c.args.rows.now) _ _ is.1 is.2 c.args.pieces.now is.3 c.deref.result.now is.4 is.5 (c.deref.ensures.value ∙ c.in_ok-changes.ensures)
           (c.write_all.ensures.any_moment tells c.args.manifest.now.granularity is.2 is.3 is.4.safe is.5) (c.write_all.ensures.still tells c.args.manifest.now.granularity is.2 is.3 is.4.safe is.5) (c.write_all.ensures.elsewhere tells) (c.write_all.ensures.no_more tells) (c.in_ok-write_all.ensures.written tells c.args.manifest.now.granularity is.2 is.3 is.4.safe is.5),
     )
 
 pub returns-in_err-relist-clause-any_moment : goal.returns-in_err-relist-clause-any_moment
 returns-in_err-relist-clause-any_moment g c tells catalogue held ahead fs has makes =
     let behind = c.write_all.ensures.any_moment tells c.args.manifest.now.granularity ahead fs has.safe makes in
-    let can = can_relist_over catalogue c.args.manifest.now (c.args.store, c.args.rows.now) _ _ _ _ _ _ held ahead c.args.pieces.now fs c.deref.result.now has makes (c.deref.ensures.value ∙ c.in_ok-changes.ensures) behind
+    let can = can_relist_over catalogue c.args.manifest.now (c.args.store, c.args.rows.now) _ _ held ahead c.args.pieces.now fs c.deref.result.now has makes (c.deref.ensures.value ∙ c.in_ok-changes.ensures) behind
     (c.write_all.ensures.still tells c.args.manifest.now.granularity ahead fs has.safe makes) (c.write_all.ensures.elsewhere tells) (c.write_all.ensures.no_more tells) (c.in_ok-write_all.ensures.written tells c.args.manifest.now.granularity ahead fs has.safe makes) in
     then_either c.args.manifest.now.granularity held (with_files held fs) (g.D.Disk.past c.args.disk.now) (g.D.Disk.past c.write_all.new.disk) (g.D.Disk.past c.relist.new.disk)
-    (still_held catalogue c.args.manifest.now (c.args.store, c.args.rows.now) _ _ _ (g.D.Disk.past c.write_all.new.disk) held (with_files held fs) has.stored (leads_behind held ahead _ _ _ _ has.leads has.safe.safe behind)) (c.relist.ensures.any_moment tells catalogue (c.args.store, c.args.rows.now) held (with_files held fs) can)
+    (still_held catalogue c.args.manifest.now (c.args.store, c.args.rows.now) _ (g.D.Disk.past c.write_all.new.disk) held (with_files held fs) has.stored (leads_behind held ahead _ _ has.leads has.safe.safe behind)) (c.relist.ensures.any_moment tells catalogue (c.args.store, c.args.rows.now) held (with_files held fs) can)
 
 pub returns-clause-any_moment : goal.returns-clause-any_moment
 returns-clause-any_moment g c tells catalogue held ahead fs has makes =
     let behind = c.write_all.ensures.any_moment tells c.args.manifest.now.granularity ahead fs has.safe makes in
-    let can = can_relist_over catalogue c.args.manifest.now (c.args.store, c.args.rows.now) _ _ _ _ _ _ held ahead c.args.pieces.now fs c.deref.result.now has makes (c.deref.ensures.value ∙ c.in_ok-changes.ensures) behind
+    let can = can_relist_over catalogue c.args.manifest.now (c.args.store, c.args.rows.now) _ _ held ahead c.args.pieces.now fs c.deref.result.now has makes (c.deref.ensures.value ∙ c.in_ok-changes.ensures) behind
     (c.write_all.ensures.still tells c.args.manifest.now.granularity ahead fs has.safe makes) (c.write_all.ensures.elsewhere tells) (c.write_all.ensures.no_more tells) (c.in_ok-write_all.ensures.written tells c.args.manifest.now.granularity ahead fs has.safe makes) in
     then_either c.args.manifest.now.granularity held (with_files held fs) (g.D.Disk.past c.args.disk.now) (g.D.Disk.past c.write_all.new.disk) (g.D.Disk.past c.relist.new.disk)
-    (still_held catalogue c.args.manifest.now (c.args.store, c.args.rows.now) _ _ _ (g.D.Disk.past c.write_all.new.disk) held (with_files held fs) has.stored (leads_behind held ahead _ _ _ _ has.leads has.safe.safe behind)) (c.relist.ensures.any_moment tells catalogue (c.args.store, c.args.rows.now) held (with_files held fs) can)
+    (still_held catalogue c.args.manifest.now (c.args.store, c.args.rows.now) _ (g.D.Disk.past c.write_all.new.disk) held (with_files held fs) has.stored (leads_behind held ahead _ _ has.leads has.safe.safe behind)) (c.relist.ensures.any_moment tells catalogue (c.args.store, c.args.rows.now) held (with_files held fs) can)
 
 pub returns-clause-made : goal.returns-clause-made
 returns-clause-made g c tells catalogue held ahead fs has makes =
     let behind = c.write_all.ensures.any_moment tells c.args.manifest.now.granularity ahead fs has.safe makes in
-    let can = can_relist_over catalogue c.args.manifest.now (c.args.store, c.args.rows.now) _ _ _ _ _ _ held ahead c.args.pieces.now fs c.deref.result.now has makes (c.deref.ensures.value ∙ c.in_ok-changes.ensures) behind
+    let can = can_relist_over catalogue c.args.manifest.now (c.args.store, c.args.rows.now) _ _ held ahead c.args.pieces.now fs c.deref.result.now has makes (c.deref.ensures.value ∙ c.in_ok-changes.ensures) behind
     (c.write_all.ensures.still tells c.args.manifest.now.granularity ahead fs has.safe makes) (c.write_all.ensures.elsewhere tells) (c.write_all.ensures.no_more tells) (c.in_ok-write_all.ensures.written tells c.args.manifest.now.granularity ahead fs has.safe makes) in
     c.in_ok-relist.ensures.made tells catalogue (c.args.store, c.args.rows.now) held (with_files held fs) can
 
 pub returns-in_err-relist-clause-unmade : goal.returns-in_err-relist-clause-unmade
 returns-in_err-relist-clause-unmade g c tells catalogue held ahead fs has makes =
     let behind = c.write_all.ensures.any_moment tells c.args.manifest.now.granularity ahead fs has.safe makes in
-    let can = can_relist_over catalogue c.args.manifest.now (c.args.store, c.args.rows.now) _ _ _ _ _ _ held ahead c.args.pieces.now fs c.deref.result.now has makes (c.deref.ensures.value ∙ c.in_ok-changes.ensures) behind
+    let can = can_relist_over catalogue c.args.manifest.now (c.args.store, c.args.rows.now) _ _ held ahead c.args.pieces.now fs c.deref.result.now has makes (c.deref.ensures.value ∙ c.in_ok-changes.ensures) behind
     (c.write_all.ensures.still tells c.args.manifest.now.granularity ahead fs has.safe makes) (c.write_all.ensures.elsewhere tells) (c.write_all.ensures.no_more tells) (c.in_ok-write_all.ensures.written tells c.args.manifest.now.granularity ahead fs has.safe makes) in
     let p = err_from_is_err_and c.from_residual-in_err-relist.result c.from_residual-in_err-relist.ensures.1 in
     rw p.1 (c.in_err-relist.ensures.unmade tells catalogue (c.args.store, c.args.rows.now) held (with_files held fs) can)
@@ -107,7 +107,7 @@ returns-in_err-relist-clause-unmade g c tells catalogue held ahead fs has makes 
 pub returns-in_err-relist-clause-in_doubt : goal.returns-in_err-relist-clause-in_doubt
 returns-in_err-relist-clause-in_doubt g c tells catalogue held ahead fs has makes =
     let behind = c.write_all.ensures.any_moment tells c.args.manifest.now.granularity ahead fs has.safe makes in
-    let can = can_relist_over catalogue c.args.manifest.now (c.args.store, c.args.rows.now) _ _ _ _ _ _ held ahead c.args.pieces.now fs c.deref.result.now has makes (c.deref.ensures.value ∙ c.in_ok-changes.ensures) behind
+    let can = can_relist_over catalogue c.args.manifest.now (c.args.store, c.args.rows.now) _ _ held ahead c.args.pieces.now fs c.deref.result.now has makes (c.deref.ensures.value ∙ c.in_ok-changes.ensures) behind
     (c.write_all.ensures.still tells c.args.manifest.now.granularity ahead fs has.safe makes) (c.write_all.ensures.elsewhere tells) (c.write_all.ensures.no_more tells) (c.in_ok-write_all.ensures.written tells c.args.manifest.now.granularity ahead fs has.safe makes) in
     let p = err_from_is_err_and c.from_residual-in_err-relist.result c.from_residual-in_err-relist.ensures.1 in
     rw p.1 (c.in_err-relist.ensures.in_doubt tells catalogue (c.args.store, c.args.rows.now) held (with_files held fs) can)
@@ -125,12 +125,12 @@ returns-in_err-write_all-clause-ahead g c tells catalogue held ahead fs has make
 pub returns-in_err-relist-clause-ahead : goal.returns-in_err-relist-clause-ahead
 returns-in_err-relist-clause-ahead g c tells catalogue held ahead fs has makes =
     leaves_on (listing_of ahead) _ _ _ _ (g.D.Disk.past c.write_all.new.disk) _ (leaves_ahead ahead _ _ _ _ (c.write_all.ensures.behind tells c.args.manifest.now.granularity ahead fs has.safe makes) (c.write_all.ensures.any_moment tells c.args.manifest.now.granularity ahead fs has.safe makes))
-    (ahead_committed catalogue c.args.manifest.now (c.args.store, c.args.rows.now) _ _ _ _ _ _ _ held ahead has (c.relist.ensures.elsewhere tells) (c.relist.ensures.frame tells))
+    (ahead_committed catalogue c.args.manifest.now (c.args.store, c.args.rows.now) _ _ _ _ _ held ahead has (c.relist.ensures.elsewhere tells) (c.relist.ensures.frame tells))
 
 pub returns-clause-ahead : goal.returns-clause-ahead
 returns-clause-ahead g c tells catalogue held ahead fs has makes =
     leaves_on (listing_of ahead) _ _ _ _ (g.D.Disk.past c.write_all.new.disk) _ (leaves_ahead ahead _ _ _ _ (c.write_all.ensures.behind tells c.args.manifest.now.granularity ahead fs has.safe makes) (c.write_all.ensures.any_moment tells c.args.manifest.now.granularity ahead fs has.safe makes))
-    (ahead_committed catalogue c.args.manifest.now (c.args.store, c.args.rows.now) _ _ _ _ _ _ _ held ahead has (c.relist.ensures.elsewhere tells) (c.relist.ensures.frame tells))
+    (ahead_committed catalogue c.args.manifest.now (c.args.store, c.args.rows.now) _ _ _ _ _ held ahead has (c.relist.ensures.elsewhere tells) (c.relist.ensures.frame tells))
 
 pub returns-in_err-changes-clause-long : goal.returns-in_err-changes-clause-long
 returns-in_err-changes-clause-long g c tells catalogue held ahead fs has makes = has.safe.safe.long
@@ -139,10 +139,10 @@ pub returns-in_err-write_all-clause-long : goal.returns-in_err-write_all-clause-
 returns-in_err-write_all-clause-long g c tells catalogue held ahead fs has makes = c.write_all.ensures.still tells c.args.manifest.now.granularity ahead fs has.safe makes
 
 pub returns-in_err-relist-clause-long : goal.returns-in_err-relist-clause-long
-returns-in_err-relist-clause-long g c tells catalogue held ahead fs has makes = ahead_long catalogue c.args.manifest.now (c.args.store, c.args.rows.now) _ _ _ _ _ held ahead has (c.relist.ensures.elsewhere tells) (c.write_all.ensures.still tells c.args.manifest.now.granularity ahead fs has.safe makes)
+returns-in_err-relist-clause-long g c tells catalogue held ahead fs has makes = ahead_long catalogue c.args.manifest.now (c.args.store, c.args.rows.now) _ _ _ held ahead has (c.relist.ensures.elsewhere tells) (c.write_all.ensures.still tells c.args.manifest.now.granularity ahead fs has.safe makes)
 
 pub returns-clause-long : goal.returns-clause-long
-returns-clause-long g c tells catalogue held ahead fs has makes = ahead_long catalogue c.args.manifest.now (c.args.store, c.args.rows.now) _ _ _ _ _ held ahead has (c.relist.ensures.elsewhere tells) (c.write_all.ensures.still tells c.args.manifest.now.granularity ahead fs has.safe makes)
+returns-clause-long g c tells catalogue held ahead fs has makes = ahead_long catalogue c.args.manifest.now (c.args.store, c.args.rows.now) _ _ _ held ahead has (c.relist.ensures.elsewhere tells) (c.write_all.ensures.still tells c.args.manifest.now.granularity ahead fs has.safe makes)
 
 -- THE LISTED BYTES
 
@@ -153,19 +153,19 @@ returns-in_err-changes-clause-listed g c tells =
 pub returns-in_err-write_all-clause-listed : goal.returns-in_err-write_all-clause-listed
 returns-in_err-write_all-clause-listed g c tells =
     let is = c.requires.stored tells in
-    leaves_copied is.0 c.args.manifest.now (c.args.store, c.args.rows.now) _ _ _ _ _ is.1 is.2 is.4 (c.write_all.ensures.behind tells c.args.manifest.now.granularity is.2 is.3 is.4.safe is.5) (c.write_all.ensures.any_moment tells c.args.manifest.now.granularity is.2 is.3 is.4.safe is.5)
+    leaves_copied is.0 c.args.manifest.now (c.args.store, c.args.rows.now) _ _ _ is.1 is.2 is.4 (c.write_all.ensures.behind tells c.args.manifest.now.granularity is.2 is.3 is.4.safe is.5) (c.write_all.ensures.any_moment tells c.args.manifest.now.granularity is.2 is.3 is.4.safe is.5)
 
 pub returns-in_err-relist-clause-listed : goal.returns-in_err-relist-clause-listed
 returns-in_err-relist-clause-listed g c tells =
     let is = c.requires.stored tells in
-    leaves_on ((c.args.store, c.args.rows.now), c.args.manifest.now.entries) _ _ _ _ (g.D.Disk.past c.write_all.new.disk) _ (leaves_copied is.0 c.args.manifest.now (c.args.store, c.args.rows.now) _ _ _ _ _ is.1 is.2 is.4 (c.write_all.ensures.behind tells c.args.manifest.now.granularity is.2 is.3 is.4.safe is.5) (c.write_all.ensures.any_moment tells c.args.manifest.now.granularity is.2 is.3 is.4.safe is.5))
-    (leaves_committed is.0 c.args.manifest.now (c.args.store, c.args.rows.now) _ _ _ _ _ _ _ is.1 is.4.stored (c.relist.ensures.elsewhere tells) (c.relist.ensures.frame tells))
+    leaves_on ((c.args.store, c.args.rows.now), c.args.manifest.now.entries) _ _ _ _ (g.D.Disk.past c.write_all.new.disk) _ (leaves_copied is.0 c.args.manifest.now (c.args.store, c.args.rows.now) _ _ _ is.1 is.2 is.4 (c.write_all.ensures.behind tells c.args.manifest.now.granularity is.2 is.3 is.4.safe is.5) (c.write_all.ensures.any_moment tells c.args.manifest.now.granularity is.2 is.3 is.4.safe is.5))
+    (leaves_committed is.0 c.args.manifest.now (c.args.store, c.args.rows.now) _ _ _ _ _ is.1 is.4.stored (c.relist.ensures.elsewhere tells) (c.relist.ensures.frame tells))
 
 pub returns-clause-listed : goal.returns-clause-listed
 returns-clause-listed g c tells =
     let is = c.requires.stored tells in
-    leaves_on ((c.args.store, c.args.rows.now), c.args.manifest.now.entries) _ _ _ _ (g.D.Disk.past c.write_all.new.disk) _ (leaves_copied is.0 c.args.manifest.now (c.args.store, c.args.rows.now) _ _ _ _ _ is.1 is.2 is.4 (c.write_all.ensures.behind tells c.args.manifest.now.granularity is.2 is.3 is.4.safe is.5) (c.write_all.ensures.any_moment tells c.args.manifest.now.granularity is.2 is.3 is.4.safe is.5))
-    (leaves_committed is.0 c.args.manifest.now (c.args.store, c.args.rows.now) _ _ _ _ _ _ _ is.1 is.4.stored (c.relist.ensures.elsewhere tells) (c.relist.ensures.frame tells))
+    leaves_on ((c.args.store, c.args.rows.now), c.args.manifest.now.entries) _ _ _ _ (g.D.Disk.past c.write_all.new.disk) _ (leaves_copied is.0 c.args.manifest.now (c.args.store, c.args.rows.now) _ _ _ is.1 is.2 is.4 (c.write_all.ensures.behind tells c.args.manifest.now.granularity is.2 is.3 is.4.safe is.5) (c.write_all.ensures.any_moment tells c.args.manifest.now.granularity is.2 is.3 is.4.safe is.5))
+    (leaves_committed is.0 c.args.manifest.now (c.args.store, c.args.rows.now) _ _ _ _ _ is.1 is.4.stored (c.relist.ensures.elsewhere tells) (c.relist.ensures.frame tells))
 
 -- WHAT IS ELSEWHERE
 

@@ -3,6 +3,7 @@ use Rattle.std.proofs.lemmas.Result.{err_from_is_err_and}
 use Rattle.disk_model.specs.declared.disk.DiskErr.{DiskErr}
 use Rattle.disk_model.specs.declared.disk.DiskErr.TheVariants.{Fault, Memory}
 use Rattle.disk_model.proofs.Passing.{passes_weaker}
+use Rattle.gate_journal.specs.Standing.{standing}
 use Rattle.durable_write.proofs.Staying.{err_cases}
 use Rattle.durable_write.proofs.Commits.{relists, relist_moment, relist_made, relist_unmade, relist_doubted, made_further, unsure_further}
 use Rattle.durable_write.proofs.relisting.relist.Goals as goal
@@ -11,33 +12,33 @@ pub returns-in_err-commit-clause-no_more : goal.returns-in_err-commit-clause-no_
 returns-in_err-commit-clause-no_more g c tells =
     ⊎_elim
     (λ (fault : c.in_err-commit.field-0.0 ≡ Fault).
-    unsure_further c.commit.new.self c.args.manifest.now.journal.name (g.D.Disk.files c.commit.new.disk) (g.D.Disk.opened c.args.disk.now) (g.D.Disk.opened c.commit.new.disk) (g.D.Disk.past c.commit.new.disk) c.commit.ensures.state.1 (c.commit.ensures.commits tells).opened ((c.commit.ensures.commits tells).doubt (c.in_err-commit.was ∙ ap (λ (x : DiskErr). Err x) fault)))
+    unsure_further c.commit.new.self c.args.manifest.now.journal.name (standing g.D.Disk c.commit.new.disk) (g.D.Disk.opened c.args.disk.now) c.commit.ensures.state.1 (c.commit.ensures.commits tells).opened ((c.commit.ensures.commits tells).doubt (c.in_err-commit.was ∙ ap (λ (x : DiskErr). Err x) fault)))
     (λ (memory : c.in_err-commit.field-0.0 ≡ Memory).
-    made_further c.commit.new.self c.args.manifest.now.journal.name (g.D.Disk.files c.commit.new.disk) (g.D.Disk.opened c.args.disk.now) (g.D.Disk.opened c.commit.new.disk) (g.D.Disk.past c.commit.new.disk) c.commit.ensures.state.1 (c.commit.ensures.commits tells).opened ((c.commit.ensures.commits tells).unchanged (c.in_err-commit.was ∙ ap (λ (x : DiskErr). Err x) memory)))
+    made_further c.commit.new.self c.args.manifest.now.journal.name (standing g.D.Disk c.commit.new.disk) (g.D.Disk.opened c.args.disk.now) c.commit.ensures.state.1 (c.commit.ensures.commits tells).opened ((c.commit.ensures.commits tells).unchanged (c.in_err-commit.was ∙ ap (λ (x : DiskErr). Err x) memory)))
     (err_cases c.in_err-commit.field-0.0)
 
 pub returns-clause-no_more : goal.returns-clause-no_more
 returns-clause-no_more g c tells =
-    made_further c.commit.new.self c.args.manifest.now.journal.name (g.D.Disk.files c.commit.new.disk) (g.D.Disk.opened c.args.disk.now) (g.D.Disk.opened c.commit.new.disk) (g.D.Disk.past c.commit.new.disk) c.commit.ensures.state.1 (c.commit.ensures.commits tells).opened (c.in_ok-commit.ensures.commits tells).made
+    made_further c.commit.new.self c.args.manifest.now.journal.name (standing g.D.Disk c.commit.new.disk) (g.D.Disk.opened c.args.disk.now) c.commit.ensures.state.1 (c.commit.ensures.commits tells).opened (c.in_ok-commit.ensures.commits tells).made
 
 pub returns-in_err-commit-clause-any_moment : goal.returns-in_err-commit-clause-any_moment
 returns-in_err-commit-clause-any_moment g c tells catalogue rows held next can =
-    let commit = relists catalogue c.args.manifest.now rows _ _ _ _ _ _ held next c.args.changes.now can (c.commit.ensures.commits tells).any_moment (c.commit.ensures.commits tells).elsewhere (returns-in_err-commit-clause-no_more g c tells) in
-    relist_moment catalogue c.args.manifest.now rows _ _ _ _ _ _ held next c.args.changes.now can commit
+    let commit = relists catalogue c.args.manifest.now rows _ _ held next c.args.changes.now can (c.commit.ensures.commits tells).any_moment (c.commit.ensures.commits tells).elsewhere (returns-in_err-commit-clause-no_more g c tells) in
+    relist_moment catalogue c.args.manifest.now rows _ _ held next c.args.changes.now can commit
 
 pub returns-clause-any_moment : goal.returns-clause-any_moment
 returns-clause-any_moment g c tells catalogue rows held next can =
-    let commit = relists catalogue c.args.manifest.now rows _ _ _ _ _ _ held next c.args.changes.now can (c.commit.ensures.commits tells).any_moment (c.commit.ensures.commits tells).elsewhere (returns-clause-no_more g c tells) in
-    relist_moment catalogue c.args.manifest.now rows _ _ _ _ _ _ held next c.args.changes.now can commit
+    let commit = relists catalogue c.args.manifest.now rows _ _ held next c.args.changes.now can (c.commit.ensures.commits tells).any_moment (c.commit.ensures.commits tells).elsewhere (returns-clause-no_more g c tells) in
+    relist_moment catalogue c.args.manifest.now rows _ _ held next c.args.changes.now can commit
 
 pub returns-clause-made : goal.returns-clause-made
 returns-clause-made g c tells catalogue rows held next can =
-    let commit = relists catalogue c.args.manifest.now rows _ _ _ _ _ _ held next c.args.changes.now can (c.commit.ensures.commits tells).any_moment (c.commit.ensures.commits tells).elsewhere (returns-clause-no_more g c tells) in
-    relist_made catalogue c.args.manifest.now c.commit.new.self rows _ _ _ _ _ _ held next c.args.changes.now can commit c.commit.ensures.state.0 c.commit.ensures.state.1 c.in_ok-commit.ensures.sound c.in_ok-commit.ensures.entries (c.in_ok-commit.ensures.commits tells).made
+    let commit = relists catalogue c.args.manifest.now rows _ _ held next c.args.changes.now can (c.commit.ensures.commits tells).any_moment (c.commit.ensures.commits tells).elsewhere (returns-clause-no_more g c tells) in
+    relist_made catalogue c.args.manifest.now c.commit.new.self rows _ _ held next c.args.changes.now can commit c.commit.ensures.state.0 c.commit.ensures.state.1 c.in_ok-commit.ensures.sound c.in_ok-commit.ensures.entries (c.in_ok-commit.ensures.commits tells).made
 
 pub returns-in_err-commit-clause-unmade : goal.returns-in_err-commit-clause-unmade
 returns-in_err-commit-clause-unmade g c tells catalogue rows held next can =
-    let commit = relists catalogue c.args.manifest.now rows _ _ _ _ _ _ held next c.args.changes.now can (c.commit.ensures.commits tells).any_moment (c.commit.ensures.commits tells).elsewhere (returns-in_err-commit-clause-no_more g c tells) in
+    let commit = relists catalogue c.args.manifest.now rows _ _ held next c.args.changes.now can (c.commit.ensures.commits tells).any_moment (c.commit.ensures.commits tells).elsewhere (returns-in_err-commit-clause-no_more g c tells) in
     let p = err_from_is_err_and c.from_residual.result c.from_residual.ensures.1 in
     rw p.1 (λ sound. ⊎_elim
     (λ (fault : c.in_err-commit.field-0.0 ≡ Fault).
@@ -45,17 +46,17 @@ returns-in_err-commit-clause-unmade g c tells catalogue rows held next can =
     absurd (cc (sound, unsound)))
     (λ (memory : c.in_err-commit.field-0.0 ≡ Memory).
     let failed = c.in_err-commit.was ∙ ap (λ (x : DiskErr). Err x) memory in
-    relist_unmade catalogue c.args.manifest.now c.commit.new.self rows _ _ _ _ _ _ held next c.args.changes.now can commit c.commit.ensures.state.0 c.commit.ensures.state.1 (c.commit.ensures.memory failed).0 (c.commit.ensures.memory failed).1 ((c.commit.ensures.commits tells).unchanged failed))
+    relist_unmade catalogue c.args.manifest.now c.commit.new.self rows _ _ held next c.args.changes.now can commit c.commit.ensures.state.0 c.commit.ensures.state.1 (c.commit.ensures.memory failed).0 (c.commit.ensures.memory failed).1 ((c.commit.ensures.commits tells).unchanged failed))
     (err_cases c.in_err-commit.field-0.0))
 
 pub returns-in_err-commit-clause-in_doubt : goal.returns-in_err-commit-clause-in_doubt
 returns-in_err-commit-clause-in_doubt g c tells catalogue rows held next can =
-    let commit = relists catalogue c.args.manifest.now rows _ _ _ _ _ _ held next c.args.changes.now can (c.commit.ensures.commits tells).any_moment (c.commit.ensures.commits tells).elsewhere (returns-in_err-commit-clause-no_more g c tells) in
+    let commit = relists catalogue c.args.manifest.now rows _ _ held next c.args.changes.now can (c.commit.ensures.commits tells).any_moment (c.commit.ensures.commits tells).elsewhere (returns-in_err-commit-clause-no_more g c tells) in
     let p = err_from_is_err_and c.from_residual.result c.from_residual.ensures.1 in
     rw p.1 (λ unsound. ⊎_elim
     (λ (fault : c.in_err-commit.field-0.0 ≡ Fault).
     let failed = c.in_err-commit.was ∙ ap (λ (x : DiskErr). Err x) fault in
-    relist_doubted catalogue c.args.manifest.now c.commit.new.self rows _ _ _ _ _ _ held next c.args.changes.now can commit c.commit.ensures.state.0 c.commit.ensures.state.1 (c.commit.ensures.fault failed).0 (c.commit.ensures.doubtful failed) ((c.commit.ensures.commits tells).doubt failed))
+    relist_doubted catalogue c.args.manifest.now c.commit.new.self rows _ _ held next c.args.changes.now can commit c.commit.ensures.state.0 c.commit.ensures.state.1 (c.commit.ensures.fault failed).0 (c.commit.ensures.doubtful failed) ((c.commit.ensures.commits tells).doubt failed))
     (λ (memory : c.in_err-commit.field-0.0 ≡ Memory).
     let still : c.commit.new.self.journal.sound ≡ true = (c.commit.ensures.memory (c.in_err-commit.was ∙ ap (λ (x : DiskErr). Err x) memory)).0 in
     absurd (cc (still, unsound)))

@@ -1,5 +1,6 @@
 use Rattle.std.proofs.Common.{◌≤◌, ℕ, sym, ◌∙◌, ap, subst}
 use Rattle.disk_model.specs.Files.{Name, Files}
+use Rattle.gate_journal.specs.Standing.{Standing, standing}
 use Rattle.durable_write.specs.Held.{Shelf}
 use Rattle.durable_write.specs.Flush.{with_files}
 use Rattle.durable_write.specs.Stored.{AreLong, AreSafe}
@@ -52,9 +53,10 @@ returns-clause-written g c tells gr held fs safe makes =
     let old = c.args.disk.now in
     let mid = c.write_pieces.new.disk in
     let past = g.D.Disk.past c.sync_files.new.disk in
+    let between : Standing = record { files = g.D.Disk.files mid; opened = g.D.Disk.opened mid; past = past } in
     let behind = behind_same held (g.D.Disk.past old) (g.D.Disk.past mid) past (c.write_pieces.ensures.any_moment tells gr held fs safe makes) (c.sync_files.ensures.any_moment tells) in
-    let now = still_safe gr shelf (g.D.Disk.files old) (g.D.Disk.files mid) (g.D.Disk.opened old) (g.D.Disk.opened mid) (g.D.Disk.past old) past held safe behind (c.write_pieces.ensures.still tells gr held fs safe makes) (c.write_pieces.ensures.no_more tells) in
-    let more = synced_safe gr shelf held c.args.pieces.now fs (g.D.Disk.files mid) (g.D.Disk.opened mid) past safe.of_rows makes.each (c.in_ok-write_pieces.ensures.written tells gr held fs safe makes) (c.in_ok-sync_files.ensures.durable tells) in
-    let both = safe_both held fs (g.D.Disk.files mid) (g.D.Disk.opened mid) past now.safe more in
-    subst (λ (f : Files). AreSafe (with_files held fs) f (g.D.Disk.opened c.sync_files.new.disk) past) (sym (c.sync_files.ensures.same tells))
-    (subst (λ (o : Name → ℕ). AreSafe (with_files held fs) (g.D.Disk.files mid) o past) (sym (c.sync_files.ensures.opened tells)) both)
+    let now = still_safe gr shelf (standing g.D.Disk old) between held safe behind (c.write_pieces.ensures.still tells gr held fs safe makes) (c.write_pieces.ensures.no_more tells) in
+    let more = synced_safe gr shelf held c.args.pieces.now fs between safe.of_rows makes.each (c.in_ok-write_pieces.ensures.written tells gr held fs safe makes) (c.in_ok-sync_files.ensures.durable tells) in
+    let both = safe_both held fs between now.safe more in
+    subst (λ (f : Files). AreSafe (with_files held fs) (record { files = f; opened = g.D.Disk.opened c.sync_files.new.disk; past = past })) (sym (c.sync_files.ensures.same tells))
+    (subst (λ (o : Name → ℕ). AreSafe (with_files held fs) (record between { opened = o })) (sym (c.sync_files.ensures.opened tells)) both)

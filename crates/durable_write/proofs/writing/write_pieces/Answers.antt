@@ -1,6 +1,7 @@
 use Rattle.std.proofs.Common.{◌≡◌, ◌≢◌, ◌<◌, List, length, take, sym, ◌∙◌, subst, arith, All}
 use Rattle.std.proofs.lemmas.List.{take_all}
 use Rattle.std.proofs.lemmas.Slice.Zip.{AllZip-long}
+use Rattle.gate_journal.specs.Standing.{standing}
 use Rattle.durable_write.specs.declared.piece.Piece.{Piece}
 use Rattle.durable_write.specs.Held.{Filed, file_of, shelf_of}
 use Rattle.durable_write.specs.Flush.{Grows}
@@ -15,7 +16,7 @@ write_piece-requires-clause-row g c = subst (λ (p : Piece). p.entry.series < le
 pub write_piece-requires-clause-can : goal.write_piece-requires-clause-can
 write_piece-requires-clause-can g c tells =
     let can = c.requires.can tells in
-    let safe = still_safe can.0 (c.args.store, c.args.rows.now) (g.D.Disk.files c.args.disk.now) (g.D.Disk.files c.loop-piece.disk) (g.D.Disk.opened c.args.disk.now) (g.D.Disk.opened c.loop-piece.disk) (g.D.Disk.past c.args.disk.now) (g.D.Disk.past c.loop-piece.disk) can.1 can.3
+    let safe = still_safe can.0 (c.args.store, c.args.rows.now) (standing g.D.Disk c.args.disk.now) (standing g.D.Disk c.loop-piece.disk) can.1 can.3
     (c.loop-piece.invariant.crash tells can.0 can.1 can.2 can.3 can.4) (c.loop-piece.invariant.still tells can.0 can.1 can.2 can.3 can.4) (c.loop-piece.invariant.no_more tells) in
     let nth = nth_grows can.0 can.1 c.args.pieces.now can.2 c.loop-piece.piece-index c.piece-item.result can.4.each c.loop-piece-test.true c.piece-item.is in
     (can.0, can.1, nth.0, safe, nth.3)
@@ -23,19 +24,19 @@ write_piece-requires-clause-can g c tells =
 pub returns-in_err-write_piece-clause-any_moment : goal.returns-in_err-write_piece-clause-any_moment
 returns-in_err-write_piece-clause-any_moment g c tells gr held fs safe makes =
     let nth = nth_grows gr held c.args.pieces.now fs c.loop-piece.piece-index c.piece-item.result makes.each c.loop-piece-test.true c.piece-item.is in
-    more_behind gr (c.args.store, c.args.rows.now) held c.piece-item.result nth.0 (g.D.Disk.files c.args.disk.now) (g.D.Disk.opened c.args.disk.now) (g.D.Disk.past c.args.disk.now) (g.D.Disk.past c.loop-piece.disk) (g.D.Disk.past c.write_piece.new.disk) safe nth.3
+    more_behind gr (c.args.store, c.args.rows.now) held c.piece-item.result nth.0 (standing g.D.Disk c.args.disk.now) (g.D.Disk.past c.loop-piece.disk) (g.D.Disk.past c.write_piece.new.disk) safe nth.3
     (c.loop-piece.invariant.crash tells gr held fs safe makes) (c.write_piece.ensures.any_moment tells)
 
 pub returns-in_err-write_piece-clause-behind : goal.returns-in_err-write_piece-clause-behind
 returns-in_err-write_piece-clause-behind g c tells gr held fs safe makes =
     let nth = nth_grows gr held c.args.pieces.now fs c.loop-piece.piece-index c.piece-item.result makes.each c.loop-piece-test.true c.piece-item.is in
-    reads_behind gr (c.args.store, c.args.rows.now) held c.piece-item.result nth.0 (g.D.Disk.files c.args.disk.now) (g.D.Disk.files c.loop-piece.disk) (g.D.Disk.files c.write_piece.new.disk) (g.D.Disk.opened c.args.disk.now) (g.D.Disk.past c.args.disk.now) safe nth.3
+    reads_behind gr (c.args.store, c.args.rows.now) held c.piece-item.result nth.0 (standing g.D.Disk c.args.disk.now) (g.D.Disk.files c.loop-piece.disk) (g.D.Disk.files c.write_piece.new.disk) safe nth.3
     (c.loop-piece.invariant.behind tells gr held fs safe makes) (c.write_piece.ensures.kept tells)
 
 pub returns-in_err-write_piece-clause-still : goal.returns-in_err-write_piece-clause-still
 returns-in_err-write_piece-clause-still g c tells gr held fs safe makes =
     let nth = nth_grows gr held c.args.pieces.now fs c.loop-piece.piece-index c.piece-item.result makes.each c.loop-piece-test.true c.piece-item.is in
-    let now = still_safe gr (c.args.store, c.args.rows.now) (g.D.Disk.files c.args.disk.now) (g.D.Disk.files c.loop-piece.disk) (g.D.Disk.opened c.args.disk.now) (g.D.Disk.opened c.loop-piece.disk) (g.D.Disk.past c.args.disk.now) (g.D.Disk.past c.loop-piece.disk) held safe
+    let now = still_safe gr (c.args.store, c.args.rows.now) (standing g.D.Disk c.args.disk.now) (standing g.D.Disk c.loop-piece.disk) held safe
     (c.loop-piece.invariant.crash tells gr held fs safe makes) (c.loop-piece.invariant.still tells gr held fs safe makes) (c.loop-piece.invariant.no_more tells) in
     c.write_piece.ensures.still tells gr held nth.0 now nth.3
 
@@ -43,22 +44,22 @@ pub loop-piece-preserved : goal.loop-piece-preserved
 loop-piece-preserved g c = record {
   crash = λ tells gr held fs safe makes.
       let nth = nth_grows gr held c.args.pieces.now fs c.loop-piece.piece-index c.piece-item.result makes.each c.loop-piece-test.true c.piece-item.is in
-      more_behind gr (c.args.store, c.args.rows.now) held c.piece-item.result nth.0 (g.D.Disk.files c.args.disk.now) (g.D.Disk.opened c.args.disk.now) (g.D.Disk.past c.args.disk.now) (g.D.Disk.past c.loop-piece.disk) (g.D.Disk.past c.write_piece.new.disk) safe nth.3
+      more_behind gr (c.args.store, c.args.rows.now) held c.piece-item.result nth.0 (standing g.D.Disk c.args.disk.now) (g.D.Disk.past c.loop-piece.disk) (g.D.Disk.past c.write_piece.new.disk) safe nth.3
       (c.loop-piece.invariant.crash tells gr held fs safe makes) (c.write_piece.ensures.any_moment tells);
   behind = λ tells gr held fs safe makes.
       let nth = nth_grows gr held c.args.pieces.now fs c.loop-piece.piece-index c.piece-item.result makes.each c.loop-piece-test.true c.piece-item.is in
-      reads_behind gr (c.args.store, c.args.rows.now) held c.piece-item.result nth.0 (g.D.Disk.files c.args.disk.now) (g.D.Disk.files c.loop-piece.disk) (g.D.Disk.files c.write_piece.new.disk) (g.D.Disk.opened c.args.disk.now) (g.D.Disk.past c.args.disk.now) safe nth.3
+      reads_behind gr (c.args.store, c.args.rows.now) held c.piece-item.result nth.0 (standing g.D.Disk c.args.disk.now) (g.D.Disk.files c.loop-piece.disk) (g.D.Disk.files c.write_piece.new.disk) safe nth.3
       (c.loop-piece.invariant.behind tells gr held fs safe makes) (c.write_piece.ensures.kept tells);
   still = λ tells gr held fs safe makes.
       let nth = nth_grows gr held c.args.pieces.now fs c.loop-piece.piece-index c.piece-item.result makes.each c.loop-piece-test.true c.piece-item.is in
-      let now = still_safe gr (c.args.store, c.args.rows.now) (g.D.Disk.files c.args.disk.now) (g.D.Disk.files c.loop-piece.disk) (g.D.Disk.opened c.args.disk.now) (g.D.Disk.opened c.loop-piece.disk) (g.D.Disk.past c.args.disk.now) (g.D.Disk.past c.loop-piece.disk) held safe
+      let now = still_safe gr (c.args.store, c.args.rows.now) (standing g.D.Disk c.args.disk.now) (standing g.D.Disk c.loop-piece.disk) held safe
       (c.loop-piece.invariant.crash tells gr held fs safe makes) (c.loop-piece.invariant.still tells gr held fs safe makes) (c.loop-piece.invariant.no_more tells) in
       c.write_piece.ensures.still tells gr held nth.0 now nth.3;
   written = λ tells gr held fs safe makes.
       let nth = nth_grows gr held c.args.pieces.now fs c.loop-piece.piece-index c.piece-item.result makes.each c.loop-piece-test.true c.piece-item.is in
-      let now = still_safe gr (c.args.store, c.args.rows.now) (g.D.Disk.files c.args.disk.now) (g.D.Disk.files c.loop-piece.disk) (g.D.Disk.opened c.args.disk.now) (g.D.Disk.opened c.loop-piece.disk) (g.D.Disk.past c.args.disk.now) (g.D.Disk.past c.loop-piece.disk) held safe
+      let now = still_safe gr (c.args.store, c.args.rows.now) (standing g.D.Disk c.args.disk.now) (standing g.D.Disk c.loop-piece.disk) held safe
       (c.loop-piece.invariant.crash tells gr held fs safe makes) (c.loop-piece.invariant.still tells gr held fs safe makes) (c.loop-piece.invariant.no_more tells) in
-      let name : file_of (shelf_of held) nth.0.entry ≡ file_of (c.args.store, c.args.rows.now) c.piece-item.result.entry = piece_name gr (c.args.store, c.args.rows.now) held (g.D.Disk.files c.args.disk.now) (g.D.Disk.opened c.args.disk.now) (g.D.Disk.past c.args.disk.now) c.piece-item.result nth.0 safe nth.3 in
+      let name : file_of (shelf_of held) nth.0.entry ≡ file_of (c.args.store, c.args.rows.now) c.piece-item.result.entry = piece_name gr (c.args.store, c.args.rows.now) held (standing g.D.Disk c.args.disk.now) c.piece-item.result nth.0 safe nth.3 in
       more_written gr held fs c.loop-piece.piece-index nth.0 (g.D.Disk.files c.loop-piece.disk) (g.D.Disk.files c.write_piece.new.disk) (g.D.Disk.opened c.loop-piece.disk) (g.D.Disk.opened c.write_piece.new.disk)
       safe.valid.keys (all_listed gr held c.args.pieces.now fs makes.each) makes.apart nth.1 nth.2 (c.loop-piece.invariant.written tells gr held fs safe makes) (c.in_ok-write_piece.ensures.written tells gr held nth.0 now nth.3)
       (λ n apart. (c.write_piece.ensures.kept tells).elsewhere n (λ is. apart (is ∙ sym name))) (c.write_piece.ensures.no_more tells);

@@ -2,6 +2,7 @@ use Rattle.std.proofs.Common.{◌≡◌, ◌≢◌, ◌≤◌, List, take}
 use Rattle.std.specs.Prelude.{All, IsTrue}
 use Rattle.disk_model.specs.Files.{Name}
 use Rattle.disk_model.specs.Past.{Passes}
+use Rattle.gate_journal.specs.Standing.{standing}
 use Rattle.partition_names.specs.declared.granularity.Granularity.{Granularity}
 use Rattle.durable_write.specs.Held.{Filed, Held}
 use Rattle.durable_write.specs.Flush.{MakesFiles}
@@ -11,10 +12,10 @@ use Rattle.durable_write.proofs.writing.write_pieces.Given as goal
 
 abbrev pub invariant-loop-piece : goal.invariant-loop-piece
 invariant-loop-piece g l = record {
-  crash : IsTrue g.D.Disk.tells → (gr : Granularity) (held : Held) (fs : List Filed) → IsSafe gr (l.fn.store, l.fn.rows) (g.D.Disk.files l.fn.disk) (g.D.Disk.opened l.fn.disk) (g.D.Disk.past l.fn.disk) held → MakesFiles gr held l.pieces fs → Passes (Behind held) (g.D.Disk.past l.fn.disk) (g.D.Disk.past l.disk);
-  behind : IsTrue g.D.Disk.tells → (gr : Granularity) (held : Held) (fs : List Filed) → IsSafe gr (l.fn.store, l.fn.rows) (g.D.Disk.files l.fn.disk) (g.D.Disk.opened l.fn.disk) (g.D.Disk.past l.fn.disk) held → MakesFiles gr held l.pieces fs → Behind held (g.D.Disk.files l.fn.disk) (g.D.Disk.files l.disk);
-  still : IsTrue g.D.Disk.tells → (gr : Granularity) (held : Held) (fs : List Filed) → IsSafe gr (l.fn.store, l.fn.rows) (g.D.Disk.files l.fn.disk) (g.D.Disk.opened l.fn.disk) (g.D.Disk.past l.fn.disk) held → MakesFiles gr held l.pieces fs → AreLong held (g.D.Disk.files l.disk);
-  written : IsTrue g.D.Disk.tells → (gr : Granularity) (held : Held) (fs : List Filed) → IsSafe gr (l.fn.store, l.fn.rows) (g.D.Disk.files l.fn.disk) (g.D.Disk.opened l.fn.disk) (g.D.Disk.past l.fn.disk) held → MakesFiles gr held l.pieces fs → All (IsWritten held (g.D.Disk.files l.disk) (g.D.Disk.opened l.disk)) (take l.piece-index fs);
+  crash : IsTrue g.D.Disk.tells → (gr : Granularity) (held : Held) (fs : List Filed) → IsSafe gr (l.fn.store, l.fn.rows) (standing g.D.Disk l.fn.disk) held → MakesFiles gr held l.pieces fs → Passes (Behind held) (g.D.Disk.past l.fn.disk) (g.D.Disk.past l.disk);
+  behind : IsTrue g.D.Disk.tells → (gr : Granularity) (held : Held) (fs : List Filed) → IsSafe gr (l.fn.store, l.fn.rows) (standing g.D.Disk l.fn.disk) held → MakesFiles gr held l.pieces fs → Behind held (g.D.Disk.files l.fn.disk) (g.D.Disk.files l.disk);
+  still : IsTrue g.D.Disk.tells → (gr : Granularity) (held : Held) (fs : List Filed) → IsSafe gr (l.fn.store, l.fn.rows) (standing g.D.Disk l.fn.disk) held → MakesFiles gr held l.pieces fs → AreLong held (g.D.Disk.files l.disk);
+  written : IsTrue g.D.Disk.tells → (gr : Granularity) (held : Held) (fs : List Filed) → IsSafe gr (l.fn.store, l.fn.rows) (standing g.D.Disk l.fn.disk) held → MakesFiles gr held l.pieces fs → All (IsWritten held (g.D.Disk.files l.disk) (g.D.Disk.opened l.disk)) (take l.piece-index fs);
   elsewhere : IsTrue g.D.Disk.tells → (n : Name) → n.0 ≢ l.fn.store → g.D.Disk.files l.disk n ≡ g.D.Disk.files l.fn.disk n;
   others : IsTrue g.D.Disk.tells → (n : Name) → IsOfNone (l.fn.store, l.fn.rows) l.pieces n → g.D.Disk.files l.disk n ≡ g.D.Disk.files l.fn.disk n;
   no_more : IsTrue g.D.Disk.tells → (n : Name) → g.D.Disk.opened l.disk n ≤ g.D.Disk.opened l.fn.disk n;

@@ -1,15 +1,16 @@
 use Rattle.std.proofs.Common.{◌++◌, refl}
+use Rattle.gate_journal.specs.Standing.{standing}
 use Rattle.etl_mover.proofs.Written.{made_leaves, made_makes}
 use Rattle.etl_mover.proofs.writing.make_anew.Goals as goal
 
 pub returns-in_err-extend-clause-leaves : goal.returns-in_err-extend-clause-leaves
 returns-in_err-extend-clause-leaves g c tells =
-    made_leaves c.args.name.now _ _ _ _ _ _ (c.extend.ensures.kept tells) (c.extend.ensures.any_moment tells) (c.extend.ensures.no_more tells) (c.extend.ensures.others tells)
+    made_leaves c.args.name.now _ _ (c.extend.ensures.kept tells) (c.extend.ensures.any_moment tells) (c.extend.ensures.no_more tells) (c.extend.ensures.others tells)
 
 pub returns-clause-leaves : goal.returns-clause-leaves
 returns-clause-leaves g c tells =
-    made_leaves c.args.name.now _ _ _ _ _ _ (c.extend.ensures.kept tells) (c.extend.ensures.any_moment tells) (c.extend.ensures.no_more tells) (c.extend.ensures.others tells)
+    made_leaves c.args.name.now _ _ (c.extend.ensures.kept tells) (c.extend.ensures.any_moment tells) (c.extend.ensures.no_more tells) (c.extend.ensures.others tells)
 
 pub returns-clause-makes : goal.returns-clause-makes
 returns-clause-makes g c tells =
-    made_makes c.args.name.now (c.args.head.now ++ c.args.lines.now) (g.D.Disk.files c.args.disk.now) (g.D.Disk.files c.extend.new.disk) (g.D.Disk.opened c.extend.new.disk) (g.D.Disk.past c.extend.new.disk) (c.in_ok-extend.ensures.made tells refl) (c.in_ok-extend.ensures.open_to tells) (c.in_ok-extend.ensures.durable tells)
+    made_makes c.args.name.now (c.args.head.now ++ c.args.lines.now) (g.D.Disk.files c.args.disk.now) (standing g.D.Disk c.extend.new.disk) (c.in_ok-extend.ensures.made tells refl) (c.in_ok-extend.ensures.open_to tells) (c.in_ok-extend.ensures.durable tells)

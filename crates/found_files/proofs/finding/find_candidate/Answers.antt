@@ -38,7 +38,7 @@ returns-in-Some-3-clause-none g c told =
     none_named c.args.granularity files n part c.in-Some.ensures.within.1 (λ (x : Candidate) (is : IsCandidate c.args.granularity files n x). part_of (c.in-Some.field-0-0, part) (length (key_of x.name), x.part) (sym c.in-Some.is ∙ c.part_in.ensures.only x.name x.part is.unit (is.named.path ∙ sym path))) front has c.named.result c.named.ensures.none
 
 pub returns-in-Some-3-clause-read : goal.returns-in-Some-3-clause-read
-returns-in-Some-3-clause-read g c = read_sized _ _ _ _ _ _ _ _ _ _ _ _ _ c.size.ensures.same c.size.ensures.opened c.size.ensures.crash c.size.ensures.faults c.front_of.ensures.read
+returns-in-Some-3-clause-read g c = read_sized g.D.Disk _ _ _ c.size.ensures.same c.size.ensures.opened c.size.ensures.crash c.size.ensures.faults c.front_of.ensures.read
 
 pub returns-in-None-clause-none : goal.returns-in-None-clause-none
 returns-in-None-clause-none g c told is =

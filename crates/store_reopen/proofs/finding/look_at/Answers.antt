@@ -44,11 +44,11 @@ loop-file-preserved g c = record {
       let items : c.push.new.self.items ≡ c.loop-file.unlisted.items ++ (record { place = c.args.place; file = c.in_ok-copy.field-0; candidate = c.in_ok-candidate.candidate }) ∷ [] = c.in_ok-push.ensures.items in
       let one = of_place ms c.args.place c.args.manifest.now c.granularity.result c.in_ok-copy.field-0 c.in_ok-candidate.candidate here c.granularity.ensures (subst (λ (m : Name). IfSome c.in_ok-candidate.candidate (IsShapedOf c.granularity.result m)) (sym c.in_ok-copy.ensures) c.in_ok-candidate.ensures.shape) in
       subst (λ (l : List Unlisted). All (IsOfPlace ms) l) (sym items) (All-push (IsOfPlace ms) c.loop-file.unlisted.items (record { place = c.args.place; file = c.in_ok-copy.field-0; candidate = c.in_ok-candidate.candidate }) (c.loop-file.invariant.shape ms here all) one);
-  read = read_then _ _ _ _ _ _ _ _ _ _ _ _ _ c.loop-file.invariant.read c.find_candidate.ensures.read;
+  read = read_then g.D.Disk _ _ _ c.loop-file.invariant.read c.find_candidate.ensures.read;
 }
 
 pub returns-in_err-copy-clause-read : goal.returns-in_err-copy-clause-read
-returns-in_err-copy-clause-read g c = read_then _ _ _ _ _ _ _ _ _ _ _ _ _ c.loop-file.invariant.read c.find_candidate.ensures.read
+returns-in_err-copy-clause-read g c = read_then g.D.Disk _ _ _ c.loop-file.invariant.read c.find_candidate.ensures.read
 
 pub returns-clause-found : goal.returns-clause-found
 returns-clause-found g c told all =

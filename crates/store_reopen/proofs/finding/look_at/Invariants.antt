@@ -1,7 +1,7 @@
 use Rattle.std.proofs.Common.{◌≡◌, ◌+◌, List, IsTrue, All, Some}
 use Rattle.std.specs.Prelude.{slice_get}
 use Rattle.disk_model.specs.Files.{Name}
-use Rattle.found_files.specs.Reading.{IsOnlyRead}
+use Rattle.found_files.specs.Reading.{OnlyReads}
 use Rattle.store_manifest.specs.Manifest.{ManifestState}
 use Rattle.store_reopen.specs.Finding.{IsOfPlace}
 use Rattle.store_reopen.proofs.TakenFiles.{FoundSo}
@@ -12,5 +12,5 @@ invariant-loop-file g l = record {
   found : IsTrue g.D.Disk.tells → All (λ (n : Name). n.0 ≡ l.place + 1) l.names
       → FoundSo l.manifest.granularity (g.D.Disk.files l.fn.disk) ((l.place + 1, l.catalogue.rows), l.manifest.entries) l.place l.names l.file-index l.fn.unlisted.items l.unlisted.items;
   shape : (ms : List ManifestState) → slice_get ms l.place ≡ Some l.manifest → All (IsOfPlace ms) l.fn.unlisted.items → All (IsOfPlace ms) l.unlisted.items;
-  read : IsOnlyRead g.D.Disk.tells (g.D.Disk.files l.fn.disk) (g.D.Disk.opened l.fn.disk) (g.D.Disk.past l.fn.disk) (g.D.Disk.faults l.fn.disk) (g.D.Disk.files l.disk) (g.D.Disk.opened l.disk) (g.D.Disk.past l.disk) (g.D.Disk.faults l.disk);
+  read : OnlyReads g.D.Disk l.fn.disk l.disk;
 }

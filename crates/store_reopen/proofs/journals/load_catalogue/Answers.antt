@@ -1,6 +1,7 @@
 use Rattle.std.proofs.Common.{inl, Err, sym, ◌∙◌, subst, ap}
 use Rattle.disk_model.specs.Files.{Name}
 use Rattle.gate_journal.specs.Generations.{IsOwn}
+use Rattle.gate_journal.specs.Standing.{standing}
 use Rattle.pv_catalog.specs.Catalogue.{catalogue_name}
 use Rattle.pv_catalog.specs.Rows.{IsBadBatch}
 use Rattle.store_reopen.specs.OneJournal.{NoneOpened, IsGate}
@@ -10,26 +11,26 @@ use Rattle.store_reopen.proofs.journals.load_catalogue.Goals as goal
 
 pub returns-in-Ok-clause-keeps : goal.returns-in-Ok-clause-keeps
 returns-in-Ok-clause-keeps g c tells g' =
-    kept_rows g' (g.D.Disk.files c.args.disk.now) (g.D.Disk.files c.load.new.disk) (g.D.Disk.opened c.args.disk.now) (g.D.Disk.opened c.load.new.disk) (g.D.Disk.past c.args.disk.now) (g.D.Disk.past c.load.new.disk) (c.load.ensures.any_moment tells) (c.load.ensures.reads tells)
+    kept_rows g' (standing g.D.Disk c.args.disk.now) (standing g.D.Disk c.load.new.disk) (c.load.ensures.any_moment tells) (c.load.ensures.reads tells)
     (c.load.ensures.opened tells) (c.load.ensures.unopened tells)
 
 pub returns-in-Err-Disk-clause-keeps : goal.returns-in-Err-Disk-clause-keeps
 returns-in-Err-Disk-clause-keeps g c tells g' =
-    kept_rows g' (g.D.Disk.files c.args.disk.now) (g.D.Disk.files c.load.new.disk) (g.D.Disk.opened c.args.disk.now) (g.D.Disk.opened c.load.new.disk) (g.D.Disk.past c.args.disk.now) (g.D.Disk.past c.load.new.disk) (c.load.ensures.any_moment tells) (c.load.ensures.reads tells)
+    kept_rows g' (standing g.D.Disk c.args.disk.now) (standing g.D.Disk c.load.new.disk) (c.load.ensures.any_moment tells) (c.load.ensures.reads tells)
     (c.load.ensures.opened tells) (c.load.ensures.unopened tells)
 
 pub returns-in-Err-BadJournal-clause-keeps : goal.returns-in-Err-BadJournal-clause-keeps
 returns-in-Err-BadJournal-clause-keeps g c tells g' =
-    kept_rows g' (g.D.Disk.files c.args.disk.now) (g.D.Disk.files c.load.new.disk) (g.D.Disk.opened c.args.disk.now) (g.D.Disk.opened c.load.new.disk) (g.D.Disk.past c.args.disk.now) (g.D.Disk.past c.load.new.disk) (c.load.ensures.any_moment tells) (c.load.ensures.reads tells)
+    kept_rows g' (standing g.D.Disk c.args.disk.now) (standing g.D.Disk c.load.new.disk) (c.load.ensures.any_moment tells) (c.load.ensures.reads tells)
     (c.load.ensures.opened tells) (c.load.ensures.unopened tells)
 
 pub returns-in_err-file-in-Err-BadBatch-clause-keeps : goal.returns-in_err-file-in-Err-BadBatch-clause-keeps
 returns-in_err-file-in-Err-BadBatch-clause-keeps g c tells g' =
-    kept_then g' _ _ _ _ _ _ _ _ _
-    (kept_rows g' (g.D.Disk.files c.args.disk.now) (g.D.Disk.files c.load.new.disk) (g.D.Disk.opened c.args.disk.now) (g.D.Disk.opened c.load.new.disk) (g.D.Disk.past c.args.disk.now) (g.D.Disk.past c.load.new.disk) (c.load.ensures.any_moment tells) (c.load.ensures.reads tells)
+    kept_then g' _ _ _
+    (kept_rows g' (standing g.D.Disk c.args.disk.now) (standing g.D.Disk c.load.new.disk) (c.load.ensures.any_moment tells) (c.load.ensures.reads tells)
     (c.load.ensures.opened tells) (c.load.ensures.unopened tells))
     (
-    rows_again g' (g.D.Disk.files c.load.new.disk) (g.D.Disk.files c.gate_of.new.disk) (g.D.Disk.opened c.load.new.disk) (g.D.Disk.opened c.gate_of.new.disk) (g.D.Disk.past c.load.new.disk) (g.D.Disk.past c.gate_of.new.disk) c.in_ok-name.name c.in_ok-name.ensures
+    rows_again g' (standing g.D.Disk c.load.new.disk) (standing g.D.Disk c.gate_of.new.disk) c.in_ok-name.name c.in_ok-name.ensures
     (record {
       kept = c.gate_of.ensures.kept tells;
       passes = c.gate_of.ensures.any_moment tells;
@@ -40,11 +41,11 @@ returns-in_err-file-in-Err-BadBatch-clause-keeps g c tells g' =
 
 pub returns-clause-keeps : goal.returns-clause-keeps
 returns-clause-keeps g c tells g' =
-    kept_then g' _ _ _ _ _ _ _ _ _
-    (kept_rows g' (g.D.Disk.files c.args.disk.now) (g.D.Disk.files c.load.new.disk) (g.D.Disk.opened c.args.disk.now) (g.D.Disk.opened c.load.new.disk) (g.D.Disk.past c.args.disk.now) (g.D.Disk.past c.load.new.disk) (c.load.ensures.any_moment tells) (c.load.ensures.reads tells)
+    kept_then g' _ _ _
+    (kept_rows g' (standing g.D.Disk c.args.disk.now) (standing g.D.Disk c.load.new.disk) (c.load.ensures.any_moment tells) (c.load.ensures.reads tells)
     (c.load.ensures.opened tells) (c.load.ensures.unopened tells))
     (
-    rows_again g' (g.D.Disk.files c.load.new.disk) (g.D.Disk.files c.gate_of.new.disk) (g.D.Disk.opened c.load.new.disk) (g.D.Disk.opened c.gate_of.new.disk) (g.D.Disk.past c.load.new.disk) (g.D.Disk.past c.gate_of.new.disk) c.in_ok-name.name c.in_ok-name.ensures
+    rows_again g' (standing g.D.Disk c.load.new.disk) (standing g.D.Disk c.gate_of.new.disk) c.in_ok-name.name c.in_ok-name.ensures
     (record {
       kept = c.gate_of.ensures.kept tells;
       passes = c.gate_of.ensures.any_moment tells;

@@ -1,7 +1,7 @@
 use Rattle.std.proofs.Common.{List, subst, arith, All}
 use Rattle.std.proofs.lemmas.List.{take_all}
 use Rattle.disk_model.specs.Past.{Only}
-use Rattle.found_files.specs.Reading.{IsOnlyRead}
+use Rattle.found_files.specs.Reading.{OnlyReads}
 use Rattle.found_files.specs.ReadRuns.{read_then}
 use Rattle.store_reopen.specs.declared.finding.Taken.{Taken}
 use Rattle.store_reopen.proofs.TakenFiles.{one_synced}
@@ -13,10 +13,10 @@ loop-one-preserved g c =
     let first = c.args.disk.now in
     let mid = c.loop-one.disk in
     let new = c.sync.new.self in
-    let step : IsOnlyRead disk.tells (disk.files mid) (disk.opened mid) (disk.past mid) (disk.faults mid) (disk.files new) (disk.opened new) (disk.past new) (disk.faults new) = record { files = c.sync.ensures.same; opened = c.sync.ensures.opened; any_moment = c.sync.ensures.crash; faults = c.sync.ensures.faults } in
+    let step : OnlyReads disk mid new = record { files = c.sync.ensures.same; opened = c.sync.ensures.opened; any_moment = c.sync.ensures.crash; faults = c.sync.ensures.faults } in
     record {
       durable = λ tells. one_synced c.args.taken.now c.loop-one.one-index c.one-item.result (disk.files first) (disk.files mid) (disk.past mid) (disk.past new) c.loop-one-test.true c.one-item.is (c.loop-one.invariant.read.files tells) (c.sync.ensures.crash tells) (c.loop-one.invariant.durable tells) (c.in_ok-sync.ensures.durable tells);
-      read = read_then disk.tells (disk.files first) (disk.opened first) (disk.past first) (disk.faults first) (disk.files mid) (disk.opened mid) (disk.past mid) (disk.faults mid) (disk.files new) (disk.opened new) (disk.past new) (disk.faults new) c.loop-one.invariant.read step;
+      read = read_then disk first mid new c.loop-one.invariant.read step;
     }
 
 pub returns-clause-durable : goal.returns-clause-durable

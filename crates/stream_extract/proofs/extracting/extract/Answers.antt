@@ -2,7 +2,7 @@ use Rattle.std.proofs.Common.{◌≡◌, ◌∙◌, arith, ap, refl, sym, subst,
 use Rattle.std.specs.Prelude.{OnErr, ◌++◌, ◌∷◌, [], if◌then◌else◌}
 use Rattle.std.specs.declared.alloc.AllocError.{AllocError}
 use Rattle.edge_io.specs.Stream.{AppendsFront}
-use Rattle.pb_lines.specs.Reader.{Chunks, to_come, ReadsItem, ReadsLine, Stops}
+use Rattle.pb_lines.specs.Reader.{Chunks, to_come, ReadsItem, ReadsLine, line_number}
 use Rattle.pb_lines.specs.declared.reader.ChunkItem.TheVariants as it
 use Rattle.pb_lines.proofs.Reading.{when_none}
 use Rattle.command_words.specs.declared.status.Status.TheVariants.{Done, Refused, SourceFault, OutOfMemory}
@@ -62,11 +62,10 @@ returns-in-Some-Refused-clause-text g c =
     let left = g.S.Source.left in
     let middle = to_come mid (left c.lines.source) in
     let fault = c.in-Some-Refused.fault in
-    let line = c.number-line.result in
+    let line = line_number new in
     let read = when_none mid.refused (ReadsItem mid new middle (to_come new (left c.read_line.new.source)) (it.Refused fault)) c.lines.invariant.going (rw c.in-Some-Refused.field-0-is at c.in-Some-Refused.ensures.item) in
-    let stops = subst (λ (n : ℕ). Stops mid middle (Some (n, fault))) (sym c.number-line.ensures) read.1 in
-    ended_whole c.in-Ok.ensures p (g.K.Sink.written c.ended-in-Some-Refused.new.sink) _ c.deref-in-Some-Refused.ensures.value c.ended-in-Some-Refused.ensures.front (Refused line fault) c.ended-in-Some-Refused.result c.ended-in-Some-Refused.ensures.status
-    (Some (line, fault)) stops c.ended-in-Some-Refused.ensures.all (λ whole. whole)
+    ended_whole c.in-Ok.ensures p (g.K.Sink.written c.ended-in-Some-Refused.new.sink) _ c.deref-in-Some-Refused.ensures.value c.ended-in-Some-Refused.ensures.front (Refused line fault) c.ended-in-Some-Refused.result (rw c.refused.ensures at c.ended-in-Some-Refused.ensures.status)
+    (Some (line, fault)) read.1 (rw c.refused.ensures at c.ended-in-Some-Refused.ensures.all) (λ whole. whole)
 
 pub returns-in-Some-SourceFault-clause-text : goal.returns-in-Some-SourceFault-clause-text
 returns-in-Some-SourceFault-clause-text g c =

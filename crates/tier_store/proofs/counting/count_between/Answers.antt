@@ -42,6 +42,6 @@ loop-at-preserved g c =
           let piece : IsPiece files name at c.min.result bytes = λ b is. c.in_ok-bytes.ensures.bytes tells b (ap (λ (f : Files). f name) same ∙ is) in
           let counts = subst (λ (l : List ℕ). CountsLines c.args.ty c.args.year.now.year l (c.args.last + 1) counted.len counted.count) c.deref.ensures.value c.in_ok-counted.ensures.counts in
           goes_on files name c.args.from at c.args.end c.min.result c.args.ty c.args.year.now.year (c.args.last + 1) samples c.loop-at.count counted.len counted.count bytes (c.loop-at.invariant.between tells samples has) within piece low (as_counting c.args.ty c.args.year.now.year bytes (c.args.last + 1) counted.len counted.count counts);
-      reads = λ tells. then_reads _ _ _ _ _ _ _ _ _ (c.loop-at.invariant.reads tells) (c.in_ok-bytes.ensures.reads tells);
+      reads = λ tells. then_reads _ _ _ (c.loop-at.invariant.reads tells) (c.in_ok-bytes.ensures.reads tells);
       faults = omega (arith, c.loop-at.invariant.faults, c.in_ok-bytes.ensures.faults);
     }

@@ -46,4 +46,4 @@ returns-clause-count g c tells head info samples has at =
     c.count_between.ensures.count tells samples lines
 
 pub returns-clause-reads : goal.returns-clause-reads
-returns-clause-reads g c tells = then_reads _ _ _ _ _ _ _ _ _ (c.in_ok-head.ensures.reads tells) (c.count_between.ensures.reads tells)
+returns-clause-reads g c tells = then_reads _ _ _ (c.in_ok-head.ensures.reads tells) (c.count_between.ensures.reads tells)

@@ -53,7 +53,7 @@ returns-clause-next g c tells head info samples has at =
     subst (λ (k : ℕ). IfOk c.next_between.result (IsNext samples (behind c.args.last) k)) from (c.next_between.ensures.next tells samples lines)
 
 pub returns-clause-reads : goal.returns-clause-reads
-returns-clause-reads g c tells = then_reads _ _ _ _ _ _ _ _ _ (c.in_ok-head.ensures.reads tells) (c.next_between.ensures.reads tells)
+returns-clause-reads g c tells = then_reads _ _ _ (c.in_ok-head.ensures.reads tells) (c.next_between.ensures.reads tells)
 
 pub returns-then-from-len-clause-told : goal.returns-then-from-len-clause-told
 returns-then-from-len-clause-told g c tells =

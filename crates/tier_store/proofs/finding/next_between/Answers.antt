@@ -92,6 +92,6 @@ loop-at-preserved g c =
           let on = (goal.at.loop-at-preserved g c).In_ok-skipped in
           goes_on (g.D.Disk.files c.args.disk.now) c.args.name.now c.args.from at c.args.end c.min.result c.args.ty c.args.year.now.year n samples 0 skipped.len 0 bytes (c.loop-at.invariant.between tells samples has) within (piece g on tells) low (skipped_counting c.args.ty c.args.year.now.year bytes n skipped.len skipped.found (skips g on));
       told = λ tells. skipped_told g (goal.at.loop-at-preserved g c).In_ok-skipped tells;
-      reads = λ tells. then_reads _ _ _ _ _ _ _ _ _ (c.loop-at.invariant.reads tells) (c.in_ok-bytes.ensures.reads tells);
+      reads = λ tells. then_reads _ _ _ (c.loop-at.invariant.reads tells) (c.in_ok-bytes.ensures.reads tells);
       faults = omega (arith, c.loop-at.invariant.faults, c.in_ok-bytes.ensures.faults);
     }

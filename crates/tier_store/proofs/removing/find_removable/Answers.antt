@@ -29,7 +29,7 @@ loop-file-preserved g c = elim c.if-there.branch [
             subst (λ (ns : List Name). AreRemovable Goes (take (c.loop-file.file-index + 1) c.args.files.now) (g.D.Disk.files c.args.disk.now) ns) (sym pushed)
             (found_more Goes c.args.files.now (g.D.Disk.files c.args.disk.now) c.loop-file.file-index r c.loop-file-test.true c.file-item.is c.loop-file.names.items (c.loop-file.invariant.found tells order) c.requires goes
             (subst (λ (f : Files). IsSome (f r.name)) (c.loop-file.invariant.reads tells).same some));
-        reads = λ tells. then_reads _ _ _ _ _ _ _ _ _ (c.loop-file.invariant.reads tells) (c.is_there.ensures.reads tells);
+        reads = λ tells. then_reads _ _ _ (c.loop-file.invariant.reads tells) (c.is_there.ensures.reads tells);
         faults = omega (arith, c.loop-file.invariant.faults, c.is_there.ensures.faults);
       }
   | else-there w ↦
@@ -44,7 +44,7 @@ loop-file-preserved g c = elim c.if-there.branch [
             absurd (cc (yes, no))) in
             subst (λ (ns : List Name). AreRemovable Goes (take (c.loop-file.file-index + 1) c.args.files.now) (g.D.Disk.files c.args.disk.now) ns) (sym same)
             (found_other Goes c.args.files.now (g.D.Disk.files c.args.disk.now) c.loop-file.file-index r c.loop-file-test.true c.file-item.is c.loop-file.names.items (c.loop-file.invariant.found tells order) (λ goes. none));
-        reads = λ tells. then_reads _ _ _ _ _ _ _ _ _ (c.loop-file.invariant.reads tells) (c.is_there.ensures.reads tells);
+        reads = λ tells. then_reads _ _ _ (c.loop-file.invariant.reads tells) (c.is_there.ensures.reads tells);
         faults = omega (arith, c.loop-file.invariant.faults, c.is_there.ensures.faults);
       }
 ]

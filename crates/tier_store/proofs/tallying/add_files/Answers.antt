@@ -24,7 +24,7 @@ loop-entry-preserved g c = record {
       (c.in_ok-tally.ensures.tally tells h at.file (over samples (flat (take c.loop-entry.entry-index files))) at.entry here (c.loop-entry.invariant.tally tells h files samples are whole rises was));
   listed = adds_more c.args.tally c.loop-entry.tally c.in_ok-tally.tally c.args.entries.now c.loop-entry.entry-index c.entry-item.result c.loop-entry-test.true c.entry-item.is c.loop-entry.invariant.listed c.in_ok-tally.ensures.listed;
   ends = ends_more (behind c.args.tally.last) c.args.entries.now c.loop-entry.entry-index c.entry-item.result (behind c.loop-entry.tally.last) (behind c.in_ok-tally.tally.last) c.loop-entry-test.true c.entry-item.is c.loop-entry.invariant.ends c.in_ok-tally.ensures.ends;
-  reads = λ tells. then_reads _ _ _ _ _ _ _ _ _ (c.loop-entry.invariant.reads tells) (c.in_ok-tally.ensures.reads tells);
+  reads = λ tells. then_reads _ _ _ (c.loop-entry.invariant.reads tells) (c.in_ok-tally.ensures.reads tells);
   faults = omega (arith, c.loop-entry.invariant.faults, c.in_ok-tally.ensures.faults);
 }
 

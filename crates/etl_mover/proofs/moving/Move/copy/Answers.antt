@@ -25,7 +25,7 @@ pub returns-in_default-clause-leaves : goal.returns-in_default-clause-leaves
 returns-in_default-clause-leaves g c tells part start goes = absurd (no_part c.args.self.now _ part start (sym c.next_part.ensures ∙ c.in_default.is) goes)
 
 pub returns-in_default-clause-nowhere : goal.returns-in_default-clause-nowhere
-returns-in_default-clause-nowhere g c tells never = reads_none _ _ _
+returns-in_default-clause-nowhere g c tells never = reads_none _
 
 pub returns-in_default-clause-running : goal.returns-in_default-clause-running
 returns-in_default-clause-running g c fine is = is

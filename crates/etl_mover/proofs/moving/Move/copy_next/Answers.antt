@@ -1,5 +1,6 @@
 use Rattle.std.proofs.Common.{◌≡◌, inl, inr, Some, sym, subst, arith}
 use Rattle.std.specs.Prelude.{OnOk}
+use Rattle.gate_journal.specs.Standing.{standing}
 use Rattle.store_manifest.specs.declared.entry.Entry.{Entry}
 use Rattle.etl_mover.specs.declared.copying.Start.{Start}
 use Rattle.etl_mover.specs.Move.{MoveState, IsMove}
@@ -17,13 +18,13 @@ copy_part-requires-clause-room g c tells n some = (c.requires.can tells).target 
 pub returns-in-Some-clause-copies : goal.returns-in-Some-clause-copies
 returns-in-Some-clause-copies g c tells part start b goes is =
     by_one c.args.self.now c.args.revived c.args.part.now part c.in-Some.start start
-    (λ (q : Entry) (t : Start). g.D.Disk.files c.args.disk.now (source_file c.args.self.now q) ≡ Some b → OnOk c.copy_part.result (CopiesPart c.args.self.now c.copy_part.new.self t q c.args.from c.args.len 1_048_576 b (g.D.Disk.files c.args.disk.now) (g.D.Disk.files c.copy_part.new.disk) (g.D.Disk.opened c.copy_part.new.disk) (g.D.Disk.past c.copy_part.new.disk)))
+    (λ (q : Entry) (t : Start). g.D.Disk.files c.args.disk.now (source_file c.args.self.now q) ≡ Some b → OnOk c.copy_part.result (CopiesPart c.args.self.now c.copy_part.new.self t q c.args.from c.args.len 1_048_576 b (g.D.Disk.files c.args.disk.now) (standing g.D.Disk c.copy_part.new.disk)))
     c.in-Some.ensures.goes goes (c.copy_part.ensures.copies tells b) is
 
 pub returns-in-Some-clause-leaves : goal.returns-in-Some-clause-leaves
 returns-in-Some-clause-leaves g c tells part start goes =
     by_one c.args.self.now c.args.revived c.args.part.now part c.in-Some.start start
-    (λ (q : Entry) (t : Start). LeavesFile (target_file c.args.self.now t) t.at (g.D.Disk.files c.args.disk.now) (g.D.Disk.files c.copy_part.new.disk) (g.D.Disk.opened c.args.disk.now) (g.D.Disk.opened c.copy_part.new.disk) (g.D.Disk.past c.args.disk.now) (g.D.Disk.past c.copy_part.new.disk))
+    (λ (q : Entry) (t : Start). LeavesFile (target_file c.args.self.now t) t.at (standing g.D.Disk c.args.disk.now) (standing g.D.Disk c.copy_part.new.disk))
     c.in-Some.ensures.goes goes (c.copy_part.ensures.leaves tells)
 
 pub returns-in-Some-clause-nowhere : goal.returns-in-Some-clause-nowhere
@@ -42,19 +43,17 @@ pub returns-in-None-clause-copies : goal.returns-in-None-clause-copies
 returns-in-None-clause-copies g c tells part start b goes is =
     elim (c.left.ensures.none c.in-None.is) [
       | inl same ↦
-          let files = g.D.Disk.files c.args.disk.now in
-          let opened = g.D.Disk.opened c.args.disk.now in
-          let past = g.D.Disk.past c.args.disk.now in
-          subst (λ (m : MoveState). CopiesPart c.args.self.now m start part c.args.from c.args.len 1_048_576 b files files opened past) (sym c.finish.ensures.finished)
-          (ends_covered c.args.self.now start c.args.part.now part c.args.from c.args.len 1_048_576 b files opened past same)
+          let at = standing g.D.Disk c.args.disk.now in
+          subst (λ (m : MoveState). CopiesPart c.args.self.now m start part c.args.from c.args.len 1_048_576 b at.files at) (sym c.finish.ensures.finished)
+          (ends_covered c.args.self.now start c.args.part.now part c.args.from c.args.len 1_048_576 b at same)
       | inr never ↦ absurd (never part start goes)
     ]
 
 pub returns-in-None-clause-leaves : goal.returns-in-None-clause-leaves
-returns-in-None-clause-leaves g c tells part start goes = reads_leave _ _ _ _ _ _ _ _ (λ n some. (c.requires.can tells).target part start n goes some) (reads_none _ _ _)
+returns-in-None-clause-leaves g c tells part start goes = reads_leave _ _ _ _ (λ n some. (c.requires.can tells).target part start n goes some) (reads_none _)
 
 pub returns-in-None-clause-nowhere : goal.returns-in-None-clause-nowhere
-returns-in-None-clause-nowhere g c tells never = reads_none _ _ _
+returns-in-None-clause-nowhere g c tells never = reads_none _
 
 pub returns-in-None-clause-running : goal.returns-in-None-clause-running
 returns-in-None-clause-running g c fine is = subst (IsMove fine) (sym c.finish.ensures.finished) (finish_keeps fine c.args.self.now c.args.part.now c.args.len is c.requires.next)

@@ -1,4 +1,5 @@
 use Rattle.std.proofs.Common.{sym, subst, arith}
+use Rattle.gate_journal.specs.Standing.{standing}
 use Rattle.etl_mover.specs.Move.{MoveState}
 use Rattle.etl_mover.specs.Step.{Advances, CopiesPart}
 use Rattle.etl_mover.proofs.Steps.{advances_more, advances_whole, ends_more, ends_whole, not_all, still_next}
@@ -10,7 +11,7 @@ returns-in_err-copied-clause-leaves g c tells = c.copy_lines.ensures.leaves tell
 pub returns-then-copied-len-clause-copies : goal.returns-then-copied-len-clause-copies
 returns-then-copied-len-clause-copies g c tells b is =
     let all = c.in_ok-copied.ensures.copies tells b is in
-    ends_more c.args.self.now c.copy_lines.new.self c.args.start.now c.args.part.now c.args.from c.args.len 1_048_576 c.in_ok-copied.copied b all.0 (g.D.Disk.files c.args.disk.now) (g.D.Disk.files c.copy_lines.new.disk) (g.D.Disk.opened c.copy_lines.new.disk) (g.D.Disk.past c.copy_lines.new.disk) c.copy_lines.ensures.moves all.1 c.if-copied-len.true all.2
+    ends_more c.args.self.now c.copy_lines.new.self c.args.start.now c.args.part.now c.args.from c.args.len 1_048_576 c.in_ok-copied.copied b all.0 (g.D.Disk.files c.args.disk.now) (standing g.D.Disk c.copy_lines.new.disk) c.copy_lines.ensures.moves all.1 c.if-copied-len.true all.2
 
 pub returns-then-copied-len-clause-leaves : goal.returns-then-copied-len-clause-leaves
 returns-then-copied-len-clause-leaves g c tells = c.copy_lines.ensures.leaves tells
@@ -24,11 +25,9 @@ returns-then-copied-len-clause-done g c = (λ is. absurd (cc (is)), λ all. absu
 pub returns-clause-copies : goal.returns-clause-copies
 returns-clause-copies g c tells b is =
     let all = c.in_ok-copied.ensures.copies tells b is in
-    let later = g.D.Disk.files c.copy_lines.new.disk in
-    let after = g.D.Disk.opened c.copy_lines.new.disk in
-    let past = g.D.Disk.past c.copy_lines.new.disk in
-    subst (λ (m : MoveState). CopiesPart c.args.self.now m c.args.start.now c.args.part.now c.args.from c.args.len 1_048_576 b (g.D.Disk.files c.args.disk.now) later after past) (sym c.finish.ensures.finished)
-    (ends_whole c.args.self.now c.copy_lines.new.self c.args.start.now c.args.part.now c.args.part.now c.args.from c.args.len 1_048_576 c.in_ok-copied.copied b all.0 (g.D.Disk.files c.args.disk.now) later after past (omega (arith, c.requires.some)) c.copy_lines.ensures.moves all.1 c.if-copied-len.false all.2)
+    let new = standing g.D.Disk c.copy_lines.new.disk in
+    subst (λ (m : MoveState). CopiesPart c.args.self.now m c.args.start.now c.args.part.now c.args.from c.args.len 1_048_576 b (g.D.Disk.files c.args.disk.now) new) (sym c.finish.ensures.finished)
+    (ends_whole c.args.self.now c.copy_lines.new.self c.args.start.now c.args.part.now c.args.part.now c.args.from c.args.len 1_048_576 c.in_ok-copied.copied b all.0 (g.D.Disk.files c.args.disk.now) new (omega (arith, c.requires.some)) c.copy_lines.ensures.moves all.1 c.if-copied-len.false all.2)
 
 pub returns-clause-leaves : goal.returns-clause-leaves
 returns-clause-leaves g c tells = c.copy_lines.ensures.leaves tells

@@ -3,6 +3,7 @@ use Rattle.std.specs.Prelude.{All}
 use Rattle.std.proofs.lemmas.Result.{err_from_is_err_and}
 use Rattle.std.proofs.lemmas.List.{length-map}
 use Rattle.gate_journal.specs.Generations.{AtOwn}
+use Rattle.gate_journal.specs.Standing.{standing}
 use Rattle.disk_model.specs.declared.disk.DiskErr.{DiskErr}
 use Rattle.disk_model.proofs.Passing.{passes_none}
 use Rattle.partition_names.specs.declared.granularity.Granularity.{Granularity}
@@ -36,16 +37,16 @@ relist-requires-clause-few g c =
 pub relist-requires-clause-can : goal.relist-requires-clause-can
 relist-requires-clause-can g c tells =
     let can = c.requires.can tells in
-    (can.0, can.1, can.2, can.3, subst (CanRelist can.0 c.args.dest.now can.1 _ _ _ can.2 can.3) (sym (c.deref.ensures.value ∙ c.in_ok-changes.ensures)) (may_publish can.0 c.args.dest.now can.1 _ _ _ can.2 can.3 c.args.self.now can.4 can.5))
+    (can.0, can.1, can.2, can.3, subst (CanRelist can.0 c.args.dest.now can.1 _ can.2 can.3) (sym (c.deref.ensures.value ∙ c.in_ok-changes.ensures)) (may_publish can.0 c.args.dest.now can.1 _ can.2 can.3 c.args.self.now can.4 can.5))
 
 pub returns-in_err-changes-clause-relists : goal.returns-in_err-changes-clause-relists
 returns-in_err-changes-clause-relists g c tells catalogue shelf held ahead has is =
     let m = c.args.dest.now in
     let disk = c.args.disk.now in
     let p = err_from_is_err_and c.from_residual.result c.from_residual.ensures.1 in
-    let none = nothing_listed catalogue m shelf (g.D.Disk.files disk) (g.D.Disk.opened disk) (g.D.Disk.past disk) held ahead has.stored in
-    subst (λ (r : Result Unit DiskErr). Relists catalogue m m shelf (g.D.Disk.files disk) (g.D.Disk.opened disk) (g.D.Disk.past disk) (g.D.Disk.past disk) held ahead (published r m.journal.sound)) (sym p.1)
-    (subst (λ (b : Bool). Relists catalogue m m shelf (g.D.Disk.files disk) (g.D.Disk.opened disk) (g.D.Disk.past disk) (g.D.Disk.past disk) held ahead (published (Err p.0) b)) (sym c.requires.sound) none)
+    let none = nothing_listed catalogue m shelf (standing g.D.Disk disk) held ahead has.stored in
+    subst (λ (r : Result Unit DiskErr). Relists catalogue m m shelf (g.D.Disk.past disk) (standing g.D.Disk disk) held ahead (published r m.journal.sound)) (sym p.1)
+    (subst (λ (b : Bool). Relists catalogue m m shelf (g.D.Disk.past disk) (standing g.D.Disk disk) held ahead (published (Err p.0) b)) (sym c.requires.sound) none)
 
 pub returns-in_err-changes-clause-commits : goal.returns-in_err-changes-clause-commits
 returns-in_err-changes-clause-commits g c =
@@ -68,9 +69,9 @@ returns-in_err-relist-clause-relists g c tells catalogue shelf held ahead has is
     let disk = c.args.disk.now in
     let new = c.relist.new.disk in
     let p = err_from_is_err_and c.from_residual-in_err-relist.result c.from_residual-in_err-relist.ensures.1 in
-    let can = subst (CanRelist catalogue m shelf (g.D.Disk.files disk) (g.D.Disk.opened disk) (g.D.Disk.past disk) held ahead) (sym (c.deref.ensures.value ∙ c.in_ok-changes.ensures)) (may_publish catalogue m shelf _ _ _ held ahead c.args.self.now has is) in
-    subst (λ (r : Result Unit DiskErr). Relists catalogue m made shelf (g.D.Disk.files new) (g.D.Disk.opened new) (g.D.Disk.past disk) (g.D.Disk.past new) held ahead (published r made.journal.sound)) (sym p.1)
-    (failed_listing catalogue m made shelf (g.D.Disk.files new) (g.D.Disk.opened new) (g.D.Disk.past disk) (g.D.Disk.past new) held ahead p.0 (c.relist.ensures.any_moment tells catalogue shelf held ahead can) (c.in_err-relist.ensures.unmade tells catalogue shelf held ahead can) (c.in_err-relist.ensures.in_doubt tells catalogue shelf held ahead can))
+    let can = subst (CanRelist catalogue m shelf (standing g.D.Disk disk) held ahead) (sym (c.deref.ensures.value ∙ c.in_ok-changes.ensures)) (may_publish catalogue m shelf _ held ahead c.args.self.now has is) in
+    subst (λ (r : Result Unit DiskErr). Relists catalogue m made shelf (g.D.Disk.past disk) (standing g.D.Disk new) held ahead (published r made.journal.sound)) (sym p.1)
+    (failed_listing catalogue m made shelf (g.D.Disk.past disk) (standing g.D.Disk new) held ahead p.0 (c.relist.ensures.any_moment tells catalogue shelf held ahead can) (c.in_err-relist.ensures.unmade tells catalogue shelf held ahead can) (c.in_err-relist.ensures.in_doubt tells catalogue shelf held ahead can))
 
 pub returns-in_err-relist-clause-commits : goal.returns-in_err-relist-clause-commits
 returns-in_err-relist-clause-commits g c =
@@ -89,7 +90,7 @@ pub returns-clause-relists : goal.returns-clause-relists
 returns-clause-relists g c tells catalogue shelf held ahead has is =
     let m = c.args.dest.now in
     let disk = c.args.disk.now in
-    let can = subst (CanRelist catalogue m shelf (g.D.Disk.files disk) (g.D.Disk.opened disk) (g.D.Disk.past disk) held ahead) (sym (c.deref.ensures.value ∙ c.in_ok-changes.ensures)) (may_publish catalogue m shelf _ _ _ held ahead c.args.self.now has is) in
+    let can = subst (CanRelist catalogue m shelf (standing g.D.Disk disk) held ahead) (sym (c.deref.ensures.value ∙ c.in_ok-changes.ensures)) (may_publish catalogue m shelf _ held ahead c.args.self.now has is) in
     record {
       any_moment = c.relist.ensures.any_moment tells catalogue shelf held ahead can;
       stands = c.in_ok-relist.ensures.made tells catalogue shelf held ahead can;

@@ -1,11 +1,11 @@
 use Rattle.std.proofs.Common.{◌≡◌, ℕ, ◌+◌, ◌/◌, List, [], ◌∷◌, Err, Some, inr, refl, sym, ◌∙◌, ap, arith}
 use Rattle.std.proofs.lemmas.Result.{on_ok_weaker, IfErr-at_err, err_from_is_err_and}
 use Rattle.disk_model.specs.declared.disk.DiskErr.{DiskErr}
-use Rattle.gate_journal.specs.Commits.{standing}
 use Rattle.gate_journal.specs.Journal.{JournalState, state_of, is_of_commit}
 use Rattle.gate_journal.specs.declared.journal.Pending.TheVariants.{Removal}
 use Rattle.gate_journal.specs.Generations.{generation_batches}
 use Rattle.gate_journal.specs.Plain.{PlainState}
+use Rattle.gate_journal.specs.Standing.{standing}
 use Rattle.gate_journal.proofs.Checkpoints.{told_by_length, at_not_next, current_not_next, all_unopened, current_file, left_commits, left_goes, open_commits, open_goes, gone_commits, gone_over_goes, nothing_commits, nothing_goes}
 use Rattle.gate_journal.proofs.Committing.{sound_parts}
 use Rattle.gate_journal.proofs.Holding.{current_is_own}
@@ -17,8 +17,8 @@ switch-requires-clause-sound g c = (sound_parts c.self.inside.pending c.self.ins
 pub switch-requires-clause-apart : goal.switch-requires-clause-apart
 switch-requires-clause-apart g c tells =
     let s = rw (← c.self.view_is) at (c.requires.settled tells) in
-    let counted = told_by_length c.self.inside.at (g.D.Disk.files c.args.disk.now) (g.D.Disk.opened c.args.disk.now) (g.D.Disk.past c.args.disk.now) s.1.generation c.len.result s.1.at c.len.ensures in
-    at_not_next _ (g.D.Disk.files c.args.disk.now) (g.D.Disk.opened c.args.disk.now) (g.D.Disk.past c.args.disk.now) s.0 s.1 (c.len.result / 13 + 1) counted c.name-2.result.now c.generation_name.ensures.small (c.name-2.ensures ∙ ap (λ (j : PlainState). j.name) c.closed_at-next.ensures ∙ c.in_ok-name.ensures.named)
+    let counted = told_by_length c.self.inside.at (standing g.D.Disk c.args.disk.now) s.1.generation c.len.result s.1.at c.len.ensures in
+    at_not_next _ (standing g.D.Disk c.args.disk.now) s.0 s.1 (c.len.result / 13 + 1) counted c.name-2.result.now c.generation_name.ensures.small (c.name-2.ensures ∙ ap (λ (j : PlainState). j.name) c.closed_at-next.ensures ∙ c.in_ok-name.ensures.named)
 
 pub switch-requires-clause-settled : goal.switch-requires-clause-settled
 switch-requires-clause-settled g c tells = let s = rw (← c.self.view_is) at (c.requires.settled tells) in (generation_batches s.1.generation, s.1.at)
@@ -55,9 +55,9 @@ returns-in-Err-Memory-clause-commits g c =
     let is = ap (λ (e : DiskErr). Err e) c.in-Err-Memory.field-0-is in
     let state = λ (a : PlainState). let x : JournalState = state_of c.self.inside.name a c.self.inside.current c.self.inside.pending in x in
     rw (← c.self.view_is) (λ tells bs s.
-    left_commits _ was.files was.opened was.past bs s (c.len.result / 13 + 1) (told_by_length c.self.inside.at was.files was.opened was.past s.generation c.len.result s.at c.len.ensures) c.name-2.result.now
+    left_commits _ was bs s (c.len.result / 13 + 1) (told_by_length c.self.inside.at was s.generation c.len.result s.at c.len.ensures) c.name-2.result.now
     c.generation_name.ensures.small (c.name-2.ensures ∙ ap (λ (j : PlainState). j.name) c.closed_at-next.ensures ∙ c.in_ok-name.ensures.named) c.args.batch.now c.deref.result.now c.requires.not_long
-    (c.deref.ensures.value ∙ c.in_ok-first_bytes.ensures) mid.files mid.opened mid.past (c.switch.ensures.any_moment tells (generation_batches s.generation) s.at)
+    (c.deref.ensures.value ∙ c.in_ok-first_bytes.ensures) mid (c.switch.ensures.any_moment tells (generation_batches s.generation) s.at)
     (c.switch.ensures.elsewhere tells) (c.switch.ensures.opened tells) (c.switch.ensures.unopened tells) c.switch.new.at _ (ap state (c.in-Err-Memory.ensures.memory is)) (c.in-Err-Memory.ensures.left tells (generation_batches s.generation) s.at is))
 
 pub returns-in-Err-Memory-clause-goes_over : goal.returns-in-Err-Memory-clause-goes_over
@@ -69,9 +69,9 @@ returns-in-Err-Memory-clause-goes_over g c =
     let held = rw (← c.self.view_is) at (c.requires.settled tells) in
     let s = held.1 in
     let made = c.in-Err-Memory.ensures.untold tells is in
-    left_goes _ was.files was.opened was.past held.0 s (c.len.result / 13 + 1) (told_by_length c.self.inside.at was.files was.opened was.past s.generation c.len.result s.at c.len.ensures) c.name-2.result.now
+    left_goes _ was held.0 s (c.len.result / 13 + 1) (told_by_length c.self.inside.at was s.generation c.len.result s.at c.len.ensures) c.name-2.result.now
     c.generation_name.ensures.small (c.name-2.ensures ∙ ap (λ (j : PlainState). j.name) c.closed_at-next.ensures ∙ c.in_ok-name.ensures.named) c.args.batch.now c.deref.result.now c.requires.not_long
-    (c.deref.ensures.value ∙ c.in_ok-first_bytes.ensures) mid.files mid.opened mid.past (c.switch.ensures.any_moment tells (generation_batches s.generation) s.at)
+    (c.deref.ensures.value ∙ c.in_ok-first_bytes.ensures) mid (c.switch.ensures.any_moment tells (generation_batches s.generation) s.at)
     (c.switch.ensures.elsewhere tells) (c.switch.ensures.opened tells) (c.switch.ensures.unopened tells) k small_k current _ made.0 made.1)
 
 pub returns-in-Err-Memory-clause-memory : goal.returns-in-Err-Memory-clause-memory
@@ -85,9 +85,9 @@ returns-in-Err-Fault-clause-commits g c =
     let mid = standing g.D.Disk c.switch.new.disk in
     let is = ap (λ (e : DiskErr). Err e) c.in-Err-Fault.field-0-is in
     rw (← c.self.view_is) (λ tells bs s.
-    open_commits _ was.files was.opened was.past bs s (c.len.result / 13 + 1) (told_by_length c.self.inside.at was.files was.opened was.past s.generation c.len.result s.at c.len.ensures) c.name-2.result.now
+    open_commits _ was bs s (c.len.result / 13 + 1) (told_by_length c.self.inside.at was s.generation c.len.result s.at c.len.ensures) c.name-2.result.now
     c.generation_name.ensures.small (c.name-2.ensures ∙ ap (λ (j : PlainState). j.name) c.closed_at-next.ensures ∙ c.in_ok-name.ensures.named) c.args.batch.now c.deref.result.now c.requires.not_long
-    (c.deref.ensures.value ∙ c.in_ok-first_bytes.ensures) mid.files mid.opened mid.past (c.switch.ensures.any_moment tells (generation_batches s.generation) s.at)
+    (c.deref.ensures.value ∙ c.in_ok-first_bytes.ensures) mid (c.switch.ensures.any_moment tells (generation_batches s.generation) s.at)
     (c.switch.ensures.elsewhere tells) (c.switch.ensures.opened tells) (c.switch.ensures.unopened tells)
     c.switch.new.at c.closed_at-next.result c.switch.ensures.name (sym c.name-2.ensures) (let place = ap (λ (j : PlainState). j.place) c.closed_at-next.ensures in omega (arith, place))
     (c.in-Err-Fault.ensures.in_doubt tells (generation_batches s.generation) s.at is) sound.0)
@@ -99,9 +99,9 @@ returns-in-Err-Fault-clause-goes_over g c =
     rw (← c.self.view_is) (λ tells k small_k current.
     let held = rw (← c.self.view_is) at (c.requires.settled tells) in
     let s = held.1 in
-    open_goes _ was.files was.opened was.past held.0 s (c.len.result / 13 + 1) (told_by_length c.self.inside.at was.files was.opened was.past s.generation c.len.result s.at c.len.ensures) c.name-2.result.now
+    open_goes _ was held.0 s (c.len.result / 13 + 1) (told_by_length c.self.inside.at was s.generation c.len.result s.at c.len.ensures) c.name-2.result.now
     c.generation_name.ensures.small (c.name-2.ensures ∙ ap (λ (j : PlainState). j.name) c.closed_at-next.ensures ∙ c.in_ok-name.ensures.named) c.args.batch.now c.deref.result.now c.requires.not_long
-    (c.deref.ensures.value ∙ c.in_ok-first_bytes.ensures) mid.files mid.opened mid.past (c.switch.ensures.any_moment tells (generation_batches s.generation) s.at)
+    (c.deref.ensures.value ∙ c.in_ok-first_bytes.ensures) mid (c.switch.ensures.any_moment tells (generation_batches s.generation) s.at)
     (c.switch.ensures.elsewhere tells) (c.switch.ensures.opened tells) (c.switch.ensures.unopened tells) k small_k current _)
 
 pub go_over-requires-clause-pending : goal.go_over-requires-clause-pending
@@ -116,9 +116,9 @@ go_over-requires-clause-file g c tells =
     let mid = standing g.D.Disk c.switch.new.disk in
     let held = rw (← c.self.view_is) at (c.requires.settled tells) in
     let s = held.1 in
-    current_file _ was.files was.opened was.past held.0 s (c.len.result / 13 + 1) (told_by_length c.self.inside.at was.files was.opened was.past s.generation c.len.result s.at c.len.ensures) c.name-2.result.now
+    current_file _ was held.0 s (c.len.result / 13 + 1) (told_by_length c.self.inside.at was s.generation c.len.result s.at c.len.ensures) c.name-2.result.now
     c.generation_name.ensures.small (c.name-2.ensures ∙ ap (λ (j : PlainState). j.name) c.closed_at-next.ensures ∙ c.in_ok-name.ensures.named) c.args.batch.now c.deref.result.now c.requires.not_long
-    (c.deref.ensures.value ∙ c.in_ok-first_bytes.ensures) mid.files mid.opened mid.past (c.switch.ensures.any_moment tells (generation_batches s.generation) s.at)
+    (c.deref.ensures.value ∙ c.in_ok-first_bytes.ensures) mid (c.switch.ensures.any_moment tells (generation_batches s.generation) s.at)
     (c.switch.ensures.elsewhere tells) (c.switch.ensures.opened tells) (c.switch.ensures.unopened tells)
 
 pub go_over-requires-clause-unopened : goal.go_over-requires-clause-unopened
@@ -127,10 +127,10 @@ go_over-requires-clause-unopened g c tells =
     let mid = standing g.D.Disk c.switch.new.disk in
     let held = rw (← c.self.view_is) at (c.requires.settled tells) in
     let s = held.1 in
-    all_unopened _ was.files was.opened was.past held.0 s (c.len.result / 13 + 1) (told_by_length c.self.inside.at was.files was.opened was.past s.generation c.len.result s.at c.len.ensures) c.name-2.result.now
+    all_unopened _ was held.0 s (c.len.result / 13 + 1) (told_by_length c.self.inside.at was s.generation c.len.result s.at c.len.ensures) c.name-2.result.now
     c.generation_name.ensures.small (c.name-2.ensures ∙ ap (λ (j : PlainState). j.name) c.closed_at-next.ensures ∙ c.in_ok-name.ensures.named) c.args.batch.now c.deref.result.now c.requires.not_long
-    (c.deref.ensures.value ∙ c.in_ok-first_bytes.ensures) mid.files mid.opened mid.past (c.switch.ensures.any_moment tells (generation_batches s.generation) s.at)
-    (c.switch.ensures.elsewhere tells) (c.switch.ensures.opened tells) (c.switch.ensures.unopened tells) c.self.inside.current.name (current_is_own _ was.files was.opened was.past held.0 s)
+    (c.deref.ensures.value ∙ c.in_ok-first_bytes.ensures) mid (c.switch.ensures.any_moment tells (generation_batches s.generation) s.at)
+    (c.switch.ensures.elsewhere tells) (c.switch.ensures.opened tells) (c.switch.ensures.unopened tells) c.self.inside.current.name (current_is_own _ was held.0 s)
 
 pub returns-in-Ok-clause-commits : goal.returns-in-Ok-clause-commits
 returns-in-Ok-clause-commits g c =
@@ -138,12 +138,12 @@ returns-in-Ok-clause-commits g c =
     let mid = standing g.D.Disk c.switch.new.disk in
     let last = standing g.D.Disk c.go_over.new.disk in
     rw (← c.self.view_is) (λ tells bs s.
-    gone_commits _ was.files was.opened was.past bs s (c.len.result / 13 + 1) (told_by_length c.self.inside.at was.files was.opened was.past s.generation c.len.result s.at c.len.ensures) c.name-2.result.now
+    gone_commits _ was bs s (c.len.result / 13 + 1) (told_by_length c.self.inside.at was s.generation c.len.result s.at c.len.ensures) c.name-2.result.now
     c.generation_name.ensures.small (c.name-2.ensures ∙ ap (λ (j : PlainState). j.name) c.closed_at-next.ensures ∙ c.in_ok-name.ensures.named) c.args.batch.now c.deref.result.now c.requires.not_long
-    (c.deref.ensures.value ∙ c.in_ok-first_bytes.ensures) mid.files mid.opened mid.past (c.switch.ensures.any_moment tells (generation_batches s.generation) s.at)
+    (c.deref.ensures.value ∙ c.in_ok-first_bytes.ensures) mid (c.switch.ensures.any_moment tells (generation_batches s.generation) s.at)
     (c.switch.ensures.elsewhere tells) (c.switch.ensures.opened tells) (c.switch.ensures.unopened tells)
     c.switch.new.at c.closed_at-next.result c.switch.ensures.name (sym c.name-2.ensures) (let place = ap (λ (j : PlainState). j.place) c.closed_at-next.ensures in omega (arith, place))
-    (c.in-Ok.ensures.told tells (generation_batches s.generation) s.at) (c.in-Ok.ensures.made tells).0 (c.in-Ok.ensures.made tells).1 last.files last.opened last.past
+    (c.in-Ok.ensures.told tells (generation_batches s.generation) s.at) (c.in-Ok.ensures.made tells).0 (c.in-Ok.ensures.made tells).1 last
     (c.go_over.ensures.any_moment tells) (c.go_over.ensures.elsewhere tells) (c.go_over.ensures.opened tells) (c.go_over.ensures.unopened tells)
     c.go_over.result _ (c.go_over.ensures.over c.closed_at-next.result refl) (c.go_over.ensures.left c.closed_at-next.result refl) c.go_over.ensures.no_memory)
 
@@ -155,12 +155,12 @@ returns-in-Ok-clause-goes_over g c =
     rw (← c.self.view_is) (λ tells k small_k current.
     let held = rw (← c.self.view_is) at (c.requires.settled tells) in
     let s = held.1 in
-    gone_over_goes _ was.files was.opened was.past held.0 s (c.len.result / 13 + 1) (told_by_length c.self.inside.at was.files was.opened was.past s.generation c.len.result s.at c.len.ensures) c.name-2.result.now
+    gone_over_goes _ was held.0 s (c.len.result / 13 + 1) (told_by_length c.self.inside.at was s.generation c.len.result s.at c.len.ensures) c.name-2.result.now
     c.generation_name.ensures.small (c.name-2.ensures ∙ ap (λ (j : PlainState). j.name) c.closed_at-next.ensures ∙ c.in_ok-name.ensures.named) c.args.batch.now c.deref.result.now c.requires.not_long
-    (c.deref.ensures.value ∙ c.in_ok-first_bytes.ensures) mid.files mid.opened mid.past (c.switch.ensures.any_moment tells (generation_batches s.generation) s.at)
+    (c.deref.ensures.value ∙ c.in_ok-first_bytes.ensures) mid (c.switch.ensures.any_moment tells (generation_batches s.generation) s.at)
     (c.switch.ensures.elsewhere tells) (c.switch.ensures.opened tells) (c.switch.ensures.unopened tells)
     c.switch.new.at c.closed_at-next.result c.switch.ensures.name (sym c.name-2.ensures) (let place = ap (λ (j : PlainState). j.place) c.closed_at-next.ensures in omega (arith, place))
-    (c.in-Ok.ensures.told tells (generation_batches s.generation) s.at) (c.in-Ok.ensures.made tells).0 (c.in-Ok.ensures.made tells).1 last.files last.opened last.past
+    (c.in-Ok.ensures.told tells (generation_batches s.generation) s.at) (c.in-Ok.ensures.made tells).0 (c.in-Ok.ensures.made tells).1 last
     (c.go_over.ensures.any_moment tells) (c.go_over.ensures.elsewhere tells) (c.go_over.ensures.opened tells) (c.go_over.ensures.unopened tells)
     k small_k current c.go_over.result _ (c.go_over.ensures.over c.closed_at-next.result refl) c.go_over.ensures.no_memory (c.go_over.ensures.gone tells))
 
@@ -169,9 +169,9 @@ returns-in-Ok-clause-bytes g c tells =
     let was = standing g.D.Disk c.args.disk.now in
     let held = rw (← c.self.view_is) at (c.requires.settled tells) in
     let s = held.1 in
-    let counted = told_by_length c.self.inside.at was.files was.opened was.past s.generation c.len.result s.at c.len.ensures in
+    let counted = told_by_length c.self.inside.at was s.generation c.len.result s.at c.len.ensures in
     let named = c.name-2.ensures ∙ ap (λ (j : PlainState). j.name) c.closed_at-next.ensures ∙ c.in_ok-name.ensures.named in
-    let not_next = current_not_next _ was.files was.opened was.past held.0 s (c.len.result / 13 + 1) counted c.name-2.result.now c.generation_name.ensures.small named in
+    let not_next = current_not_next _ was held.0 s (c.len.result / 13 + 1) counted c.name-2.result.now c.generation_name.ensures.small named in
     let file = c.deref.ensures.value ∙ c.in_ok-first_bytes.ensures in
     on_ok_weaker c.go_over.result (λ is. ap (λ (j : JournalState). (g.D.Disk.files c.go_over.new.disk) j.current.name) is ∙ ap (g.D.Disk.files c.go_over.new.disk) (sym c.name-2.ensures) ∙ c.go_over.ensures.elsewhere tells c.name-2.result.now (λ too. not_next (sym too)) ∙ (c.in-Ok.ensures.made tells).0 ∙ ap (λ (l : List ℕ). Some l) file)
     (c.go_over.ensures.over c.closed_at-next.result refl)

@@ -2,11 +2,11 @@ use Rattle.std.proofs.Common.{ℕ, ◌+◌, sym, ◌∙◌, ap, subst}
 use Rattle.std.proofs.lemmas.Result.{err_from_is_err_and}
 use Rattle.std.specs.Int.{to_le_bytes, w64}
 use Rattle.disk_model.specs.Files.{Files, Name}
-use Rattle.gate_journal.specs.Commits.{standing}
 use Rattle.gate_journal.specs.Journal.{JournalState, state_of, is_of_commit, is_sound_with, HasNoneBefore}
 use Rattle.gate_journal.specs.declared.journal.Pending.{Pending}
 use Rattle.gate_journal.specs.declared.journal.Pending.TheVariants.{Nothing}
 use Rattle.gate_journal.specs.Generations.{generation_batches}
+use Rattle.gate_journal.specs.Standing.{standing}
 use Rattle.gate_journal.proofs.Results.{on_err_always}
 use Rattle.gate_journal.proofs.Deciding.{half_switched, unswitched_reviews, still_reviews, not_switched, over_reviews, half_over_reviews}
 use Rattle.gate_journal.proofs.Removing.{none_before}
@@ -24,7 +24,7 @@ review-requires-clause-in_doubt g c tells =
     let before = d.0 in
     let after = d.1 in
     let w = d.2 in
-    let half = half_switched (state_of c.self.inside.name c.self.inside.at c.self.inside.current c.self.inside.pending) (g.D.Disk.files c.args.disk.now) (g.D.Disk.opened c.args.disk.now) (g.D.Disk.past c.args.disk.now) before after next w (sym c.is_sound.ensures ∙ c.if-is_sound.false) in
+    let half = half_switched (state_of c.self.inside.name c.self.inside.at c.self.inside.current c.self.inside.pending) (standing g.D.Disk c.args.disk.now) before after next w (sym c.is_sound.ensures ∙ c.if-is_sound.false) in
     ((generation_batches w.generation), (to_le_bytes w64 (w.generation + 1)), half.at)
 
 pub go_over-requires-clause-pending : goal.go_over-requires-clause-pending
@@ -48,7 +48,7 @@ go_over-requires-clause-unopened g c tells =
 pub returns-then-is_sound-clause-reviews : goal.returns-then-is_sound-clause-reviews
 returns-then-is_sound-clause-reviews g c =
     let was = standing g.D.Disk c.args.disk.now in
-    rw (← c.self.view_is) (λ tells next is before after w. unswitched_reviews (state_of c.self.inside.name c.self.inside.at c.self.inside.current c.self.inside.pending) was.files was.opened was.past before after next w Nothing is (sym c.is_sound.ensures ∙ c.if-is_sound.true))
+    rw (← c.self.view_is) (λ tells next is before after w. unswitched_reviews (state_of c.self.inside.name c.self.inside.at c.self.inside.current c.self.inside.pending) was before after next w Nothing is (sym c.is_sound.ensures ∙ c.if-is_sound.true))
 
 pub returns-in_err-review-clause-reviews : goal.returns-in_err-review-clause-reviews
 returns-in_err-review-clause-reviews g c =
@@ -56,8 +56,8 @@ returns-in_err-review-clause-reviews g c =
     let mid = standing g.D.Disk c.review.new.disk in
     let p = err_from_is_err_and c.from_residual.result c.from_residual.ensures.1 in
     rw (← c.self.view_is) (λ tells next is before after w.
-    let half = half_switched (state_of c.self.inside.name c.self.inside.at c.self.inside.current c.self.inside.pending) was.files was.opened was.past before after next w (sym c.is_sound.ensures ∙ c.if-is_sound.false) in
-    still_reviews (state_of c.self.inside.name c.self.inside.at c.self.inside.current c.self.inside.pending) was.files was.opened was.past before after next w is half c.review.new.self mid.files mid.opened mid.past c.review.ensures.name (c.review.ensures.same tells) (c.review.ensures.opened tells) (c.review.ensures.any_moment tells)
+    let half = half_switched (state_of c.self.inside.name c.self.inside.at c.self.inside.current c.self.inside.pending) was before after next w (sym c.is_sound.ensures ∙ c.if-is_sound.false) in
+    still_reviews (state_of c.self.inside.name c.self.inside.at c.self.inside.current c.self.inside.pending) was before after next w is half c.review.new.self mid c.review.ensures.name (c.review.ensures.same tells) (c.review.ensures.opened tells) (c.review.ensures.any_moment tells)
     c.self.inside.pending c.from_residual.result _ p.1 c.in_err-review.ensures.still is (c.in_err-review.ensures.doubtful tells (generation_batches w.generation) (to_le_bytes w64 (w.generation + 1)) half.at))
 
 pub returns-then-not-branch-clause-reviews : goal.returns-then-not-branch-clause-reviews
@@ -65,8 +65,8 @@ returns-then-not-branch-clause-reviews g c =
     let was = standing g.D.Disk c.args.disk.now in
     let mid = standing g.D.Disk c.review.new.disk in
     rw (← c.self.view_is) (λ tells next is before after w.
-    let half = half_switched (state_of c.self.inside.name c.self.inside.at c.self.inside.current c.self.inside.pending) was.files was.opened was.past before after next w (sym c.is_sound.ensures ∙ c.if-is_sound.false) in
-    not_switched (state_of c.self.inside.name c.self.inside.at c.self.inside.current c.self.inside.pending) was.files was.opened was.past before after next w is half c.review.new.self mid.files mid.opened mid.past c.review.ensures.name (c.review.ensures.same tells) (c.review.ensures.opened tells) (c.review.ensures.any_moment tells)
+    let half = half_switched (state_of c.self.inside.name c.self.inside.at c.self.inside.current c.self.inside.pending) was before after next w (sym c.is_sound.ensures ∙ c.if-is_sound.false) in
+    not_switched (state_of c.self.inside.name c.self.inside.at c.self.inside.current c.self.inside.pending) was before after next w is half c.review.new.self mid c.review.ensures.name (c.review.ensures.same tells) (c.review.ensures.opened tells) (c.review.ensures.any_moment tells)
     Nothing (c.in_ok-review.ensures.unmade tells (generation_batches w.generation) (to_le_bytes w64 (w.generation + 1)) half.at c.if-not-branch.true))
 
 pub returns-clause-reviews : goal.returns-clause-reviews
@@ -75,10 +75,10 @@ returns-clause-reviews g c =
     let mid = standing g.D.Disk c.review.new.disk in
     let last = standing g.D.Disk c.go_over.new.disk in
     rw (← c.self.view_is) (λ tells next is before after w.
-    let half = half_switched (state_of c.self.inside.name c.self.inside.at c.self.inside.current c.self.inside.pending) was.files was.opened was.past before after next w (sym c.is_sound.ensures ∙ c.if-is_sound.false) in
-    over_reviews (state_of c.self.inside.name c.self.inside.at c.self.inside.current c.self.inside.pending) was.files was.opened was.past before after next w is half c.review.new.self mid.files mid.opened mid.past c.review.ensures.name (c.review.ensures.same tells) (c.review.ensures.opened tells) (c.review.ensures.any_moment tells)
+    let half = half_switched (state_of c.self.inside.name c.self.inside.at c.self.inside.current c.self.inside.pending) was before after next w (sym c.is_sound.ensures ∙ c.if-is_sound.false) in
+    over_reviews (state_of c.self.inside.name c.self.inside.at c.self.inside.current c.self.inside.pending) was before after next w is half c.review.new.self mid c.review.ensures.name (c.review.ensures.same tells) (c.review.ensures.opened tells) (c.review.ensures.any_moment tells)
     (c.in_ok-review.ensures.made tells (generation_batches w.generation) (to_le_bytes w64 (w.generation + 1)) half.at c.if-not-branch.false)
-    last.files last.opened last.past (c.go_over.ensures.any_moment tells) (c.go_over.ensures.elsewhere tells) (c.go_over.ensures.opened tells) (c.go_over.ensures.unopened tells)
+    last (c.go_over.ensures.any_moment tells) (c.go_over.ensures.elsewhere tells) (c.go_over.ensures.opened tells) (c.go_over.ensures.unopened tells)
     _ (c.in_ok-go_over.ensures.over next is))
 
 pub returns-in_err-go_over-clause-reviews : goal.returns-in_err-go_over-clause-reviews
@@ -88,10 +88,10 @@ returns-in_err-go_over-clause-reviews g c =
     let last = standing g.D.Disk c.go_over.new.disk in
     let p = err_from_is_err_and c.from_residual-in_err-go_over.result c.from_residual-in_err-go_over.ensures.1 in
     rw (← c.self.view_is) (λ tells next is before after w.
-    let half = half_switched (state_of c.self.inside.name c.self.inside.at c.self.inside.current c.self.inside.pending) was.files was.opened was.past before after next w (sym c.is_sound.ensures ∙ c.if-is_sound.false) in
-    half_over_reviews (state_of c.self.inside.name c.self.inside.at c.self.inside.current c.self.inside.pending) was.files was.opened was.past before after next w is half c.review.new.self mid.files mid.opened mid.past c.review.ensures.name (c.review.ensures.same tells) (c.review.ensures.opened tells) (c.review.ensures.any_moment tells)
+    let half = half_switched (state_of c.self.inside.name c.self.inside.at c.self.inside.current c.self.inside.pending) was before after next w (sym c.is_sound.ensures ∙ c.if-is_sound.false) in
+    half_over_reviews (state_of c.self.inside.name c.self.inside.at c.self.inside.current c.self.inside.pending) was before after next w is half c.review.new.self mid c.review.ensures.name (c.review.ensures.same tells) (c.review.ensures.opened tells) (c.review.ensures.any_moment tells)
     (c.in_ok-review.ensures.made tells (generation_batches w.generation) (to_le_bytes w64 (w.generation + 1)) half.at c.if-not-branch.false)
-    last.files last.opened last.past (c.go_over.ensures.any_moment tells) (c.go_over.ensures.elsewhere tells) (c.go_over.ensures.opened tells) (c.go_over.ensures.unopened tells)
+    last (c.go_over.ensures.any_moment tells) (c.go_over.ensures.elsewhere tells) (c.go_over.ensures.opened tells) (c.go_over.ensures.unopened tells)
     _ c.from_residual-in_err-go_over.result _ p.1 (c.in_err-go_over.ensures.left next is))
 
 pub returns-clause-elsewhere : goal.returns-clause-elsewhere
@@ -131,9 +131,9 @@ pub returns-clause-cleared : goal.returns-clause-cleared
 returns-clause-cleared g c =
     let was = standing g.D.Disk c.args.disk.now in
     rw (← c.self.view_is) (λ tells next is before after w told.
-    let half = half_switched (state_of c.self.inside.name c.self.inside.at c.self.inside.current c.self.inside.pending) was.files was.opened was.past before after next w (sym c.is_sound.ensures ∙ c.if-is_sound.false) in
-    subst (λ (j : JournalState). HasNoneBefore j (g.D.Disk.files c.go_over.new.disk) (g.D.Disk.past c.go_over.new.disk)) (sym (c.in_ok-go_over.ensures.over next is))
-    (none_before (state_of c.self.inside.name c.review.new.self next Nothing) (g.D.Disk.files c.go_over.new.disk) (g.D.Disk.past c.go_over.new.disk) w.generation c.self.inside.current.name half.small half.named w.named.current (c.in_ok-go_over.ensures.gone tells)))
+    let half = half_switched (state_of c.self.inside.name c.self.inside.at c.self.inside.current c.self.inside.pending) was before after next w (sym c.is_sound.ensures ∙ c.if-is_sound.false) in
+    subst (λ (j : JournalState). HasNoneBefore j (standing g.D.Disk c.go_over.new.disk)) (sym (c.in_ok-go_over.ensures.over next is))
+    (none_before (state_of c.self.inside.name c.review.new.self next Nothing) (standing g.D.Disk c.go_over.new.disk) w.generation c.self.inside.current.name half.small half.named w.named.current (c.in_ok-go_over.ensures.gone tells)))
 
 pub returns-then-is_sound-clause-any_moment : goal.returns-then-is_sound-clause-any_moment
 returns-then-is_sound-clause-any_moment g c = rw (← c.self.view_is) (λ tells. anyhow_none _ (g.D.Disk.past c.args.disk.now))

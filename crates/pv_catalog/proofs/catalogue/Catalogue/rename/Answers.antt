@@ -1,8 +1,8 @@
 use Rattle.std.proofs.Common.{◌≡◌, ℕ, List, Result, refl, Ok, Err, OnOk, IsErrOf, sym, ◌∙◌, ap, subst}
 use Rattle.std.proofs.lemmas.Result.{err_from_is_err_and}
 use Rattle.disk_model.specs.declared.disk.DiskErr.TheVariants.{Fault, Memory}
-use Rattle.gate_journal.specs.Commits.{standing}
 use Rattle.gate_journal.specs.Kept.{IsKept}
+use Rattle.gate_journal.specs.Standing.{standing}
 use Rattle.pv_catalog.specs.declared.error.RenameErr.{RenameErr}
 use Rattle.pv_catalog.specs.declared.error.RenameErr.TheVariants.{Disk}
 use Rattle.pv_catalog.specs.Catalogue.{CatalogueState, CommitsRows, RefusesName}
@@ -47,7 +47,7 @@ returns-in_err-id-clause-commits g c =
     let p = err_from_is_err_and c.from_residual.result c.from_residual.ensures.1 in
     let failed_so : Result ℕ RenameErr = Err p.0 in
     rw (← c.self.view_is, p.1) (λ tells.
-    let Kept : List Row → Type 0 = λ l. IsKept IsCatalogue c.self.inside.journal (g.D.Disk.files c.args.disk.now) (g.D.Disk.opened c.args.disk.now) (g.D.Disk.past c.args.disk.now) l in
+    let Kept : List Row → Type 0 = λ l. IsKept IsCatalogue c.self.inside.journal (standing g.D.Disk c.args.disk.now) l in
     nothing_commits IsCatalogue c.self.inside.table.rows _ _ _ c.self.inside.journal c.self.inside.journal (OnOk failed_so) (failed_so ≡ Err (Disk Fault)) (failed_so ≡ Err (Disk Memory)) (standing g.D.Disk c.args.disk.now) (stored tells)
     (subst Kept (sym c.propose_name.ensures.rows) (stored tells)) tt (λ fault. never_name_fault c.self.inside.table.rows c.args.old c.args.name.now c.in_err-id.field-0.0 c.in_err-id.ensures.refusal (cc (p.2, fault))))
 

@@ -1,6 +1,6 @@
 use Rattle.std.proofs.Common.{◌≡◌, Err, Result, OnOk}
 use Rattle.disk_model.specs.declared.disk.DiskErr.TheVariants.{Fault, Memory}
-use Rattle.gate_journal.specs.Commits.{standing}
+use Rattle.gate_journal.specs.Standing.{standing}
 use Rattle.pv_catalog.specs.declared.error.StateErr.{StateErr}
 use Rattle.pv_catalog.specs.declared.error.StateErr.TheVariants.{NotPaused, Disk}
 use Rattle.gate_journal.proofs.Keeping.{nothing_commits}

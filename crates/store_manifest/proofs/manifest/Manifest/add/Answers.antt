@@ -1,7 +1,8 @@
 use Rattle.std.proofs.Common.{◌∷◌, ◌++◌, [], ℕ, ◌+◌, refl, sym, ◌∙◌, ap, subst, Result, Ok, Err, List, length}
 use Rattle.std.proofs.lemmas.Result.{err_from_is_err_and}
 use Rattle.disk_model.specs.declared.disk.DiskErr.{DiskErr}
-use Rattle.gate_journal.specs.Commits.{standing, CommitsBatches}
+use Rattle.gate_journal.specs.Commits.{CommitsBatches}
+use Rattle.gate_journal.specs.Standing.{standing}
 use Rattle.store_manifest.proofs.Committing.{written_long, add_commits, nothing_configured}
 use Rattle.store_manifest.proofs.manifest.Manifest.add.Goals as goal
 

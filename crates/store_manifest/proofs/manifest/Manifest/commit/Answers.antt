@@ -1,8 +1,8 @@
 use Rattle.std.proofs.Common.{◌≡◌, ℕ, ◌+◌, sym, ◌∙◌, ap, subst, List, length, Ok, Err}
 use Rattle.std.proofs.lemmas.Result.{on_ok_weaker, err_from_is_err_and}
 use Rattle.disk_model.specs.declared.disk.DiskErr.{DiskErr}
-use Rattle.gate_journal.specs.Commits.{standing}
 use Rattle.gate_journal.specs.Kept as journal
+use Rattle.gate_journal.specs.Standing.{standing}
 use Rattle.store_manifest.specs.declared.entry.Entry.{Entry}
 use Rattle.store_manifest.specs.Batches.{batch_of, whole, Configured}
 use Rattle.store_manifest.specs.Entries.{all_changed}
@@ -14,7 +14,7 @@ use Rattle.store_manifest.proofs.manifest.Manifest.commit.Goals as goal
 pub shorten-requires-clause-kept : goal.shorten-requires-clause-kept
 shorten-requires-clause-kept g c tells =
     let kept = rw (← c.self.view_is) at c.requires.kept in
-    let P : List Entry → Type 0 = λ l. journal.IsKept (Configured c.self.inside.granularity) c.self.inside.journal (g.D.Disk.files c.args.disk.now) (g.D.Disk.opened c.args.disk.now) (g.D.Disk.past c.args.disk.now) l in
+    let P : List Entry → Type 0 = λ l. journal.IsKept (Configured c.self.inside.granularity) c.self.inside.journal (standing g.D.Disk c.args.disk.now) l in
     subst P (sym c.in_ok-prepare.ensures.entries) (kept tells)
 
 pub add-requires-clause-sound : goal.add-requires-clause-sound
@@ -52,7 +52,7 @@ pub returns-in_err-prepare-clause-commits : goal.returns-in_err-prepare-clause-c
 returns-in_err-prepare-clause-commits g c =
     let kept = rw (← c.self.view_is) at c.requires.kept in
     let p = err_from_is_err_and c.from_residual.result c.from_residual.ensures.1 in
-    let Kept : List Entry → Type 0 = λ l. journal.IsKept (Configured c.self.inside.granularity) c.self.inside.journal (g.D.Disk.files c.args.disk.now) (g.D.Disk.opened c.args.disk.now) (g.D.Disk.past c.args.disk.now) l in
+    let Kept : List Entry → Type 0 = λ l. journal.IsKept (Configured c.self.inside.granularity) c.self.inside.journal (standing g.D.Disk c.args.disk.now) l in
     let at = standing g.D.Disk c.args.disk.now in
     rw (← c.self.view_is) (λ tells. commits_folds c.self.inside.granularity c.self.inside.journal _ _ _ c.from_residual.result at at
     (nothing_configured c.self.inside.granularity c.self.inside.journal _ _ _ c.from_residual.result at (kept tells) (subst Kept (sym c.prepare.ensures.entries) (kept tells)) (λ fault. cc (p.1, p.2, fault))))

@@ -1,6 +1,6 @@
 use Rattle.std.proofs.Common.{◌≡◌, true, false, length, Ok, sym, ◌∙◌, ap, arith}
 use Rattle.std.proofs.lemmas.Result.{err_from_is_err_and}
-use Rattle.gate_journal.specs.Commits.{standing}
+use Rattle.gate_journal.specs.Standing.{standing}
 use Rattle.store_manifest.specs.Batches.{whole}
 use Rattle.store_manifest.proofs.Committing.{whole_commits, nothing_configured}
 use Rattle.store_manifest.proofs.WholeBatch.{whole_length, long_so, so_long}

@@ -3,6 +3,7 @@ use Rattle.std.proofs.lemmas.List.Elements.{All-contains}
 use Rattle.std.proofs.lemmas.Result.{err_from_is_err_and}
 use Rattle.disk_model.specs.Files.{HasFile, Name}
 use Rattle.disk_model.specs.declared.disk.DiskErr.{DiskErr}
+use Rattle.gate_journal.specs.Standing.{standing}
 use Rattle.pb_lines.specs.File.{IsFile}
 use Rattle.pv_catalog.specs.declared.row.Row.{Row}
 use Rattle.store_manifest.specs.declared.entry.Entry.{Entry}
@@ -10,7 +11,7 @@ use Rattle.durable_write.specs.Ends.{IsFailed, end_of_disk}
 use Rattle.durable_write.specs.Held.{IsFiled, file_of}
 use Rattle.tier_store.specs.Copying.{OnlyLooks}
 use Rattle.tier_store.specs.Pinned.{beside, seen_all}
-use Rattle.tier_store.specs.Seen.{seen_on}
+use Rattle.tier_store.specs.Seen.{seen_by}
 use Rattle.tier_store.specs.Stores.{list_at}
 use Rattle.tier_store.proofs.OnePlace.{only_reads}
 use Rattle.tier_store.proofs.CopySteps.{looks_ends, looks_err, looks_none}
@@ -45,17 +46,17 @@ returns-clause-found g c tells held stands was =
     (l.place, l.is, l.file, l.listed, l.entry, c.in_ok-later.ensures.next tells l.file.head filed.info l.file.samples (record { bytes = there.bytes; file = there.file; holds = file }) (ap (λ (x : Entry). x.head_len) (sym l.entry) ∙ filed.head_len))
 
 -- the file was read alone
-looked : (g : _) (c : After-find_next g) → OnlyLooks g.D.Disk.tells (seen_all g.D.Disk c.args.self.now) (beside (seen_on g.D.Disk.files g.D.Disk.opened g.D.Disk.past g.D.Disk.faults c.args.self.now.catalogue c.args.self.now.manifests.items c.find_next.new.disk) c.args.self.now.limbo.items) (end_of_disk c.find_next.result)
+looked : (g : _) (c : After-find_next g) → OnlyLooks g.D.Disk.tells (seen_all g.D.Disk c.args.self.now) (beside (seen_by g.D.Disk c.args.self.now.catalogue c.args.self.now.manifests.items c.find_next.new.disk) c.args.self.now.limbo.items) (end_of_disk c.find_next.result)
 looked g c =
     let disk = g.D.Disk in
     let self = c.args.self.now in
     let says = c.find_next.ensures in
     record {
-      kept = has_read disk.files disk.opened disk.past disk.faults disk.tells self.catalogue self.manifests.items self.disk c.find_next.new.disk says.reads;
+      kept = has_read (standing disk) disk.faults disk.tells self.catalogue self.manifests.items self.disk c.find_next.new.disk says.reads;
       catalogue = refl;
       manifests = refl;
       limbo = refl;
-      shown = read_shown disk.files disk.opened disk.past disk.faults disk.tells self.catalogue self.manifests.items self.limbo.items self.disk c.find_next.new.disk (λ tells. (says.reads tells).same);
+      shown = read_shown (standing disk) disk.faults disk.tells self.catalogue self.manifests.items self.limbo.items self.disk c.find_next.new.disk (λ tells. (says.reads tells).same);
       leaves = read_leaves disk.tells _ _ refl (λ tells. (says.reads tells).same) (λ tells. (says.reads tells).same_opened) (λ tells. (says.reads tells).any_moment);
       opened = λ tells. (says.reads tells).same_opened;
       reads = only_reads disk.tells _ _ c.find_next.result (λ tells. (says.reads tells).same) (λ tells. (says.reads tells).any_moment) says.faults says.cause;

@@ -3,6 +3,7 @@ use Rattle.std.proofs.Common.{◌≡◌, Err, Result, ℕ, ◌<◌, List, length
 use Rattle.std.proofs.lemmas.Result.{err_from_is_err_and}
 use Rattle.disk_model.specs.Files.{Name}
 use Rattle.disk_model.specs.declared.disk.DiskErr.{DiskErr}
+use Rattle.gate_journal.specs.Standing.{standing}
 use Rattle.partition_names.specs.Part.{IsPart}
 use Rattle.store_manifest.specs.Manifest.{ManifestState}
 use Rattle.durable_write.specs.declared.piece.Piece.{Piece}
@@ -12,7 +13,7 @@ use Rattle.durable_write.specs.Held.{Held}
 use Rattle.durable_write.proofs.Places.{parts_listed}
 use Rattle.tier_store.specs.Revival.{AreUnlistedIn, flushing_over}
 use Rattle.tier_store.specs.Stores.{Stores, tier}
-use Rattle.tier_store.specs.Seen.{seen, seen_on}
+use Rattle.tier_store.specs.Seen.{seen, seen_by}
 use Rattle.tier_store.specs.Change.{Changes, IsKnown}
 use Rattle.tier_store.proofs.OnePlace.{changes_given, nothing_changes, planned, on_store}
 use Rattle.tier_store.proofs.Frames.{flush_frame, frame_same}
@@ -28,7 +29,7 @@ use Rattle.tier_store.proofs.store.TierStore.flush_lent.Goals as goal
 pub returns-in_err-limbo-clause-changes : goal.returns-in_err-limbo-clause-changes
 returns-in_err-limbo-clause-changes g c files =
     let self = c.args.self.now in
-    let s = seen_on g.D.Disk.files g.D.Disk.opened g.D.Disk.past g.D.Disk.faults self.catalogue self.manifests.items self.disk in
+    let s = seen_by g.D.Disk self.catalogue self.manifests.items self.disk in
     let call = flushing_over self.limbo.items files c.args.batch.now in
     let p = err_from_is_err_and c.from_residual.result c.from_residual.ensures.1 in
     let is = ap (λ (r : Result ℕ DiskErr). end_of_disk r) (p.1 ∙ ap (λ (x : DiskErr). Err x) p.2) in
@@ -37,7 +38,7 @@ returns-in_err-limbo-clause-changes g c files =
 pub returns-in_err-plan-clause-changes : goal.returns-in_err-plan-clause-changes
 returns-in_err-plan-clause-changes g c files =
     let self = c.args.self.now in
-    let s = seen_on g.D.Disk.files g.D.Disk.opened g.D.Disk.past g.D.Disk.faults self.catalogue self.manifests.items self.disk in
+    let s = seen_by g.D.Disk self.catalogue self.manifests.items self.disk in
     let call = flushing_over self.limbo.items files c.args.batch.now in
     let p = err_from_is_err_and c.from_residual-in_err-plan.result c.from_residual-in_err-plan.ensures.1 in
     let is = ap (λ (r : Result ℕ DiskErr). end_of_disk r) (p.1 ∙ ap (λ (x : DiskErr). Err x) p.2) in
@@ -58,7 +59,7 @@ plan_flush-requires-clause-limbo g c =
     let ms = self.manifests.items in
     let m = c.index.result.now in
     let here = manifest_here ms 0 m c.index.ensures (first_of_three ms was.2.known.three) in
-    limbo_parts g.D.Disk.tells (seen_on g.D.Disk.files g.D.Disk.opened g.D.Disk.past g.D.Disk.faults self.catalogue self.manifests.items self.disk) self.limbo.items c.deref-3.result.now m here c.requires.stands (listed_as ms c.deref.result.now self.limbo.items c.deref-2.result.now c.in_ok-limbo.limbo.items c.deref-3.result.now c.deref.ensures.value c.deref-2.ensures.value c.deref-3.ensures.value c.in_ok-limbo.ensures (lists_in_order self.catalogue ms was.0 was.2.known)) was.1 was.0 was.2 was.3
+    limbo_parts g.D.Disk.tells (seen_by g.D.Disk self.catalogue self.manifests.items self.disk) self.limbo.items c.deref-3.result.now m here c.requires.stands (listed_as ms c.deref.result.now self.limbo.items c.deref-2.result.now c.in_ok-limbo.limbo.items c.deref-3.result.now c.deref.ensures.value c.deref-2.ensures.value c.deref-3.ensures.value c.in_ok-limbo.ensures (lists_in_order self.catalogue ms was.0 was.2.known)) was.1 was.0 was.2 was.3
 
 -- WHAT IT STARTS FROM
 
@@ -81,18 +82,18 @@ revives g c =
     let self = c.args.self.now in
     let was = c.requires.has in
     let m = c.index_mut.result.now in
-    to g.D.Disk.files g.D.Disk.opened g.D.Disk.past g.D.Disk.faults g.D.Disk.tells self.catalogue self.manifests.items m m (first g c) self.disk self.disk _ c.rows-rows.ensures.value c.args.batch.now _ _ c.deref-4.ensures.value _ self.limbo.items c.requires.stands c.deref-3.result.now (entries_listed g c) was.1 (plan g c) was.0 was.3 was.2
+    to (standing g.D.Disk) g.D.Disk.faults g.D.Disk.tells self.catalogue self.manifests.items m m (first g c) self.disk self.disk _ c.rows-rows.ensures.value c.args.batch.now _ _ c.deref-4.ensures.value _ self.limbo.items c.requires.stands c.deref-3.result.now (entries_listed g c) was.1 (plan g c) was.0 was.3 was.2
 
 abbrev both : (g : _) → After-deref-4 g → Held
 both g c = with_files (tier 0 c.requires.has.0) (revives g c).by.back
 
-ahead : (g : _) (c : After-deref-4 g) → IsTrue g.D.Disk.tells → HasCopied c.args.self.now.catalogue.journal c.index_mut.result.now (1, c.rows-rows.result.now) (g.D.Disk.files c.args.self.now.disk) (g.D.Disk.opened c.args.self.now.disk) (g.D.Disk.past c.args.self.now.disk) (tier 0 c.requires.has.0) (both g c)
+ahead : (g : _) (c : After-deref-4 g) → IsTrue g.D.Disk.tells → HasCopied c.args.self.now.catalogue.journal c.index_mut.result.now (1, c.rows-rows.result.now) (standing g.D.Disk c.args.self.now.disk) (tier 0 c.requires.has.0) (both g c)
 unfolding revives
 ahead g c tells =
     let self = c.args.self.now in
     let was = c.requires.has in
     let m = c.index_mut.result.now in
-    is_ahead g.D.Disk.files g.D.Disk.opened g.D.Disk.past g.D.Disk.faults g.D.Disk.tells self.catalogue self.manifests.items m m (first g c) self.disk self.disk _ c.rows-rows.ensures.value c.args.batch.now _ _ c.deref-4.ensures.value _ self.limbo.items c.requires.stands c.deref-3.result.now (entries_listed g c) was.1 (plan g c) was.0 was.3 was.2 tells
+    is_ahead (standing g.D.Disk) g.D.Disk.faults g.D.Disk.tells self.catalogue self.manifests.items m m (first g c) self.disk self.disk _ c.rows-rows.ensures.value c.args.batch.now _ _ c.deref-4.ensures.value _ self.limbo.items c.requires.stands c.deref-3.result.now (entries_listed g c) was.1 (plan g c) was.0 was.3 was.2 tells
 
 pub flush_pieces-requires-clause-rows : goal.flush_pieces-requires-clause-rows
 flush_pieces-requires-clause-rows g c =
@@ -129,8 +130,8 @@ returns-in_err-flush_pieces-clause-changes g c files =
     let says = c.flush_pieces.ensures in
     let failed = c.in_err-flush_pieces in
     let p = err_from_is_err_and c.from_residual-in_err-flush_pieces.result c.from_residual-in_err-flush_pieces.ensures.1 in
-    over_cut g.D.Disk.files g.D.Disk.opened g.D.Disk.past g.D.Disk.faults g.D.Disk.tells self.catalogue self.manifests.items m c.flush_pieces.new.manifest (first g at) self.disk c.flush_pieces.new.disk _ c.rows-rows.ensures.value c.args.batch.now _ _ c.deref-4.ensures.value _ self.limbo.items c.requires.stands c.deref-3.result.now (entries_listed g at) files (plan g at)
-    says.state.0 says.any_moment (λ tells. on_store g.D.Disk.tells _ was.0 0 m (first g at) was.2 tells _ _ _ (says.frame tells) (says.elsewhere tells) (says.no_more tells)) says.faults
+    over_cut (standing g.D.Disk) g.D.Disk.faults g.D.Disk.tells self.catalogue self.manifests.items m c.flush_pieces.new.manifest (first g at) self.disk c.flush_pieces.new.disk _ c.rows-rows.ensures.value c.args.batch.now _ _ c.deref-4.ensures.value _ self.limbo.items c.requires.stands c.deref-3.result.now (entries_listed g at) files (plan g at)
+    says.state.0 says.any_moment (λ tells. on_store g.D.Disk.tells _ was.0 0 m (first g at) was.2 tells _ (says.frame tells) (says.elsewhere tells) (says.no_more tells)) says.faults
     failed.ensures.unchanged failed.ensures.next failed.ensures.unmade failed.ensures.in_doubt failed.field-0.0 _ (ap (λ (r : Result ℕ DiskErr). end_of_disk r) (p.1 ∙ ap (λ (x : DiskErr). Err x) p.2))
     (λ is. says.memory (failed.was ∙ ap (λ (x : DiskErr). Err x) is)) (λ is. says.cause (failed.was ∙ ap (λ (x : DiskErr). Err x) is))
 
@@ -141,8 +142,8 @@ returns-clause-changes g c files =
     let was = c.requires.has in
     let m = c.index_mut.result.now in
     let says = c.flush_pieces.ensures in
-    over_done g.D.Disk.files g.D.Disk.opened g.D.Disk.past g.D.Disk.faults g.D.Disk.tells self.catalogue self.manifests.items m c.flush_pieces.new.manifest (first g at) self.disk c.flush_pieces.new.disk _ c.rows-rows.ensures.value c.args.batch.now _ _ c.deref-4.ensures.value _ self.limbo.items c.requires.stands c.deref-3.result.now (entries_listed g at) files (plan g at)
-    says.state.0 says.any_moment (λ tells. on_store g.D.Disk.tells _ was.0 0 m (first g at) was.2 tells _ _ _ (says.frame tells) (says.elsewhere tells) (says.no_more tells)) says.faults
+    over_done (standing g.D.Disk) g.D.Disk.faults g.D.Disk.tells self.catalogue self.manifests.items m c.flush_pieces.new.manifest (first g at) self.disk c.flush_pieces.new.disk _ c.rows-rows.ensures.value c.args.batch.now _ _ c.deref-4.ensures.value _ self.limbo.items c.requires.stands c.deref-3.result.now (entries_listed g at) files (plan g at)
+    says.state.0 says.any_moment (λ tells. on_store g.D.Disk.tells _ was.0 0 m (first g at) was.2 tells _ (says.frame tells) (says.elsewhere tells) (says.no_more tells)) says.faults
     c.in_ok-flush_pieces.ensures.entries c.in_ok-flush_pieces.ensures.sound c.in_ok-flush_pieces.ensures.made
 
 pub returns-in_err-limbo-clause-frame : goal.returns-in_err-limbo-clause-frame

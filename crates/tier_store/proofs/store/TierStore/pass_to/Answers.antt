@@ -1,4 +1,5 @@
 use Rattle.std.proofs.Common.{refl, sym, ◌∙◌, ap, arith}
+use Rattle.gate_journal.specs.Standing.{standing}
 use Rattle.etl_mover.specs.Move.{MoveState}
 use Rattle.store_manifest.specs.declared.entry.Entry.{Entry}
 use Rattle.tier_store.specs.Pinned.{beside}
@@ -35,7 +36,7 @@ loop-moving-preserved g c =
     let disk = g.D.Disk in
     let self = c.args.self.now in
     let runs = c.requires.runs in
-    let all = beside (seen_on disk.files disk.opened disk.past disk.faults self.catalogue self.manifests.items self.disk) self.limbo.items in
+    let all = beside (seen_on (standing disk) disk.faults self.catalogue self.manifests.items self.disk) self.limbo.items in
     let move = c.loop-moving.moving in
     let inv = c.loop-moving.invariant in
     let part = next_part disk.tells all c.args.place move runs.0 runs.1 runs.2 (inv.further runs.0 runs.1 runs.2 runs.3) in

@@ -2,12 +2,13 @@ use Rattle.std.proofs.Common.{◌≡◌, ◌≤◌, max, Some, ◌∙◌, ap, su
 use Rattle.std.specs.Prelude.{IsTrue, slice_get}
 use Rattle.pins.specs.declared.piece.PinnedFile.{PinnedFile}
 use Rattle.std.specs.FinMap.{get}
+use Rattle.gate_journal.specs.Standing.{standing}
 use Rattle.pins.specs.Pieces.{asked}
 use Rattle.tier_store.specs.Change.{IsOpen}
 use Rattle.tier_store.specs.Limbo.{LimboStands}
 use Rattle.tier_store.specs.Moving.{KeepsBeside}
 use Rattle.tier_store.specs.Revival.{KeepsWhole}
-use Rattle.tier_store.specs.Seen.{seen, seen_on}
+use Rattle.tier_store.specs.Seen.{seen, seen_by}
 use Rattle.tier_store.specs.Stores.{Stores}
 use Rattle.tier_store.specs.Opening.{IsReaderOf}
 use Rattle.tier_store.specs.Pinned.{beside, IsThereTo, seen_all}
@@ -25,19 +26,19 @@ there g c = shown_held g.D.Disk.tells _ c.in-Some.piece.now c.in_ok-name.name c.
 abbrev Most : (g : _) → After-open_file g → Type 0
 Most g c = IsTrue g.D.Disk.tells → g.D.Disk.opened c.open_file.new.self c.in_ok-name.name ≤ max (g.D.Disk.opened c.args.self.now.disk c.in_ok-name.name) c.in-Some.piece.now.len
 
-runs_on : (g : _) (c : After-open_file g) → Most g c → KeepsBeside g.D.Disk.tells (seen_all g.D.Disk c.args.self.now) (beside (seen_on g.D.Disk.files g.D.Disk.opened g.D.Disk.past g.D.Disk.faults c.args.self.now.catalogue c.args.self.now.manifests.items c.open_file.new.self) c.args.self.now.limbo.items)
-runs_on g c most = let self = c.args.self.now in opened_beside g.D.Disk.files g.D.Disk.opened g.D.Disk.past g.D.Disk.faults g.D.Disk.tells self.catalogue self.manifests.items self.limbo.items self.disk c.open_file.new.self c.in_ok-name.name c.in-Some.piece.now.len (there g c) c.open_file.ensures.crash c.open_file.ensures.same most c.open_file.ensures.others
+runs_on : (g : _) (c : After-open_file g) → Most g c → KeepsBeside g.D.Disk.tells (seen_all g.D.Disk c.args.self.now) (beside (seen_by g.D.Disk c.args.self.now.catalogue c.args.self.now.manifests.items c.open_file.new.self) c.args.self.now.limbo.items)
+runs_on g c most = let self = c.args.self.now in opened_beside (standing g.D.Disk) g.D.Disk.faults g.D.Disk.tells self.catalogue self.manifests.items self.limbo.items self.disk c.open_file.new.self c.in_ok-name.name c.in-Some.piece.now.len (there g c) c.open_file.ensures.crash c.open_file.ensures.same most c.open_file.ensures.others
 
-stays_open : (g : _) (c : After-open_file g) → Most g c → (before after : Stores) → IsOpen g.D.Disk.tells (seen g.D.Disk c.args.self.now) before after → IsOpen g.D.Disk.tells (seen_on g.D.Disk.files g.D.Disk.opened g.D.Disk.past g.D.Disk.faults c.args.self.now.catalogue c.args.self.now.manifests.items c.open_file.new.self) before after
+stays_open : (g : _) (c : After-open_file g) → Most g c → (before after : Stores) → IsOpen g.D.Disk.tells (seen g.D.Disk c.args.self.now) before after → IsOpen g.D.Disk.tells (seen_by g.D.Disk c.args.self.now.catalogue c.args.self.now.manifests.items c.open_file.new.self) before after
 stays_open g c most before after was =
     let self = c.args.self.now in
-    piece_opened g.D.Disk.files g.D.Disk.opened g.D.Disk.past g.D.Disk.faults g.D.Disk.tells self.catalogue self.manifests.items self.disk c.open_file.new.self c.in_ok-name.name c.in-Some.piece.now.len (numbered _ c.in_ok-name.name c.in-Some.piece.now.len (there g c)) c.open_file.ensures.crash c.open_file.ensures.same most c.open_file.ensures.others self.limbo.items before after (there g c) was
+    piece_opened (standing g.D.Disk) g.D.Disk.faults g.D.Disk.tells self.catalogue self.manifests.items self.disk c.open_file.new.self c.in_ok-name.name c.in-Some.piece.now.len (numbered _ c.in_ok-name.name c.in-Some.piece.now.len (there g c)) c.open_file.ensures.crash c.open_file.ensures.same most c.open_file.ensures.others self.limbo.items before after (there g c) was
 
-stays_whole : (g : _) (c : After-open_file g) → Most g c → LimboStands (seen g.D.Disk c.args.self.now) c.args.self.now.limbo.items → KeepsWhole g.D.Disk.tells (seen_all g.D.Disk c.args.self.now) (beside (seen_on g.D.Disk.files g.D.Disk.opened g.D.Disk.past g.D.Disk.faults c.args.self.now.catalogue c.args.self.now.manifests.items c.open_file.new.self) c.args.self.now.limbo.items)
+stays_whole : (g : _) (c : After-open_file g) → Most g c → LimboStands (seen g.D.Disk c.args.self.now) c.args.self.now.limbo.items → KeepsWhole g.D.Disk.tells (seen_all g.D.Disk c.args.self.now) (beside (seen_by g.D.Disk c.args.self.now.catalogue c.args.self.now.manifests.items c.open_file.new.self) c.args.self.now.limbo.items)
 stays_whole g c most stand i stands files low whole =
     let self = c.args.self.now in
     let was = c.requires.begun in
-    opened_whole g.D.Disk.files g.D.Disk.opened g.D.Disk.past g.D.Disk.faults g.D.Disk.tells self.catalogue self.manifests.items self.limbo.items self.disk c.open_file.new.self c.in_ok-name.name c.in-Some.piece.now.len (there g c) c.open_file.ensures.crash c.open_file.ensures.same most c.open_file.ensures.others was.0 was.1 was.2 stand i low stands files whole
+    opened_whole (standing g.D.Disk) g.D.Disk.faults g.D.Disk.tells self.catalogue self.manifests.items self.limbo.items self.disk c.open_file.new.self c.in_ok-name.name c.in-Some.piece.now.len (there g c) c.open_file.ensures.crash c.open_file.ensures.same most c.open_file.ensures.others was.0 was.1 was.2 stand i low stands files whole
 
 pub open_file-requires : goal.open_file-requires
 open_file-requires g c told =
@@ -71,8 +72,8 @@ returns-clause-whole g c = stays_whole g (goal.at.returns-clause-whole g c).Afte
 pub returns-clause-piece : goal.returns-clause-piece
 returns-clause-piece g c p piece granted there =
     let same = one_piece (asked c.args.who (get c.args.self.now.pinned c.args.pin)) _ p c.args.i c.in-Some.piece.now piece c.in-Ok.ensures.found granted (found_here g (goal.at.returns-clause-piece g c).After-open_file) there in
-    let reader = reader_of g.D.Disk.tells g.D.Reader.ReadAt.tells g.D.Reader.ReadAt.bytes g.D.Reader.ReadAt.faults (beside (seen_on g.D.Disk.files g.D.Disk.opened g.D.Disk.past g.D.Disk.faults c.args.self.now.catalogue c.args.self.now.manifests.items c.args.self.now.disk) c.args.self.now.limbo.items) c.in-Some.piece.now c.in_ok-reader.reader c.in_ok-name.name c.in_ok-name.ensures c.in_ok-reader.ensures.fresh c.in_ok-reader.ensures.reader in (
-      subst (λ (x : PinnedFile). IsReaderOf g.D.Disk.tells g.D.Reader.ReadAt.tells g.D.Reader.ReadAt.bytes g.D.Reader.ReadAt.faults (beside (seen_on g.D.Disk.files g.D.Disk.opened g.D.Disk.past g.D.Disk.faults c.args.self.now.catalogue c.args.self.now.manifests.items c.args.self.now.disk) c.args.self.now.limbo.items) x c.in_ok-reader.reader) same reader,
+    let reader = reader_of g.D.Disk.tells g.D.Reader.ReadAt.tells g.D.Reader.ReadAt.bytes g.D.Reader.ReadAt.faults (beside (seen_by g.D.Disk c.args.self.now.catalogue c.args.self.now.manifests.items c.args.self.now.disk) c.args.self.now.limbo.items) c.in-Some.piece.now c.in_ok-reader.reader c.in_ok-name.name c.in_ok-name.ensures c.in_ok-reader.ensures.fresh c.in_ok-reader.ensures.reader in (
+      subst (λ (x : PinnedFile). IsReaderOf g.D.Disk.tells g.D.Reader.ReadAt.tells g.D.Reader.ReadAt.bytes g.D.Reader.ReadAt.faults (beside (seen_by g.D.Disk c.args.self.now.catalogue c.args.self.now.manifests.items c.args.self.now.disk) c.args.self.now.limbo.items) x c.in_ok-reader.reader) same reader,
       c.in_ok-name.ensures ∙ ap (λ (x : PinnedFile). x.name) same,
       ap (λ (x : PinnedFile). x.head_len) same,
       ap (λ (x : PinnedFile). x.len) same,

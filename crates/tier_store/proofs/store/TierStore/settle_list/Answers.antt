@@ -5,6 +5,7 @@ use Rattle.disk_model.specs.declared.disk.DiskErr.{DiskErr}
 use Rattle.disk_model.proofs.Passing.{passes_weaker}
 use Rattle.gate_journal.specs.Generations.{AtOwn}
 use Rattle.gate_journal.specs.Kept.{SaysEither}
+use Rattle.gate_journal.specs.Standing.{standing}
 use Rattle.gate_journal.proofs.Owning.{own_store}
 use Rattle.store_manifest.specs.Batches.{Configured}
 use Rattle.durable_write.proofs.Staying.{alone}
@@ -12,7 +13,7 @@ use Rattle.durable_write.proofs.Commits.{made_further, unsure_further}
 use Rattle.disk_model.specs.Files.{Files, Rose}
 use Rattle.durable_write.specs.Ends.{End, IsFailed}
 use Rattle.tier_store.specs.Change.{OnlySettles, SameFiles}
-use Rattle.tier_store.specs.Seen.{seen, seen_on}
+use Rattle.tier_store.specs.Seen.{seen, seen_by}
 use Rattle.tier_store.proofs.OnePlace.{failed_so}
 use Rattle.tier_store.proofs.Places.{same_granularities, manifest_here}
 use Rattle.tier_store.proofs.ListDoubts.{list_in_doubt, list_settled, list_open, list_moment, zero_named}
@@ -42,10 +43,10 @@ review-requires-clause-doubt g c tells =
     list_in_doubt g.D.Disk.tells _ was.0 was.1 c.args.i c.index_mut.result.now (here g at) was.2 (unsound g at) tells
 
 pub returns-clause-opened : goal.returns-clause-opened
-returns-clause-opened g c tells = made_further c.review.new.self c.index_mut.result.now.journal.name _ _ _ _ c.review.ensures.state.1 (c.review.ensures.opened tells) (c.in_ok-review.ensures.kept tells)
+returns-clause-opened g c tells = made_further c.review.new.self c.index_mut.result.now.journal.name _ _ c.review.ensures.state.1 (c.review.ensures.opened tells) (c.in_ok-review.ensures.kept tells)
 
 pub returns-in_err-review-clause-opened : goal.returns-in_err-review-clause-opened
-returns-in_err-review-clause-opened g c tells = unsure_further c.review.new.self c.index_mut.result.now.journal.name _ _ _ _ c.review.ensures.state.1 (c.review.ensures.opened tells) (c.in_err-review.ensures.doubtful tells)
+returns-in_err-review-clause-opened g c tells = unsure_further c.review.new.self c.index_mut.result.now.journal.name _ _ c.review.ensures.state.1 (c.review.ensures.opened tells) (c.in_err-review.ensures.doubtful tells)
 
 pub returns-clause-settled : goal.returns-clause-settled
 returns-clause-settled g c before after was =
@@ -53,7 +54,7 @@ returns-clause-settled g c before after was =
     let at = (goal.at.returns-clause-settled g c).After-index_mut in
     let says = c.review.ensures in
     let settled = c.in_ok-review.ensures in
-    list_settled g.D.Disk.files g.D.Disk.opened g.D.Disk.past g.D.Disk.faults g.D.Disk.tells self.disk c.review.new.disk self.catalogue self.manifests.items before after c.args.i c.index_mut.result.now c.review.new.self (here g at) says.state.0 says.state.1 (λ tells. alone c.index_mut.result.now.journal.name (Says g at) _ _ _ _ _ _ (says.any_moment tells) (says.elsewhere tells) (returns-clause-opened g c tells))
+    list_settled (standing g.D.Disk) g.D.Disk.faults g.D.Disk.tells self.disk c.review.new.disk self.catalogue self.manifests.items before after c.args.i c.index_mut.result.now c.review.new.self (here g at) says.state.0 says.state.1 (λ tells. alone c.index_mut.result.now.journal.name (Says g at) _ _ (says.any_moment tells) (says.elsewhere tells) (returns-clause-opened g c tells))
     (unsound g at) settled.sound was settled.entries settled.kept
 
 pub returns-in_err-review-clause-still : goal.returns-in_err-review-clause-still
@@ -63,7 +64,7 @@ returns-in_err-review-clause-still g c before after was =
     let says = c.review.ensures in
     let still = c.in_err-review.ensures.still in
     let p = err_from_is_err_and c.from_residual.result c.from_residual.ensures.1 in
-    rw p.1 (list_open g.D.Disk.files g.D.Disk.opened g.D.Disk.past g.D.Disk.faults g.D.Disk.tells self.disk c.review.new.disk self.catalogue self.manifests.items before after c.args.i c.index_mut.result.now c.review.new.self (here g at) says.state.0 says.state.1 (λ tells. alone c.index_mut.result.now.journal.name (Says g at) _ _ _ _ _ _ (says.any_moment tells) (says.elsewhere tells) (returns-in_err-review-clause-opened g c tells))
+    rw p.1 (list_open (standing g.D.Disk) g.D.Disk.faults g.D.Disk.tells self.disk c.review.new.disk self.catalogue self.manifests.items before after c.args.i c.index_mut.result.now c.review.new.self (here g at) says.state.0 says.state.1 (λ tells. alone c.index_mut.result.now.journal.name (Says g at) _ _ (says.any_moment tells) (says.elsewhere tells) (returns-in_err-review-clause-opened g c tells))
     (unsound g at) still.0 was still.1 still.2 c.in_err-review.ensures.doubtful)
 
 pub returns-clause-granularity : goal.returns-clause-granularity
@@ -73,7 +74,7 @@ pub returns-in_err-review-clause-granularity : goal.returns-in_err-review-clause
 returns-in_err-review-clause-granularity g c = same_granularities c.args.self.now.manifests.items c.args.i c.index_mut.result.now c.review.new.self (here g (goal.at.returns-in_err-review-clause-granularity g c).After-index_mut) c.review.ensures.state.0
 
 settles : (g : _) (c : After-review g) (end : End (Unit {0}) ⊥) → (IsFailed end → Rose (g.D.Disk.faults c.args.self.now.disk) (g.D.Disk.faults c.review.new.disk))
-    → OnlySettles g.D.Disk.tells (seen g.D.Disk c.args.self.now) (seen_on g.D.Disk.files g.D.Disk.opened g.D.Disk.past g.D.Disk.faults c.args.self.now.catalogue (slice_set c.args.self.now.manifests.items c.args.i c.review.new.self) c.review.new.disk) end
+    → OnlySettles g.D.Disk.tells (seen g.D.Disk c.args.self.now) (seen_by g.D.Disk c.args.self.now.catalogue (slice_set c.args.self.now.manifests.items c.args.i c.review.new.self) c.review.new.disk) end
 settles g c end cause =
     let m = c.index_mut.result.now in
     let journal = m.journal.name in
