@@ -1,7 +1,7 @@
-"""What `crates/http_cases` must write of each case: a model of requests, replies and feeds to compare with.
+"""What `crates/format_cases` must write of each case of HTTP: a model of requests, replies and feeds to compare with.
 
 It says in Python what docs/FORMATS.md says in words, over bytes and lists of samples, and takes nothing from the
-program. A case is a line, as the head of `crates/http_cases/src/main.rt` has them.
+program. A case is a line, as the head of `crates/format_cases/src/main.rt` has them.
 """
 
 import re

@@ -1,4 +1,4 @@
-"""Random cases of `crates/http_cases`: heads in pieces, targets and queries, bodies and heads of replies."""
+"""Random cases of `crates/format_cases`: heads in pieces, targets and queries, bodies and heads of replies."""
 
 from http_model import PATHS, PHRASES, text_of
 

@@ -1,4 +1,4 @@
-"""Scripts of commits and checkpoints of a journal over a disk in memory, as `crates/disk_cases` reads them, and what must come of each.
+"""Scripts of commits and checkpoints of a journal over a disk in memory, as `crates/format_cases` reads them, and what must come of each.
 
 Each script stands here with its number of calls, worked out by hand: the first load of a journal takes ten calls, a commit four and a
 checkpoint ten. What images hold where one of them fails, or all from it on, is told by a model: the disk of `disk_images.py`, and a

@@ -63,11 +63,17 @@ fn register(alloc: Global, words: &[&str]) -> Result<Act>
     Ok(Act::Register { name, about })
 }
 
-fn rename(alloc: Global, name: Blob, words: &[&str]) -> Result<Act>
+// The name of a variable, as it stands.
+fn name_of(alloc: Global, words: &[&str]) -> Result<Blob> {
+    Ok(Blob::from(word(words, 1).as_bytes().to_vec(alloc)?))
+}
+
+fn rename(alloc: Global, words: &[&str]) -> Result<Act>
     ensures { IfOk result MayAsk }
 {
     let newname = PvName::new(alloc, word(words, 2).as_bytes());
     let newname = newname.ok().context("no name")?;
+    let name = name_of(alloc, words)?;
     Ok(Act::Rename { name, newname })
 }
 
@@ -86,9 +92,10 @@ fn sample(alloc: Global, ty: PayloadType, year: i32, line: Vec<u8>) -> Result<Sa
     Ok(Sample { t, line })
 }
 
-fn offer(alloc: Global, name: Blob, words: &[&str]) -> Result<Act>
+fn offer(alloc: Global, words: &[&str]) -> Result<Act>
     ensures { IfOk result MayAsk }
 {
+    let name = name_of(alloc, words)?;
     let ty = PayloadType::from_name(word(words, 2).as_bytes()).context("no type")?;
     let year = word(words, 3).parse::<i32>().unwrap_or(0);
     let Sample { t, line } = sample(alloc, ty, year, bytes(alloc, word(words, 4))?)?;
@@ -112,15 +119,38 @@ pub(crate) fn query(words: &[&str]) -> Query {
 pub(crate) fn act_of(alloc: Global, words: &[&str]) -> Result<Act>
     ensures { IfOk result MayAsk }
 {
-    let (first, second) = (word(words, 1), word(words, 2));
-    let name = Blob::from(first.as_bytes().to_vec(alloc)?);
-    let (row, i, now) = (small(first), small(second), number(second));
+    match word(words, 0) {
+        "register" => register(alloc, words),
+        "offer" => offer(alloc, words),
+        "rename" => rename(alloc, words),
+        "pause" | "resume" | "pin" | "details" => act_on_name(alloc, words),
+        _ => plain_act(words),
+    }
+}
+
+// An act on a variable.
+fn act_on_name(alloc: Global, words: &[&str]) -> Result<Act>
+    ensures { IfOk result MayAsk }
+{
+    let name = name_of(alloc, words)?;
     Ok(match word(words, 0) {
-        "register" => return register(alloc, words),
-        "offer" => return offer(alloc, name, words),
         "pause" => Act::Pause { name },
         "resume" => Act::Resume { name },
-        "rename" => return rename(alloc, name, words),
+        "details" => Act::Details { name },
+        _ => Act::Pin {
+            name,
+            query: query(words),
+        },
+    })
+}
+
+// An act that has numbers alone.
+fn plain_act(words: &[&str]) -> Result<Act>
+    ensures { IfOk result MayAsk }
+{
+    let (first, second) = (word(words, 1), word(words, 2));
+    let (row, i, now) = (small(first), small(second), number(second));
+    Ok(match word(words, 0) {
         "tick" => Act::Tick { row, now },
         "flush" => Act::Flush {
             limit: number(first).max(1),
@@ -129,17 +159,12 @@ pub(crate) fn act_of(alloc: Global, words: &[&str]) -> Result<Act>
         "begin" | "move" => Act::MoveBegin { store: 2, now },
         "step" => Act::MoveStep { m: row },
         "sweep" => Act::Sweep,
-        "pin" => Act::Pin {
-            name,
-            query: query(words),
-        },
         "piece" => Act::OpenPiece { pin: row, i },
         "unpin" => Act::Unpin { pin: row },
         "names" => Act::Names {
             from: row,
             most: i.max(1),
         },
-        "details" => Act::Details { name },
         "doors" => Act::Doors,
         "done" => Act::DoorDone,
         _ => bail!("no act"),

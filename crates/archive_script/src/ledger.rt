@@ -30,10 +30,41 @@ struct RowTold {
 }
 
 impl RowTold {
-    fn accept(&mut self, line: Option<String>) -> Result<()> {
+    fn accept(&mut self, line: String) -> Result<()> {
         self.is_there = true;
-        if let Some(line) = line {
-            self.lines.push(line)?;
+        self.lines.push(line)?;
+        Ok(())
+    }
+
+    // What was held is accepted.
+    fn accept_held(&mut self) -> Result<()> {
+        match self.held.take() {
+            Some(line) => self.accept(line),
+            None => Ok(()),
+        }
+    }
+
+    // What an act on it was answered. Where the act found a doubt, it tells what the change has made; else a doubt may
+    // stand that it hasn't looked at.
+    fn change(
+        &mut self,
+        alloc: Global,
+        act: &str,
+        line: &str,
+        answer: &Answer<MemFile>,
+    ) -> Result<()> {
+        match answer {
+            Answer::RenameNotPaused {
+                state,
+                change: 1,
+                ..
+            } => self.state = Some(*state),
+            Answer::Done if act == "pause" => self.state = Some(State::Paused),
+            Answer::Done if act == "resume" => self.state = Some(State::Running),
+            Answer::Held => self.held = Some(String::from_str(alloc, line)?),
+            Answer::Kept => return self.accept(String::from_str(alloc, line)?),
+            Answer::TickKept { .. } => return self.accept_held(),
+            _ => {}
         }
         Ok(())
     }
@@ -150,49 +181,62 @@ impl Ledger {
     /// Takes note of what an act was answered.
     pub(crate) fn note(&mut self, words: &[&str], answer: &Answer<MemFile>) -> Result<()> {
         let (act, name, newname) = (word(words, 0), word(words, 1), word(words, 2));
-        let line = Some(String::from_str(self.alloc, word(words, 4))?);
-        match (act, answer) {
-            (_, Answer::Registered { row }) => {
+        match answer {
+            Answer::Registered { row } => {
                 let told = self.registered(name, true)?;
-                return self.push(told, *row as usize);
+                self.push(told, *row as usize)
             }
-            (_, Answer::Renamed { row }) => return self.renamed(name, newname, *row as usize),
-            ("register", Answer::NameTaken { .. }) => self.is_taken(name),
-            ("rename", Answer::NameTaken { .. }) => self.is_taken(newname),
-            (_, Answer::Flushed { samples, left, .. }) => self.flushed(*samples, *left),
-            ("rename", Answer::DiskFault) => return self.doubt_name(name, newname),
-            _ => {}
+            Answer::Renamed { row } => self.renamed(name, newname, *row as usize),
+            Answer::NameTaken { .. } => {
+                self.is_taken(if act == "rename" { newname } else { name });
+                Ok(())
+            }
+            Answer::Flushed { samples, left, .. } => {
+                self.flushed(*samples, *left);
+                Ok(())
+            }
+            Answer::DiskFault => self.doubt(act, name, newname),
+            _ => self.changed(act, name, word(words, 4), answer),
         }
-        let Some(row) = self.find(name) else {
-            if act == "register" && matches!(answer, Answer::DiskFault) {
-                let told = self.registered(name, false)?;
-                return self.push(told, usize::MAX);
+    }
+
+    // A fault was told of an act.
+    fn doubt(&mut self, act: &str, name: &str, newname: &str) -> Result<()> {
+        match act {
+            "register" => self.doubt_row(name),
+            "rename" => self.doubt_name(name, newname),
+            "pause" | "resume" => {
+                if let Some(row) = self.find(name) {
+                    row.state = None;
+                }
+                Ok(())
             }
+            _ => Ok(()),
+        }
+    }
+
+    // Whether a variable has a row is in doubt, unless one was told of.
+    fn doubt_row(&mut self, name: &str) -> Result<()> {
+        if self.find(name).is_some() {
             return Ok(());
-        };
-        match (act, answer) {
-            // Where the act found a doubt, it tells what the change has made; else a doubt may stand
-            // that it hasn't looked at.
-            (
-                "rename",
-                Answer::RenameNotPaused {
-                    state,
-                    change: 1,
-                    ..
-                },
-            ) => row.state = Some(*state),
-            ("pause" | "resume", Answer::DiskFault) => row.state = None,
-            ("pause", Answer::Done) => row.state = Some(State::Paused),
-            ("resume", Answer::Done) => row.state = Some(State::Running),
-            ("offer", Answer::Held) => row.held = line,
-            ("offer", Answer::Kept) => row.accept(line)?,
-            ("tick", Answer::TickKept { .. }) => {
-                let held = row.held.take();
-                row.accept(held)?;
-            }
-            _ => {}
         }
-        Ok(())
+        let told = self.registered(name, false)?;
+        self.push(told, usize::MAX)
+    }
+
+    // What was told of an act on a row, of which this is the sample's line.
+    fn changed(
+        &mut self,
+        act: &str,
+        name: &str,
+        line: &str,
+        answer: &Answer<MemFile>,
+    ) -> Result<()> {
+        let alloc = self.alloc;
+        match self.find(name) {
+            Some(row) => row.change(alloc, act, line, answer),
+            None => Ok(()),
+        }
     }
 
     /// Puts what is wrong with what an image holds: each row that was told is there, in its state; its samples are a

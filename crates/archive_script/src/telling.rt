@@ -2,7 +2,9 @@
 use act_model::{Answer, Details};
 use anyhow::{Context, Result, bail};
 use disk_model::{FileName, MemFile, ReadAt};
+use pv_name::PvName;
 use retrieval_query::Retrieved;
+use series_model::{Blobs, Samples};
 use std::alloc::Global;
 use std::fmt::{Display, Write as _};
 use std::str;
@@ -52,14 +54,6 @@ pub(crate) fn put_bytes(text: &mut Text, bytes: &[u8]) {
     }
 }
 
-// Puts a word, and numbers.
-fn put(text: &mut Text, word: &str, numbers: &[u64]) {
-    text.put(word);
-    for number in numbers {
-        text.put(format_args!(" {number}"));
-    }
-}
-
 /// Puts a file, and a place in it.
 pub(crate) fn put_damage(text: &mut Text, name: &FileName, at: u64) {
     let path = text_of(&name.path);
@@ -89,40 +83,96 @@ fn put_read(alloc: Global, text: &mut Text, mut reader: MemFile, len: u64) -> Re
     Ok(())
 }
 
-// What is answered of pins and rows; of a piece all is read.
-fn put_reading(alloc: Global, text: &mut Text, answer: Answer<MemFile>) -> Result<()> {
+fn put_pin(text: &mut Text, pin: u32, name: &PvName, pieces: u64, tail: &Samples) {
+    let name = text_of(name.bytes());
+    text.put(format_args!("pinned {pin} {name} pieces {pieces} tail"));
+    for sample in tail.items() {
+        text.put(' ');
+        put_bytes(text, sample.line.bytes());
+    }
+}
+
+fn put_names(text: &mut Text, names: &Blobs, more: bool) {
+    text.put(if more { "names and more" } else { "names" });
+    for name in names.items() {
+        text.put(format_args!(" {}", text_of(name.bytes())));
+    }
+}
+
+// The word of an answer that has no more.
+fn bare(answer: &Answer<MemFile>) -> Option<&'static str> {
+    match answer {
+        Answer::CatalogueFull => Some("catalogue full"),
+        Answer::NoSuchVariable => Some("no such variable"),
+        Answer::NotRunning => Some("not running"),
+        Answer::NotPaused => Some("not paused"),
+        Answer::Done => Some("done"),
+        Answer::Kept => Some("kept"),
+        Answer::Held => Some("held"),
+        Answer::NoRow => Some("no row"),
+        Answer::TickNone => Some("tick none"),
+        Answer::NoMove => Some("no move"),
+        Answer::Copying => Some("copying"),
+        Answer::Copied => Some("copied"),
+        Answer::Published => Some("published"),
+        Answer::NoPin => Some("no pin"),
+        Answer::Unpinned => Some("unpinned"),
+        Answer::DiskFault => Some("disk fault"),
+        Answer::Memory => Some("memory"),
+        _ => None,
+    }
+}
+
+// The word and the number of an answer that has one.
+fn numbered(answer: &Answer<MemFile>) -> Option<(&'static str, u64)> {
+    match answer {
+        Answer::Registered { row } => Some(("registered", u64::from(*row))),
+        Answer::NameTaken { row } => Some(("name taken", u64::from(*row))),
+        Answer::KeyTaken { row } => Some(("key taken", u64::from(*row))),
+        Answer::Renamed { row } => Some(("renamed", u64::from(*row))),
+        Answer::Busy { m } => Some(("busy", u64::from(*m))),
+        Answer::IntakeFull { held } => Some(("intake full", *held)),
+        Answer::NotDue { due } => Some(("not due", *due)),
+        Answer::TickKept { t } => Some(("tick kept", *t)),
+        Answer::Nothing { doors } => Some(("nothing", *doors)),
+        Answer::Retired { parts } => Some(("retired", *parts)),
+        Answer::Swept { files } => Some(("swept", *files)),
+        Answer::NotYours { owner } => Some(("not yours", *owner)),
+        Answer::NoPiece { pieces } => Some(("no piece", *pieces)),
+        Answer::DoorsLeft { doors } => Some(("doors", *doors)),
+        _ => None,
+    }
+}
+
+// What is answered of rows, files and samples.
+fn put_found(text: &mut Text, answer: &Answer<MemFile>) -> Result<()> {
     match answer {
         Answer::Pinned {
             pin,
             name,
-            about: _about,
             pieces,
             tail,
-        } => {
-            let name = text_of(name.bytes());
-            text.put(format_args!("pinned {pin} {name} pieces {pieces} tail"));
-            for sample in tail.items() {
-                text.put(' ');
-                put_bytes(text, sample.line.bytes());
-            }
-        }
-        Answer::Piece {
-            reader,
-            name,
-            head_len,
-            len,
-        } => {
-            text.put(format_args!("piece {}/{}", name.store, text_of(&name.path)));
-            text.put(format_args!(" head {head_len} length {len} read "));
-            return put_read(alloc, text, reader, len);
-        }
-        Answer::NamesAre { names, more } => {
-            text.put(if more { "names and more" } else { "names" });
-            for name in names.items() {
-                text.put(format_args!(" {}", text_of(name.bytes())));
-            }
-        }
-        Answer::Described(details) => put_details(text, &details),
+            ..
+        } => put_pin(text, *pin, name, *pieces, tail),
+        Answer::NamesAre { names, more } => put_names(text, names, *more),
+        Answer::Described(details) => put_details(text, details),
+        Answer::Damaged { name, at } => put_damage(text, name, *at),
+        Answer::Dropped(reason) => text.put(format_args!("dropped: {reason:?}")),
+        _ => bail!("no answer"),
+    }
+    Ok(())
+}
+
+// An answer that has several numbers, or what was found.
+fn put_numbers(text: &mut Text, answer: &Answer<MemFile>) -> Result<()> {
+    match answer {
+        Answer::Flushed {
+            samples,
+            left,
+            doors,
+        } => text.put(format_args!("flushed {samples} {left} {doors}")),
+        Answer::Begun { m, row, parts } => text.put(format_args!("begun {m} {row} {parts}")),
+        Answer::Again { len, copied } => text.put(format_args!("again {len} {copied}")),
         Answer::RenameNotPaused {
             state,
             change,
@@ -131,72 +181,45 @@ fn put_reading(alloc: Global, text: &mut Text, answer: Answer<MemFile>) -> Resul
         Answer::NotDurable { last, durable } => {
             text.put(format_args!("not durable {last} {durable:?}"));
         }
-        Answer::Damaged { name, at } => put_damage(text, &name, at),
-        Answer::Dropped(reason) => text.put(format_args!("dropped: {reason:?}")),
-        _other => bail!("no answer"),
+        _ => return put_found(text, answer),
     }
     Ok(())
 }
 
-// The word and the numbers of an answer, of which so many are told; no word where more is told of it.
-fn plain(answer: &Answer<MemFile>) -> (&'static str, usize, [u64; 3]) {
-    match answer {
-        Answer::Registered { row } => ("registered", 1, [u64::from(*row), 0, 0]),
-        Answer::NameTaken { row } => ("name taken", 1, [u64::from(*row), 0, 0]),
-        Answer::KeyTaken { row } => ("key taken", 1, [u64::from(*row), 0, 0]),
-        Answer::Renamed { row } => ("renamed", 1, [u64::from(*row), 0, 0]),
-        Answer::IntakeFull { held } => ("intake full", 1, [*held, 0, 0]),
-        Answer::NotDue { due } => ("not due", 1, [*due, 0, 0]),
-        Answer::TickKept { t } => ("tick kept", 1, [*t, 0, 0]),
-        Answer::Flushed {
-            samples,
-            left,
-            doors,
-        } => ("flushed", 3, [*samples, *left, *doors]),
-        Answer::Begun { m, row, parts } => ("begun", 3, [u64::from(*m), u64::from(*row), *parts]),
-        Answer::Busy { m } => ("busy", 1, [u64::from(*m), 0, 0]),
-        Answer::Nothing { doors } => ("nothing", 1, [*doors, 0, 0]),
-        Answer::Retired { parts } => ("retired", 1, [*parts, 0, 0]),
-        Answer::Again { len, copied } => ("again", 2, [*len, *copied, 0]),
-        Answer::Swept { files } => ("swept", 1, [*files, 0, 0]),
-        Answer::NotYours { owner } => ("not yours", 1, [*owner, 0, 0]),
-        Answer::NoPiece { pieces } => ("no piece", 1, [*pieces, 0, 0]),
-        Answer::DoorsLeft { doors } => ("doors", 1, [*doors, 0, 0]),
-        Answer::CatalogueFull => ("catalogue full", 0, [0; 3]),
-        Answer::NoSuchVariable => ("no such variable", 0, [0; 3]),
-        Answer::NotRunning => ("not running", 0, [0; 3]),
-        Answer::NotPaused => ("not paused", 0, [0; 3]),
-        Answer::Done => ("done", 0, [0; 3]),
-        Answer::Kept => ("kept", 0, [0; 3]),
-        Answer::Held => ("held", 0, [0; 3]),
-        Answer::NoRow => ("no row", 0, [0; 3]),
-        Answer::TickNone => ("tick none", 0, [0; 3]),
-        Answer::NoMove => ("no move", 0, [0; 3]),
-        Answer::Copying => ("copying", 0, [0; 3]),
-        Answer::Copied => ("copied", 0, [0; 3]),
-        Answer::Published => ("published", 0, [0; 3]),
-        Answer::NoPin => ("no pin", 0, [0; 3]),
-        Answer::Unpinned => ("unpinned", 0, [0; 3]),
-        Answer::DiskFault => ("disk fault", 0, [0; 3]),
-        Answer::Memory => ("memory", 0, [0; 3]),
-        _ => ("", 0, [0; 3]),
+// An answer that isn't a piece.
+fn put_told(text: &mut Text, answer: &Answer<MemFile>) -> Result<()> {
+    if let Some(word) = bare(answer) {
+        text.put(word);
+        return Ok(());
     }
+    let Some((word, number)) = numbered(answer) else {
+        return put_numbers(text, answer);
+    };
+    text.put(format_args!("{word} {number}"));
+    Ok(())
 }
 
-/// Puts what is told of an answer.
+/// Puts what is told of an answer; of a piece all is read.
 pub(crate) fn put_answer(alloc: Global, text: &mut Text, answer: Answer<MemFile>) -> Result<()> {
-    let (word, count, numbers) = plain(&answer);
-    if word.is_empty() {
-        return put_reading(alloc, text, answer);
+    match answer {
+        Answer::Piece {
+            reader,
+            name,
+            head_len,
+            len,
+        } => {
+            text.put(format_args!("piece {}/{}", name.store, text_of(&name.path)));
+            text.put(format_args!(" head {head_len} length {len} read "));
+            put_read(alloc, text, reader, len)
+        }
+        other => put_told(text, &other),
     }
-    put(text, word, numbers.get(..count).unwrap_or(&[]));
-    Ok(())
 }
 
 /// Puts how a retrieval ended, and the raw text that it wrote.
 pub(crate) fn put_got(text: &mut Text, end: &Retrieved<MemFile>, raw: &[u8]) -> Result<()> {
     match end {
-        Retrieved::Finished { count } => put(text, "got", &[*count]),
+        Retrieved::Finished { count } => text.put(format_args!("got {count}")),
         Retrieved::NoSuchVariable => {
             text.put("no such variable");
             return Ok(());

@@ -1,87 +1,97 @@
-//! Cases of the formats and of drills, one a line of standard input: its kind and its arguments. What comes of each is
-//! written as a line. `interop/format_cases` makes the cases and the lines that are wanted, which are compared with
-//! this program's.
+//! Cases of the formats and of drills, of a disk in memory, and of HTTP, one a line of standard input. What comes of each
+//! is written as a line. The scripts `format_cases`, `disk_cases` and `http_cases` of `interop/` make the cases and the
+//! lines that are wanted, which are compared with this program's.
+//!
+//! The cases of each script stand behind a line `cases of formats`, `cases of a disk` or `cases of HTTP`, which is written
+//! too. A case of a format is its kind and its arguments.
+//!
+//! | Case of a disk | What it does |
+//! |---|---|
+//! | `disk STOP CALL ..` | begins with an empty disk whose calls of these numbers fail, and all from STOP on (or `-`) |
+//! | `images` | tells the images of the choices 0 to 5 |
+//! | `readers` | tells what each opened file reads |
+//! | `sync_each FILE ..` | a call of many files, each named as `STORE/PATH` |
+//! | `CALL FILE ..` | any other call, of one file |
+//! | `stops STEP ..` | commits to a journal, where all calls from one on fail: then the power ends |
+//! | `fails STEP ..` | where one call alone fails: then it is found out whether its step was made |
+//!
+//! A step is `+TEXT`, which commits this text as a batch, or `=TEXT`, which puts it in place of all before. It is made
+//! anew with each call of the disk gone wrong in turn. At the failure, and at the end, each of six images of the disk
+//! has to hold the batches from before the step that failed, or from after it. How many calls were tried is told, and
+//! at which of them an image held something else, or how many held each.
+//!
+//! | Case of HTTP | What it does |
+//! |---|---|
+//! | `bytes TEXT` | what is read, or written as a body, is this from now on |
+//! | `more COUNT TEXT` | and behind it so often this |
+//! | `request PIECE READS` | reads a request, in pieces of so many bytes, where these reads fail |
+//! | `head STATUS JSON VERSION LENGTH` | writes the head of a reply |
+//! | `body VERSION PIECE MOST WRITES` | writes a body in pieces to a link that takes so many bytes; these writes fail |
+//! | `again VERSION PIECE MOST WRITES` | each call again until it ends well; then the end again, and `HTTP` behind it |
+//!
+//! In a TEXT `\r`, `\n` and `\xHH` stand for a byte. A number may be `-` for none. Of the lists READS and WRITES `-` is
+//! empty, `odd` has every other number, and else numbers stand between commas.
 #![tactic(auto)]
 
+mod bodies;
+mod calls;
 mod case;
 mod drills;
 mod edges;
+mod formats;
+mod heads;
+mod journal;
 mod lists;
 mod messages;
+mod peer;
+mod requests;
 mod streams;
+mod texts;
 mod times;
+mod words;
 
-use anyhow::{Context, Result};
-use case::Case;
-use std::alloc::{AllocError, Global};
-use std::time::Clock;
+use anyhow::Result;
+use calls::Script;
+
+// What cases are of.
+#[derive(Clone, Copy)]
+enum Part {
+    Formats,
+    Disk,
+    Http,
+}
+
+impl Part {
+    // The part that a line begins.
+    fn begun_by(line: &str) -> Option<Part> {
+        match line {
+            "cases of formats" => Some(Part::Formats),
+            "cases of a disk" => Some(Part::Disk),
+            "cases of HTTP" => Some(Part::Http),
+            _ => None,
+        }
+    }
+}
 
 fn main(rt: HostRuntime) -> Result<()> {
-    for line in rt.lines(rt.alloc()) {
+    let alloc = rt.alloc();
+    let mut part = Part::Formats;
+    let mut script = Script::new(alloc)?;
+    let mut input = Vec::new(alloc);
+    for line in rt.lines(alloc) {
         let line = line?;
-        let told = told(&rt, rt.alloc(), line.as_str())?;
-        println!(rt; "{told}")?;
-    }
-    Ok(())
-}
-
-// What comes of the case of a line.
-fn told<C: Clock + Copy + Drop>(rt: C, alloc: Global, line: &str) -> Result<String> {
-    let mut case = Case::new(alloc, line);
-    answer(rt, &mut case)?;
-    case.into_told().context("no case")
-}
-
-// Tells what comes of a case.
-fn answer<C: Clock + Copy + Drop>(rt: C, case: &mut Case<'_>) -> Result<(), AllocError> {
-    match case.word() {
-        "instant" => times::instant(case),
-        "split" => times::split(case),
-        "iso" => times::iso(case),
-        "print_iso" => times::print_iso(case)?,
-        "partition" => times::partition(case),
-        "parse_partition" => times::parse_partition(case),
-        "granularity" => times::granularity(case),
-        "granularity_named" => times::granularity_named(case),
-        "holds" => times::holds(case),
-        "settings" => times::settings(case),
-        "shipped" => times::shipped(case),
-        "choose" => times::choose(case),
-        "name" => times::name(case)?,
-        "same_key" => times::same_key(case),
-        "path" => times::path(case)?,
-        "escape" => messages::escape(case)?,
-        "unescape" => messages::unescape(case)?,
-        "varint" => messages::varint(case)?,
-        "fields" => messages::fields(case),
-        "varints" => messages::varints(case),
-        "field" => messages::field(case)?,
-        "zigzag" => messages::zigzag(case),
-        "type_number" => messages::type_number(case),
-        "type_name" => messages::type_name(case),
-        "event" => messages::event(case)?,
-        "header" => messages::header(case)?,
-        "sample" => streams::sample(case)?,
-        "stream" => streams::stream(case)?,
-        "limits" => streams::limits(case),
-        "lines" => edges::lines(case)?,
-        "long_line" => edges::long_line(case)?,
-        "sink" => edges::sink(case)?,
-        "standard" => edges::standard(case),
-        "clock" => edges::clock(case)?,
-        "system_clock" => edges::system_clock(rt, case),
-        "over" => lists::over(case)?,
-        "taken" => lists::taken(case)?,
-        "answer" => lists::answer(case)?,
-        "admit" => lists::admit(case),
-        "scan" => lists::scan(case)?,
-        "batch" => lists::batch(case)?,
-        "pairs" => lists::pairs(case)?,
-        "drill_feed" => drills::feed(case)?,
-        "drill_sum" => drills::sum(case)?,
-        "drill_report" => drills::report(case)?,
-        "drill_doors" => drills::doors(case)?,
-        _ => case.refuse(),
+        let line = line.as_str();
+        if let Some(begun) = Part::begun_by(line) {
+            part = begun;
+            println!(rt; "{line}")?;
+            continue;
+        }
+        let told = match part {
+            Part::Formats => formats::told(&rt, alloc, line)?,
+            Part::Disk => script.told(line)?,
+            Part::Http => requests::told(alloc, line, &mut input)?,
+        };
+        print!(rt; "{told}")?;
     }
     Ok(())
 }

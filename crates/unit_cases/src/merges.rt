@@ -31,6 +31,9 @@ const S5: &[u8] = b"\x08\x05\x10\x00\x1D\x02\x00\x00\x00\x0A";
 
 const S9: &[u8] = b"\x08\x09\x10\x00\x1D\x03\x00\x00\x00\x0A";
 
+// The line of second 9 that is cut short.
+const TORN: &[u8] = b"\x08\x09";
+
 /// Bytes in memory, which don't tell themselves. Reads fail once so many bytes were read as are allowed.
 #[derive(Drop)]
 struct ListReader {
@@ -132,13 +135,25 @@ impl Pieces for ListPieces {
     ghost goes_on = { λ a b xs may one. tt };
 }
 
-// Each piece is a list of lines.
-fn pieces_of(alloc: Global, files: &[&[&[u8]]], failing: u8) -> Result<ListPieces, AllocError> {
+// The line that a letter stands for.
+fn line_of(letter: u8) -> &'static [u8] {
+    match letter {
+        b'H' => H,
+        b'S' => STRINGS,
+        b'1' => S1,
+        b'5' => S5,
+        b'9' => S9,
+        _ => TORN,
+    }
+}
+
+// Each word stands for the lines of a piece.
+fn pieces_of(alloc: Global, words: &str, failing: u8) -> Result<ListPieces, AllocError> {
     let mut left = Vec::new(alloc);
-    for lines in files {
+    for word in words.split_whitespace() {
         let mut bytes = Vec::new(alloc);
-        for line in *lines {
-            bytes.extend_from_slice(line)?;
+        for letter in word.bytes() {
+            bytes.extend_from_slice(line_of(letter))?;
         }
         left.push(bytes)?;
     }
@@ -181,24 +196,8 @@ fn told_by<R: ReadAt, P: Pieces<Reader = R>, L: Ledger>(
     'lines: for _ in 0..100 {
         match merge.next(pieces, &mut line, &mut steps) {
             Merged::Line { t } => write!(text, "{} ", t.saturating_sub(START) / SECOND)?,
-            Merged::End => {
-                text.push_str("end")?;
-                break;
-            }
-            Merged::ReadFault { failed } => {
-                write!(text, "fault {}", failed.is_some())?;
-                break;
-            }
-            Merged::Damaged { name, at } => {
-                write!(text, "piece {} damaged at {at}", name.store)?;
-                break;
-            }
-            Merged::Spent => {
-                text.push_str("spent")?;
-                break;
-            }
-            Merged::Memory => {
-                text.push_str("memory")?;
+            end => {
+                put_end(&mut text, &end)?;
                 break;
             }
         }
@@ -206,63 +205,85 @@ fn told_by<R: ReadAt, P: Pieces<Reader = R>, L: Ledger>(
     Ok(text)
 }
 
+fn put_end<R: ReadAt>(text: &mut String, end: &Merged<R>) -> Result<(), AllocError> {
+    match end {
+        Merged::ReadFault { failed } => write!(text, "fault {}", failed.is_some()),
+        Merged::Damaged { name, at } => write!(text, "piece {} damaged at {at}", name.store),
+        Merged::Spent => text.push_str("spent"),
+        Merged::Memory => text.push_str("memory"),
+        Merged::End | Merged::Line { .. } => text.push_str("end"),
+    }
+}
+
+// The same of a merge of integers.
+fn merged(alloc: Global, query: Query, pieces: &mut ListPieces) -> Result<String, AllocError> {
+    let tail = Samples::from(Vec::new(alloc));
+    let merge = Merge::new(alloc, query, PayloadType::ScalarInt, tail);
+    told(alloc, merge, pieces)
+}
+
 /// Whether lines are the answer over all pieces, and no more of these are opened than are needed.
 pub fn are_answers(alloc: Global) -> Result<bool, AllocError> {
-    let table: [(&[&[&[u8]]], u64, u64, &str, u8); 14] = [
-        (&[&[H, S1, S5, S9]], 2, 8, "1 5 end", 1),
-        (&[&[H, S1, S5, S9]], 5, 9, "1 5 9 end", 1),
+    let table = [
+        ("H159", 2, 8, "1 5 end", 1),
+        ("H159", 5, 9, "1 5 9 end", 1),
         // A move is half done: second 5 stands in both.
-        (&[&[H, S1, S5], &[H, S5, S9]], 0, 99, "1 5 9 end", 2),
+        ("H15 H59", 0, 99, "1 5 9 end", 2),
         // The sample before the interval stands in an earlier piece.
-        (&[&[H, S1], &[H, S9]], 3, 99, "1 9 end", 2),
-        (&[&[H, S1], &[H, S5]], 20, 30, "5 end", 2),
+        ("H1 H9", 3, 99, "1 9 end", 2),
+        ("H1 H5", 20, 30, "5 end", 2),
         // The second piece stands behind the interval's end, and the third isn't opened.
-        (&[&[H, S1], &[H, S5], &[H, S9]], 0, 3, "1 end", 2),
+        ("H1 H5 H9", 0, 3, "1 end", 2),
         // The second piece goes on behind what the first has, wherever the interval begins.
-        (&[&[H, S1, S5, S9], &[H, S1, S5]], 0, 99, "1 5 9 end", 2),
-        (&[&[H, S1, S5], &[H, S1, S5, S9]], 6, 99, "5 9 end", 2),
+        ("H159 H15", 0, 99, "1 5 9 end", 2),
+        ("H15 H159", 6, 99, "5 9 end", 2),
         // The interval lies before all, and behind all.
-        (&[&[H, S5, S9]], 0, 2, "end", 1),
-        (&[&[H, S1, S5, S9]], 20, 30, "9 end", 1),
+        ("H59", 0, 2, "end", 1),
+        ("H159", 20, 30, "9 end", 1),
         // No moment, but the sample before it.
-        (&[&[H, S1, S5]], 4, 2, "1 end", 1),
-        (&[], 0, 99, "end", 0),
+        ("H15", 4, 2, "1 end", 1),
+        ("", 0, 99, "end", 0),
         // Behind second 5 the line of second 9 is cut short: what stands before it is told first.
-        (
-            &[&[H, S1, S5, b"\x08\x09"]],
-            0,
-            99,
-            "1 5 piece 1 damaged at 31",
-            1,
-        ),
-        (&[&[H, S1], &[STRINGS]], 0, 99, "1 piece 2 damaged at 0", 2),
+        ("H15T", 0, 99, "1 5 piece 1 damaged at 31", 1),
+        ("H1 S", 0, 99, "1 piece 2 damaged at 0", 2),
     ];
-    for (files, from, to, want, opened) in table {
-        let mut pieces = pieces_of(alloc, files, 0)?;
-        let query = Query {
-            from: START.saturating_add(SECOND.saturating_mul(from)),
-            to: START.saturating_add(SECOND.saturating_mul(to)),
-        };
-        let tail = Samples::from(Vec::new(alloc));
-        let merge = Merge::new(alloc, query, PayloadType::ScalarInt, tail);
-        let text = told(alloc, merge, &mut pieces)?;
-        if text.as_str() != want || pieces.opened != opened {
+    for (words, from, to, want, opened) in table {
+        if !is_answer(alloc, words, seconds(from, to), want, opened)? {
             return Ok(false);
         }
     }
     Ok(true)
 }
 
+// The interval between two seconds of 2024.
+fn seconds(from: u64, to: u64) -> Query {
+    Query {
+        from: START.saturating_add(SECOND.saturating_mul(from)),
+        to: START.saturating_add(SECOND.saturating_mul(to)),
+    }
+}
+
+// Whether these lines are the answer over these pieces, of which so many are opened.
+fn is_answer(
+    alloc: Global,
+    words: &str,
+    query: Query,
+    want: &str,
+    opened: u8,
+) -> Result<bool, AllocError> {
+    let mut pieces = pieces_of(alloc, words, 0)?;
+    let text = merged(alloc, query, &mut pieces)?;
+    Ok(text.as_str() == want && pieces.opened == opened)
+}
+
 /// Whether a read that fails gives its reader back.
 pub fn gives_back(alloc: Global) -> Result<bool, AllocError> {
-    let mut pieces = pieces_of(alloc, &[&[H, S1], &[H, S5]], 2)?;
+    let mut pieces = pieces_of(alloc, "H1 H5", 2)?;
     let query = Query {
         from: 0,
         to: u64::MAX,
     };
-    let tail = Samples::from(Vec::new(alloc));
-    let merge = Merge::new(alloc, query, PayloadType::ScalarInt, tail);
-    Ok(told(alloc, merge, &mut pieces)?.as_str() == "1 fault true")
+    Ok(merged(alloc, query, &mut pieces)?.as_str() == "1 fault true")
 }
 
 // Appends the line of a second of 2024.
@@ -286,15 +307,10 @@ pub fn are_searched(alloc: Global) -> Result<bool, AllocError> {
     if bytes.len() <= 1_100_000 {
         return Ok(false);
     }
-    let mut pieces = pieces_of(alloc, &[], 0)?;
+    let mut pieces = pieces_of(alloc, "", 0)?;
     pieces.left.push(bytes)?;
     pieces.allowed = 100_000;
-    let query = Query {
-        from: START + 50_000 * SECOND,
-        to: START + 50_010 * SECOND,
-    };
-    let tail = Samples::from(Vec::new(alloc));
-    let merge = Merge::new(alloc, query, PayloadType::ScalarInt, tail);
+    let query = seconds(50_000, 50_010);
     let want = "49999 50000 50001 50002 50003 50004 50005 50006 50007 50008 50009 50010 end";
-    Ok(told(alloc, merge, &mut pieces)?.as_str() == want)
+    Ok(merged(alloc, query, &mut pieces)?.as_str() == want)
 }

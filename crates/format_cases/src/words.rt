@@ -4,6 +4,11 @@ use std::alloc::{AllocError, Global};
 // More calls than a case makes.
 const CALLS: u64 = 50_000;
 
+/// The first word, and what stands behind it.
+pub fn cut(text: &str) -> (&str, &str) {
+    text.split_once(' ').unwrap_or((text, ""))
+}
+
 /// Words with spaces between them: numbers, and lists of numbers.
 #[derive(Drop)]
 pub struct Words<'a> {

@@ -2,7 +2,7 @@
 ghost use Rattle.std.specs.Prelude.{◌≡◌, ◌≤◌, true, ℕ, length, IfOk, IfSome, OnOk, IsErrOf};
 ghost use Rattle.disk_model.specs.Files.{Name};
 ghost use Rattle.disk_model.specs.Record.{opened_of};
-ghost use Rattle.disk_cases.specs.Steps.{Rests, GoesOn, Waits};
+ghost use Rattle.format_cases.specs.Steps.{Rests, GoesOn, Waits};
 
 use anyhow::{Context, Result, bail};
 use disk_model::{DiskErr, FileName, MemDisk};
@@ -50,7 +50,9 @@ pub fn told(alloc: Global, stops: bool, steps: &str) -> Result<String> {
         calls = call;
     }
     let (before, after, wrong) = (found.before, found.after, found.wrong);
-    let text = format!(in alloc; "{calls} calls, {before} images before and {after} after{wrong}")?;
+    let text = format!(in alloc;
+        "{calls} calls, {before} images before and {after} after{wrong}\n"
+    )?;
     Ok(text)
 }
 

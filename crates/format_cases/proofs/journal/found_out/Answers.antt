@@ -1,6 +1,6 @@
 use Rattle.std.proofs.Common.{refl}
-use Rattle.disk_cases.proofs.Results.{either_if_ok}
-use Rattle.disk_cases.proofs.journal.found_out.Goals as goal
+use Rattle.format_cases.proofs.Results.{either_if_ok}
+use Rattle.format_cases.proofs.journal.found_out.Goals as goal
 
 pub returns : goal.returns
 returns c =

@@ -1,9 +1,11 @@
 // Calls of a disk in memory, and what a crash may leave of it.
+use crate::case::text_of;
+use crate::journal;
+use crate::words::cut;
 use anyhow::{Context, Result};
 use disk_model::{Disk, DiskErr, FileName, MemDisk, MemFile, ReadAt};
 use std::alloc::Global;
 use std::fmt::Write as _;
-use std::str;
 
 /// A disk, the files of it that were opened, and what is told of a line.
 #[derive(Drop)]
@@ -12,15 +14,6 @@ pub struct Script {
     disk: MemDisk,
     readers: Vec<MemFile>,
     text: String,
-}
-
-/// The first word, and what stands behind it.
-pub fn cut(words: &str) -> (&str, &str) {
-    words.split_once(' ').unwrap_or((words, ""))
-}
-
-fn text_of(path: &[u8]) -> &str {
-    str::from_utf8(path).unwrap_or("?")
 }
 
 fn number(word: &str) -> Result<u64> {
@@ -71,16 +64,20 @@ impl Script {
         })
     }
 
-    /// What comes of a line, by its first word and what stands behind it.
-    pub fn told(&mut self, word: &str, rest: &str) -> Result<String> {
+    /// What comes of a line.
+    pub fn told(&mut self, line: &str) -> Result<String> {
+        let (word, rest) = cut(line);
         self.text.clear();
         match word {
+            "stops" => return journal::told(self.alloc, true, rest),
+            "fails" => return journal::told(self.alloc, false, rest),
             "disk" => self.begin(rest)?,
             "images" => self.put_images().ok().context("no image")?,
             "readers" => self.put_readers().ok().context("no memory")?,
             "sync_each" => self.sync_each(rest)?,
             call => self.called(call, rest)?,
         }
+        self.text.push('\n')?;
         Ok(self.text.as_str().to_string(self.alloc)?)
     }
 

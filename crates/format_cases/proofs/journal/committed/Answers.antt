@@ -1,6 +1,6 @@
 use Rattle.std.proofs.Common.{refl, ◌++◌, ◌∷◌, []}
-use Rattle.disk_cases.proofs.Results.{both_on_ok}
-use Rattle.disk_cases.proofs.journal.committed.Goals as goal
+use Rattle.format_cases.proofs.Results.{both_on_ok}
+use Rattle.format_cases.proofs.journal.committed.Goals as goal
 
 pub returns-clause-ok : goal.returns-clause-ok
 returns-clause-ok c =
