@@ -9,12 +9,13 @@ use crate::marks::MARK;
 use crate::paths::{ancestors, parent, stays_inside, trimmed};
 use disk_model::FileName;
 use std::alloc::{AllocError, Global};
-use std::collections::BTreeSet;
+use std::collections::{BTreeMap, BTreeSet};
 use std::fs::{self, File, OpenOptions};
 use std::io::{self, ErrorKind};
 use std::os::unix::fs::FileExt;
 use std::rt::Files;
 use std::str;
+use std::thread::Threads;
 
 /// What a disk of folders may do with them.
 #[derive(Clone, Copy, Debug, PartialEq, Eq)]
@@ -56,6 +57,8 @@ enum Turn {
 struct Held {
     name: FileName,
     file: File,
+    // It was changed since it was synced.
+    is_changed: bool,
 }
 
 #[derive(Drop)]
@@ -69,6 +72,10 @@ pub struct Folders<R: Files<File = File> + Drop> {
     is_marked: bool,
     // Of each store the file that was used last.
     held: Vec<Option<Held>>,
+    // Those that were used before, by their paths, which stay open until they are synced.
+    changed: BTreeMap<String, File>,
+    // The paths of those that were synced to make room for others, and not opened since.
+    settled: BTreeSet<String>,
     // The files of journals that a disk which only reads was to write or to remove.
     drafts: Drafts,
     // The folders that were synced since a name was last made or removed in them.
@@ -140,6 +147,8 @@ impl<R: Files<File = File> + Drop> Folders<R> {
             turn: Turn::Waits,
             is_marked: false,
             held,
+            changed: BTreeMap::new(alloc),
+            settled: BTreeSet::new(alloc),
             drafts: Drafts::new(alloc),
             synced: BTreeSet::new(alloc),
             failed: false,
@@ -206,12 +215,33 @@ impl<R: Files<File = File> + Drop> Folders<R> {
         }
     }
 
-    fn keep(&mut self, name: &FileName, file: File) -> io::Result<()> {
+    fn keep(&mut self, name: &FileName, file: File, is_changed: bool) -> io::Result<()> {
         let name = name.copy(self.alloc)?;
+        self.set_aside(name.store)?;
         if let Some(held) = self.held.get_mut(name.store as usize) {
-            *held = Some(Held { name, file });
+            *held = Some(Held {
+                name,
+                file,
+                is_changed,
+            });
         }
         Ok(())
+    }
+
+    // Has the file that a store holds wait for its sync, where it was changed: it stays open for that.
+    fn set_aside(&mut self, store: u8) -> io::Result<()> {
+        let Some(held) = self.take_changed(store) else {
+            return Ok(());
+        };
+        let path = self.path(&held.name)?;
+        self.changed.insert(path, held.file)?;
+        Ok(())
+    }
+
+    // The file that a store holds, where it was changed.
+    fn take_changed(&mut self, store: u8) -> Option<Held> {
+        let place = self.held.get_mut(store as usize)?;
+        place.take_if(|held| held.is_changed)
     }
 
     fn release(&mut self, store: u8) {
@@ -220,23 +250,52 @@ impl<R: Files<File = File> + Drop> Folders<R> {
         }
     }
 
-    // A name's file, which is opened where it isn't held.
+    // A name's file, which is opened where it isn't.
     fn file(&mut self, name: &FileName) -> io::Result<&File> {
-        if !self.holds(name) {
-            let path = self.path(name)?;
-            if self.size_of(path.as_str())?.is_none() {
-                return Err(ErrorKind::NotFound.into());
-            }
-            let file = OpenOptions::new()
-                .read(true)
-                .write(self.access.may_write())
-                .open(&self.files, path.as_str())?;
-            self.keep(name, file)?;
+        self.size_opened(name)?;
+        self.held_file(name)
+    }
+
+    // A name's file, for a change of it.
+    fn file_to_change(&mut self, name: &FileName) -> io::Result<&File> {
+        self.size_opened(name)?;
+        self.set_changed(name.store, true);
+        self.held_file(name)
+    }
+
+    fn set_changed(&mut self, store: u8, is_changed: bool) {
+        if let Some(Some(held)) = self.held.get_mut(store as usize) {
+            held.is_changed = is_changed;
         }
+    }
+
+    fn held_file(&self, name: &FileName) -> io::Result<&File> {
         match self.held.get(name.store as usize) {
             Some(Some(held)) => Ok(&held.file),
             _ => Err(ErrorKind::NotFound.into()),
         }
+    }
+
+    // Holds a name's file, and tells its size where it was opened for that.
+    fn size_opened(&mut self, name: &FileName) -> io::Result<Option<u64>> {
+        if self.holds(name) {
+            return Ok(None);
+        }
+        let path = self.path(name)?;
+        if let Some(file) = self.changed.remove(path.as_str()) {
+            self.keep(name, file, true)?;
+            return Ok(None);
+        }
+        let Some(size) = self.size_of(path.as_str())? else {
+            return Err(ErrorKind::NotFound.into());
+        };
+        let file = OpenOptions::new()
+            .read(true)
+            .write(self.access.may_write())
+            .open(&self.files, path.as_str())?;
+        self.settled.remove(path.as_str());
+        self.keep(name, file, false)?;
+        Ok(Some(size))
     }
 
     // Whether the folders may be used.
@@ -258,7 +317,8 @@ impl<R: Files<File = File> + Drop> Folders<R> {
             .write(true)
             .create_new(true)
             .open(&self.files, path.as_str())?;
-        self.keep(name, file)
+        self.settled.remove(path.as_str());
+        self.keep(name, file, true)
     }
 
     // Makes the folder of a new file, where it isn't known to be there. No folder that got a name counts as synced.
@@ -314,7 +374,13 @@ impl<R: Files<File = File> + Drop> Folders<R> {
         }
     }
 
-    pub fn write(&mut self, name: &FileName, at: u64, bytes: &[u8]) -> io::Result<()>
+    pub fn write<H: Threads>(
+        &mut self,
+        rt: &H,
+        name: &FileName,
+        at: u64,
+        bytes: &[u8],
+    ) -> io::Result<()>
         ensures { OnOk result (at + length bytes.now < 2 ^ 64) }
     {
         if bytes.len() as u64 > u64::MAX - at {
@@ -325,7 +391,8 @@ impl<R: Files<File = File> + Drop> Folders<R> {
             self.may_draft(name)?;
             return self.draft(name, at, bytes);
         }
-        self.file(name)?.write_all_at(bytes, at)
+        self.sync_many_changed(rt)?;
+        self.file_to_change(name)?.write_all_at(bytes, at)
     }
 
     // Where one only reads, loading may begin the journals of the site's folder and remove files of them that no longer
@@ -385,15 +452,17 @@ impl<R: Files<File = File> + Drop> Folders<R> {
         if !self.access.may_write() {
             return Err(only_reads());
         }
-        let file = self.file(name)?;
-        let size = file.metadata()?.len();
+        let size = match self.size_opened(name)? {
+            Some(size) => size,
+            None => self.held_file(name)?.metadata()?.len(),
+        };
         if size < len {
             return Err(ErrorKind::InvalidInput.into());
         }
         if size == len {
             return Ok(());
         }
-        file.set_len(len)
+        self.file_to_change(name)?.set_len(len)
     }
 
     // Syncs the file, and the folders that lead to it. An absent name is synced by its folders. None is
@@ -404,8 +473,11 @@ impl<R: Files<File = File> + Drop> Folders<R> {
             return Ok(());
         }
         self.may_sync()?;
-        let written = match self.file(name) {
-            Ok(file) => file.sync_data(),
+        let written = match self.size_opened(name) {
+            Ok(_) => {
+                self.set_changed(name.store, false);
+                self.held_file(name)?.sync_data()
+            }
             Err(e) if e.kind() == ErrorKind::NotFound => Ok(()),
             Err(e) => return Err(e),
         };
@@ -493,6 +565,8 @@ impl<R: Files<File = File> + Drop> Folders<R> {
         if self.holds(name) {
             self.release(name.store);
         }
+        self.changed.remove(path.as_str());
+        self.settled.remove(path.as_str());
         self.synced.remove(parent(path.as_str()));
         fs::remove_file(&self.files, path.as_str())
     }

@@ -7,13 +7,19 @@ use std::collections::{BTreeSet, VecDeque};
 use std::fs::{self, File, OpenOptions};
 use std::io::{self, ErrorKind};
 use std::rt::Files;
-use std::thread::{self, JoinHandle, Threads};
+use std::thread::{Builder, JoinHandle, Promise, Threads};
 
 // So many threads sync at a time.
 const THREADS: usize = 32;
 
-// So many files and folders a thread syncs at most, so that 128 are open at a time.
-const SHARE: usize = 4;
+// So many files and folders a thread syncs at most.
+const SHARE: usize = 8;
+
+// So many files stay open at most that were changed and aren't synced yet.
+const MOST_CHANGED: usize = THREADS * SHARE;
+
+// The stack of a thread that syncs, which calls nothing deep: the C library keeps small stacks for the next threads.
+const STACK: usize = 262_144;
 
 // Fewer names are synced in turn, without threads.
 const FEW: usize = 4;
@@ -65,6 +71,14 @@ fn run_share(mut share: Vec<Job>) -> Vec<Job> {
     share
 }
 
+// What a thread promises of the jobs that it gives back: nothing.
+#[derive(Drop)]
+struct Anything;
+
+impl Promise<Vec<Job>> for Anything {
+    ghost kept_by = { λ _ _. Unit {0} };
+}
+
 // A share of the jobs: in a thread, or done by the caller where no thread could be made.
 #[derive(Drop)]
 enum Share {
@@ -74,8 +88,9 @@ enum Share {
 
 impl Share {
     fn start<H: Threads>(rt: &H, jobs: Vec<Job>) -> Share {
-        match thread::spawn(rt, move || run_share(jobs)) {
-            Ok(running) => Share::Running(running),
+        let thread = Builder::new().stack_size(STACK);
+        match thread.spawn_with(rt, Anything, move || run_share(jobs)) {
+            Ok(running) => Share::Running(running.forget_promise()),
             Err(refused) => Share::Done((refused.value)()),
         }
     }
@@ -106,9 +121,35 @@ impl<R: Files<File = File> + Drop> Folders<R> {
             return self.sync_in_turn(names);
         }
         self.begin()?;
-        self.sync_above_stores(names)?;
+        self.prepare_stores(names)?;
         let targets = self.targets(names)?;
-        self.sync_targets(rt, &targets)
+        self.sync_targets(rt, &targets)?;
+        self.settled.clear();
+        Ok(())
+    }
+
+    // Syncs the files that wait for it, where they are as many as may be open.
+    pub(super) fn sync_many_changed<H: Threads>(&mut self, rt: &H) -> io::Result<()> {
+        if self.changed.len() < MOST_CHANGED {
+            return Ok(());
+        }
+        self.may_sync()?;
+        let targets = self.changed_files()?;
+        self.sync_targets(rt, &targets)?;
+        for target in targets {
+            self.settled.insert(target.path)?;
+        }
+        Ok(())
+    }
+
+    fn changed_files(&self) -> io::Result<Vec<Target>> {
+        let mut targets = Vec::with_capacity(self.alloc, self.changed.len())?;
+        for path in self.changed.keys() {
+            let path = String::from_str(self.alloc, path.as_str())?;
+            let kind = Kind::File;
+            targets.push(Target { path, kind })?;
+        }
+        Ok(targets)
     }
 
     fn sync_in_turn(&mut self, names: &[FileName]) -> io::Result<()> {
@@ -122,12 +163,13 @@ impl<R: Files<File = File> + Drop> Folders<R> {
         Ok(())
     }
 
-    // Syncs what has the folders of these names' stores.
-    fn sync_above_stores(&mut self, names: &[FileName]) -> io::Result<()> {
+    // Syncs what has the folders of these names' stores, and has the files that these hold wait for their sync.
+    fn prepare_stores(&mut self, names: &[FileName]) -> io::Result<()> {
         for store in 0..4u8 {
             if names.iter().any(|name| name.store == store) {
                 let root = self.root_copy(store)?;
                 self.sync_above(root.as_str())?;
+                self.set_aside(store)?;
             }
         }
         Ok(())
@@ -145,8 +187,10 @@ impl<R: Files<File = File> + Drop> Folders<R> {
                     folders.insert(String::from_str(self.alloc, folder)?)?;
                 }
             }
-            let kind = Kind::File;
-            targets.push(Target { path, kind })?;
+            if !self.settled.contains(path.as_str()) {
+                let kind = Kind::File;
+                targets.push(Target { path, kind })?;
+            }
         }
         for path in folders {
             let kind = Kind::Folder;
@@ -215,7 +259,11 @@ impl<R: Files<File = File> + Drop> Folders<R> {
         }
     }
 
-    fn opened_file(&self, path: &str) -> io::Result<File> {
+    // A file that waits for its sync, or else one that is opened for it.
+    fn opened_file(&mut self, path: &str) -> io::Result<File> {
+        if let Some(file) = self.changed.remove(path) {
+            return Ok(file);
+        }
         if self.size_of(path)?.is_none() {
             return Err(ErrorKind::NotFound.into());
         }

@@ -1,7 +1,15 @@
 use Rattle.std.proofs.Common.{◌≡◌, ◌<◌, ◌≤◌, ◌+◌, ◌^◌, [], ◌∷◌, length, arith, sym, ap, ◌∙◌}
 use Rattle.intake.specs.Tails.{size_of}
-use Rattle.intake.proofs.TailLemmas.{size_of-append, intake_set}
+use Rattle.intake.proofs.TailLemmas.{size_of-append, size_of-read-le, intake_set}
 use Rattle.intake.proofs.intake.Intake.offer.Goals as goal
+
+pub push-requires : goal.push-requires
+push-requires c =
+    let tails = c.add_rows.new.tails in
+    let within : c.args.row < length tails.items = omega (arith, tails.ok.0, c.in_ok-add_rows.ensures.there) in
+    let low = size_of-read-le tails.items c.args.row c.index_mut.result.now within c.index_mut.ensures.value in
+    let line = ap length c.bytes.ensures in
+    omega (arith, c.self.invariant.bytes, c.self.invariant.most, c.add_rows.ensures.held, c.if-bytes-self.false)
 
 pub invariant_of-self-in_err-push : goal.invariant_of-self-in_err-push
 invariant_of-self-in_err-push c =

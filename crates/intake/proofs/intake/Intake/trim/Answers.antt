@@ -2,12 +2,6 @@ use Rattle.std.proofs.Common.{◌<◌, length, arith}
 use Rattle.intake.proofs.TailLemmas.{size_of-read-le, intake_set}
 use Rattle.intake.proofs.intake.Intake.trim.Goals as goal
 
-pub trim-given_up-requires : goal.trim-given_up-requires
-trim-given_up-requires c =
-    let within : c.args.row < length c.self.inside.tails.items = omega (arith, c.self.inside.tails.ok.0) in
-    let low = size_of-read-le c.self.inside.tails.items c.args.row c.index_mut.result.now within c.index_mut.ensures.value in
-    omega (arith, c.self.invariant.bytes, c.self.invariant.most)
-
 pub overflow_sub-self : goal.overflow_sub-self
 overflow_sub-self c =
     let within : c.args.row < length c.self.inside.tails.items = omega (arith, c.self.inside.tails.ok.0) in
