@@ -45,7 +45,7 @@ impl WebReply {
         ensures { IfOk result (λ text. text.items ≡ text_of self) }
     {
         match self {
-            WebReply::Success(text) => Ok(text.into_vec()),
+            WebReply::Success(text) => text.bytes().to_vec(alloc),
             WebReply::Refused(refusal) => refused_text(alloc, refusal),
         }
     }

@@ -188,10 +188,10 @@ fn offer_once<A: Actor>(
     let Ok(name) = info.name.clone() else {
         return Err(SessionStop::Memory);
     };
-    let Ok(bytes) = Vec::from_slice(alloc, line) else {
+    let Ok(line) = Blob::copied(alloc, line) else {
         return Err(SessionStop::Memory);
     };
-    ask_once(actor, name, info.ty, t, Blob::from(bytes), now)
+    ask_once(actor, name, info.ty, t, line, now)
 }
 
 // Makes an offer once.

@@ -118,7 +118,7 @@ pub fn pairs(case: &mut Case<'_>) -> Result<(), AllocError> {
         let blobs = Blobs::from(vec![in case.alloc; name, val]?).clone()?;
         for blob in blobs.into_vec() {
             case.separate(" ");
-            case.tell_hex(&blob.into_vec());
+            case.tell_hex(blob.bytes());
         }
     }
     Ok(())

@@ -35,7 +35,7 @@ impl Members<'_> {
         let headers = headers.ok_or(InfoFault::Missing { field: 15 })?;
         let ty = type_of(uint32_of(number))?;
         let year = year_of(int32_of(year))?;
-        let name = Blob::from(Vec::from_slice(alloc, name)?);
+        let name = Blob::copied(alloc, name)?;
         let count = self.count.map(|count| int32_of(count));
         Ok(PayloadInfo {
             ty,

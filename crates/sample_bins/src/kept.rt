@@ -151,6 +151,6 @@ fn count_on(new: bool, count: u32) -> u32
 fn copy(alloc: Global, t: u64, line: &[u8]) -> Result<Sample, AllocError>
     ensures { IfOk result (λ s. s ≡ record { t = t; line = line.now }) }
 {
-    let line = Blob::from(Vec::from_slice(alloc, line)?);
+    let line = Blob::copied(alloc, line)?;
     Ok(Sample { t, line })
 }
