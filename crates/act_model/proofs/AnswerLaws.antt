@@ -33,7 +33,7 @@ use Rattle.act_model.proofs.RowActs.{tried_is}
 use Rattle.act_model.proofs.Histories.{last_step}
 use Rattle.act_model.specs.MoveBegin.{Begins, begins, all_run, none_to_make}
 use Rattle.act_model.specs.MoveStep.{GoesOn, copies, has_copied, publishes, retires, again, damaged, no_move}
-use Rattle.act_model.specs.Pin.{Pins, pins}
+use Rattle.act_model.specs.Pin.{MakesPin, pins}
 use Rattle.act_model.specs.OpenPiece.{Opens, refused_open, no_piece, opens, faults_opening, wants_memory_opening}
 use Rattle.act_model.specs.Unpin.{Unpins, refused_unpin, unpins, pin_refused}
 use Rattle.act_model.specs.Details.{details_refused}
@@ -231,7 +231,7 @@ goes_says (retires move into here at covers stays named same) = refl
 goes_says (again move len copied here at grown less part same) = refl
 goes_says (damaged name at untold same) = refl
 
-pins_says : {who : ℕ} {name : List ℕ} {query : Query} {mid new : Machine} {answer : Reply} → Pins who name query mid answer new → is_answer_to (Pin name query) answer ≡ true
+pins_says : {who : ℕ} {name : List ℕ} {query : Query} {mid new : Machine} {answer : Reply} → MakesPin who name query mid answer new → is_answer_to (Pin name query) answer ≡ true
 pins_says (pins i row pin pieces a b c d e order f few same) = refl
 
 opens_says : {who pin i : ℕ} {old new : Machine} {answer : Reply} → Opens who pin i old answer new → is_answer_to (OpenPiece pin i) answer ≡ true

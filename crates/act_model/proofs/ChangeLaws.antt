@@ -10,7 +10,7 @@ use Rattle.series_model.proofs.OverLemmas.{end_of-over}
 use Rattle.pb_messages.specs.declared.about.State.{State}
 use Rattle.pb_messages.specs.declared.about.State.TheVariants.{Retired}
 use Rattle.act_model.specs.Rows.{RowState, Store, Short, Medium, Long, next_store, durable, deep, tier, accepted}
-use Rattle.act_model.specs.Limbo.{FileState, put, files_of, Covered, IsOfPart}
+use Rattle.act_model.specs.Limbo.{RowFile, put, files_of, Covered, IsOfPart}
 use Rattle.act_model.specs.Machine.{Change, AddsRow, SetsState, Renames, Appends, Publishes, Unlists}
 use Rattle.act_model.specs.Changes.{changed, at, flushed, published, retired, without_held, of_row}
 use Rattle.act_model.specs.Sound.{RowSound, IsCopied, CopiesOf}
@@ -62,7 +62,7 @@ at_row k i f row P other own = by_test (i == k) refl
     by_test true is = own (grind (arith, nat_tests))
     by_test false is = other
 
-untold_flush : (row : RowState) (limbo : List FileState) (xs rest : List Sample) → RowSound false row → row.tail ≡ xs ++ rest → RowGoes false row (flushed false limbo xs row)
+untold_flush : (row : RowState) (limbo : List RowFile) (xs rest : List Sample) → RowSound false row → row.tail ≡ xs ++ rest → RowGoes false row (flushed false limbo xs row)
 untold_flush row limbo xs rest s is =
     let p = end_of (durable row) in
     let later : RisesFrom p (xs ++ rest) = rw (← is) s.later in
@@ -87,7 +87,7 @@ untold_flush row limbo xs rest s is =
       held = inl refl;
     }
 
-told_flush : (row : RowState) (limbo : List FileState) (xs rest : List Sample) → RowSound true row → row.tail ≡ xs ++ rest → Covered (end_of (deep row Short)) limbo → AllByRecursion IsOfPart limbo → RowGoes true row (flushed true limbo xs row)
+told_flush : (row : RowState) (limbo : List RowFile) (xs rest : List Sample) → RowSound true row → row.tail ≡ xs ++ rest → Covered (end_of (deep row Short)) limbo → AllByRecursion IsOfPart limbo → RowGoes true row (flushed true limbo xs row)
 told_flush row limbo xs rest s is low parts =
     let f = flush_row row limbo xs rest s is low parts in
     record { sound = f.sound; name = refl; about = refl; base = refl; next = refl; stays_retired = λ is. is; short_base = λ t. omega arith; medium_base = λ t. omega arith; same = λ t. f.same; more = λ t. (xs, f.more); untold = λ f. absurd cc; tail = inr (end_of xs, refl); held = inl refl }
@@ -110,7 +110,7 @@ kept_row row new k name about base next state a b held =
       held = inl held;
     }
 
-told_medium : (row : RowState) (limbo : List FileState) (copied : List Sample) → RowSound true row → Covered (end_of row.long) limbo → AllByRecursion IsOfPart limbo → IsCopied limbo row.long row.medium row.short copied → RowGoes true row (published true limbo Medium copied row)
+told_medium : (row : RowState) (limbo : List RowFile) (copied : List Sample) → RowSound true row → Covered (end_of row.long) limbo → AllByRecursion IsOfPart limbo → IsCopied limbo row.long row.medium row.short copied → RowGoes true row (published true limbo Medium copied row)
 told_medium row limbo copied s low parts is =
     let both = put_rises copied limbo row.medium s.medium is.rises parts is.fits in
     let up : end_of row.medium ≤ end_from (end_of row.medium) copied = end_from-ge (end_of row.medium) copied is.rises in
@@ -119,7 +119,7 @@ told_medium row limbo copied s low parts is =
     let two = end_of-over row.long (put copied limbo row.medium) both.0 in
     kept_row row (published true limbo Medium copied row) (publish_medium row limbo copied s low parts is) refl refl refl refl refl (omega arith) (omega arith) refl
 
-told_long : (row : RowState) (limbo : List FileState) (copied : List Sample) → RowSound true row → Covered 0 limbo → AllByRecursion IsOfPart limbo → IsCopied limbo [] row.long row.medium copied → RowGoes true row (published true limbo Long copied row)
+told_long : (row : RowState) (limbo : List RowFile) (copied : List Sample) → RowSound true row → Covered 0 limbo → AllByRecursion IsOfPart limbo → IsCopied limbo [] row.long row.medium copied → RowGoes true row (published true limbo Long copied row)
 told_long row limbo copied s low parts is =
     let both = put_rises copied limbo row.long s.long is.rises parts is.fits in
     let up : end_of row.long ≤ end_from (end_of row.long) copied = end_from-ge (end_of row.long) copied is.rises in
@@ -137,12 +137,12 @@ told_medium_leaves row to s low =
     kept_row row (retired true Medium to row) (retire_medium row to s low) refl refl refl refl refl (omega arith) (omega arith) refl
 
 -- what limbo is to a row
-pub record Ground (told : Bool) (limbo : List FileState) (i : ℕ) (row : RowState) : Type 0 where
+pub record Ground (told : Bool) (limbo : List RowFile) (i : ℕ) (row : RowState) : Type 0 where
   pub covered : (store : Store) → told ≡ true → Covered (end_of (deep row store)) (files_of i store limbo)
   pub parts : (store : Store) → told ≡ true → AllByRecursion IsOfPart (files_of i store limbo)
 
 -- what a change asks of a row
-abbrev pub RowMay : Bool → List FileState → Change → ℕ → RowState → Type 0
+abbrev pub RowMay : Bool → List RowFile → Change → ℕ → RowState → Type 0
 RowMay told limbo (AddsRow name about) i row = Unit {0}
 RowMay told limbo (SetsState k state) i row = i ≡ k → row.state ≢ Retired
 RowMay told limbo (Renames k name) i row = Unit {0}
@@ -150,7 +150,7 @@ RowMay told limbo (Appends batch) i row = (rest : List Sample) × (row.tail ≡ 
 RowMay told limbo (Publishes k store copied) i row = i ≡ k → told ≡ true → (store ≢ Long) × CopiesOf limbo row k store copied
 RowMay told limbo (Unlists k store to) i row = i ≡ k → told ≡ true → (store ≢ Long) × (end_of (before to (tier row store)) ≤ end_of (tier row (next_store store)))
 
-publishes_here : (limbo : List FileState) (k : ℕ) (store : Store) (copied : List Sample) (row : RowState) → RowSound true row → Ground true limbo k row → store ≢ Long → CopiesOf limbo row k store copied → RowGoes true row (published true (files_of k (next_store store) limbo) (next_store store) copied row)
+publishes_here : (limbo : List RowFile) (k : ℕ) (store : Store) (copied : List Sample) (row : RowState) → RowSound true row → Ground true limbo k row → store ≢ Long → CopiesOf limbo row k store copied → RowGoes true row (published true (files_of k (next_store store) limbo) (next_store store) copied row)
 publishes_here limbo k Short copied row s ground apart is = told_medium row (files_of k Medium limbo) copied s (ground.covered Medium refl) (ground.parts Medium refl) is
 publishes_here limbo k Medium copied row s ground apart is = told_long row (files_of k Long limbo) copied s (ground.covered Long refl) (ground.parts Long refl) is
 publishes_here limbo k Long copied row s ground apart is = absurd (apart refl)
@@ -160,7 +160,7 @@ leaves_here Short to row s apart low = told_short_leaves row to s low
 leaves_here Medium to row s apart low = told_medium_leaves row to s low
 leaves_here Long to row s apart low = absurd (apart refl)
 
-pub changed_goes : (told : Bool) (limbo : List FileState) (change : Change) (i : ℕ) (row : RowState) → RowSound told row → Ground told limbo i row → RowMay told limbo change i row → RowGoes told row (changed told limbo change i row)
+pub changed_goes : (told : Bool) (limbo : List RowFile) (change : Change) (i : ℕ) (row : RowState) → RowSound told row → Ground told limbo i row → RowMay told limbo change i row → RowGoes told row (changed told limbo change i row)
 changed_goes told limbo (AddsRow name about) i row s ground may = stays_row told row s
 changed_goes told limbo (SetsState k state) i row s ground may = at_row k i (without_held state) row (λ r. RowGoes told row r) (stays_row told row s) (λ is. state_row told state row s (λ gone. absurd (may is gone)))
 changed_goes told limbo (Renames k name) i row s ground may = at_row k i (without_held Retired) row (λ r. RowGoes told row r) (stays_row told row s) (λ is. state_row told Retired row s (λ gone. refl))

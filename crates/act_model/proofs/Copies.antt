@@ -8,7 +8,7 @@ use Rattle.series_model.specs.Series.{end_from, end_of, RisesFrom, IsRising, sin
 use Rattle.series_model.proofs.RisingLists.{end_from-append, end_from-ge, RisesFrom-append, RisesFrom-front, RisesFrom-rest, RisesFrom-filter, RisesFrom-since, since-append}
 use Rattle.series_model.proofs.OverLemmas.{since_max}
 use Rattle.act_model.specs.Rows.{holds}
-use Rattle.act_model.specs.Limbo.{FileState, Covered, Fits}
+use Rattle.act_model.specs.Limbo.{RowFile, Covered, Fits}
 use Rattle.act_model.specs.MoveStep.{is_later}
 use Rattle.act_model.specs.Sound.{IsCopied}
 use Rattle.act_model.proofs.Puts.{before-append, since-before, before-before}
@@ -78,7 +78,7 @@ before_all c n (x ∷ xs) rises low =
 
 -- LATER THAN LIMBO
 
-later_fits : (limbo : List FileState) (s : Sample) → is_later limbo s ≡ true → Fits limbo s
+later_fits : (limbo : List RowFile) (s : Sample) → is_later limbo s ≡ true → Fits limbo s
 later_fits [] s is = tt
 later_fits (f ∷ limbo) s is = by_test (holds f.part s.t) refl (later_fits limbo s)
   where
@@ -86,7 +86,7 @@ later_fits (f ∷ limbo) s is = by_test (holds f.part s.t) refl (later_fits limb
     by_test true h more = (λ h'. (let both = rw h at is in grind (arith, nat_tests)), more (let both = rw h at is in grind (arith, nat_tests)))
     by_test false h more = (λ h'. absurd cc, more (rw h at is))
 
-fits_filter : (limbo : List FileState) (xs : List Sample) → AllByRecursion (Fits limbo) (filter (is_later limbo) xs)
+fits_filter : (limbo : List RowFile) (xs : List Sample) → AllByRecursion (Fits limbo) (filter (is_later limbo) xs)
 fits_filter limbo [] = tt
 fits_filter limbo (x ∷ xs) = by_test (is_later limbo x) refl (fits_filter limbo xs)
   where
@@ -94,7 +94,7 @@ fits_filter limbo (x ∷ xs) = by_test (is_later limbo x) refl (fits_filter limb
     by_test true is more = (later_fits limbo x is, more)
     by_test false is more = more
 
-covered_later : (limbo : List FileState) (e : ℕ) (s : Sample) → Covered e limbo → e ≤ s.t → is_later limbo s ≡ true
+covered_later : (limbo : List RowFile) (e : ℕ) (s : Sample) → Covered e limbo → e ≤ s.t → is_later limbo s ≡ true
 covered_later [] e s low late = refl
 covered_later (f ∷ limbo) e s low late = by_test (holds f.part s.t) refl (covered_later limbo e s low.1 late)
   where
@@ -106,7 +106,7 @@ covered_later (f ∷ limbo) e s low late = by_test (holds f.part s.t) refl (cove
         let one : nat_le (end_from f.part.start f.samples) s.t ≡ true = grind (arith, nat_tests) in rw one more
     by_test false h more = more
 
-since_later : (limbo : List FileState) (e : ℕ) (xs : List Sample) → Covered e limbo → since e (filter (is_later limbo) xs) ≡ since e xs
+since_later : (limbo : List RowFile) (e : ℕ) (xs : List Sample) → Covered e limbo → since e (filter (is_later limbo) xs) ≡ since e xs
 since_later limbo e [] low = refl
 since_later limbo e (x ∷ xs) low = by_tests (is_later limbo x) refl (nat_le e x.t) refl (since_later limbo e xs low)
   where
@@ -118,7 +118,7 @@ since_later limbo e (x ∷ xs) low = by_tests (is_later limbo x) refl (nat_le e 
 
 -- MORE COPIES
 
-pub copies_more : (limbo : List FileState) (below dest source copied chunk later : List Sample) (to : ℕ) → IsRising source → Covered (end_of below) limbo → IsCopied limbo below dest source copied
+pub copies_more : (limbo : List RowFile) (below dest source copied chunk later : List Sample) (to : ℕ) → IsRising source → Covered (end_of below) limbo → IsCopied limbo below dest source copied
     → filter (is_later limbo) (since (end_from (end_of dest) copied) (before to source)) ≡ chunk ++ later → IsCopied limbo below dest source (copied ++ chunk)
 copies_more limbo below dest source copied chunk later to rises low is left =
     let e = end_of below in

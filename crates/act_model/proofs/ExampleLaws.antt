@@ -10,7 +10,7 @@ use Rattle.pb_messages.specs.declared.about.Method.TheVariants.{Monitor, Scan}
 use Rattle.pb_wire.specs.declared.payload.PayloadType.TheVariants.{ScalarInt}
 use Rattle.act_model.specs.declared.acts.Answer.TheVariants.{KeyTaken, NotRunning, NotPaused, Done, RenameNotPaused, NotDurable, Renamed, IntakeFull, Flushed, Pinned, NotYours, NoPin, NoPiece, Unpinned}
 use Rattle.act_model.specs.Reply.{Reply}
-use Rattle.act_model.specs.Limbo.{FileState}
+use Rattle.act_model.specs.Limbo.{RowFile}
 use Rattle.act_model.specs.Rows.{RowState, Store, Short, Medium, Long, fresh_row, tier, window, is_empty}
 use Rattle.act_model.specs.Rule.{Rule}
 use Rattle.pb_messages.specs.declared.about.State.{State}
@@ -23,7 +23,7 @@ use Rattle.act_model.specs.Tick.{ticked}
 use Rattle.act_model.specs.Pause.{Sets}
 use Rattle.act_model.specs.Rename.{IsRenamed}
 use Rattle.act_model.specs.Flush.{Flushes, batch_of, count_in}
-use Rattle.act_model.specs.Pin.{Pins, pins, IsPieceOf}
+use Rattle.act_model.specs.Pin.{MakesPin, pins, IsPieceOf}
 use Rattle.act_model.specs.OpenPiece.{Opens, refused_open, no_piece, opens, faults_opening, wants_memory_opening}
 use Rattle.act_model.specs.Unpin.{Unpins, refused_unpin, unpins, pin_refused}
 use Rattle.act_model.specs.Examples.{IsFailure, LateAndEarlyOffers, APauseGivesUpWhatIsHeld, three_lines, four_lines, AFullIntakeIsFlushed, PinsAreTheirOwners, ARenamedVariableGoesOn, ANewNameWaitsForTheFlush, new_name, with_two, sample_at, all_moments, t0, second, line, name, about, with_row, with_tail}
@@ -331,7 +331,7 @@ only_row : (k : ℕ) (own : RowState) → slice_get (one_row ∷ []) k ≡ Some 
 only_row zero own is = cc
 only_row (suc k) own is = absurd cc
 
-no_pieces : (rule : Rule) (i : ℕ) (row : RowState) (pieces : List FileState) → AllByRecursion (IsPieceOf rule (one_row ∷ []) i row) pieces → pieces ≡ []
+no_pieces : (rule : Rule) (i : ℕ) (row : RowState) (pieces : List RowFile) → AllByRecursion (IsPieceOf rule (one_row ∷ []) i row) pieces → pieces ≡ []
 no_pieces rule i row [] listed = refl
 no_pieces rule i row (f ∷ rest) listed =
     let p = listed.0 in
@@ -345,7 +345,7 @@ least_free : (n : ℕ) → ((k : ℕ) → k < n → get (empty {X = PinState} {R
 least_free zero least = refl
 least_free (suc n) least = absurd (least 0 (omega arith) (get-empty nat_cmp 0))
 
-pinned_only : (after : Machine) (answer : Reply) → Pins 0 name all_moments (with_row one_row) answer after → answer ≡ Pinned 0 name (about Monitor) 0 one_row.tail
+pinned_only : (after : Machine) (answer : Reply) → MakesPin 0 name all_moments (with_row one_row) answer after → answer ≡ Pinned 0 name (about Monitor) 0 one_row.tail
 pinned_only after answer (pins i row pin pieces found here free least listed order gives few same) =
     let at : i ≡ 0 = cc in
     let row_is : row ≡ one_row = (let there : slice_get (one_row ∷ []) 0 ≡ Some row = subst (λ k. slice_get (one_row ∷ []) k ≡ Some row) at here in cc) in

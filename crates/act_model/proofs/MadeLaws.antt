@@ -6,7 +6,7 @@ use Rattle.series_model.specs.declared.sample.Sample.{Sample}
 use Rattle.series_model.specs.Series.{end_of, IsRising, since}
 use Rattle.act_model.specs.Rows.{RowState, deep, fresh_row, renamed_row, size_of}
 use Rattle.act_model.specs.Rule.{Rule}
-use Rattle.act_model.specs.Limbo.{FileState, IsOfPart}
+use Rattle.act_model.specs.Limbo.{RowFile, IsOfPart}
 use Rattle.act_model.specs.Machine.{Change, AddsRow, SetsState, Renames, Appends, Publishes, Unlists, held_bytes}
 use Rattle.act_model.specs.Changes.{each, changed, added}
 use Rattle.act_model.specs.Sound.{RowSound, LinesSound, IsHeld, MayMake, LimboSound}
@@ -16,7 +16,7 @@ use Rattle.act_model.proofs.Rows.{of_place}
 
 -- THE GROUND OF A ROW
 
-pub ground : (rule : Rule) (told : Bool) (rows : List RowState) (limbo : List FileState) (i : ℕ) (row : RowState) → slice_get rows i ≡ Some row → AllByRecursion (LimboSound rule told rows) limbo → Ground told limbo i row
+pub ground : (rule : Rule) (told : Bool) (rows : List RowState) (limbo : List RowFile) (i : ℕ) (row : RowState) → slice_get rows i ≡ Some row → AllByRecursion (LimboSound rule told rows) limbo → Ground told limbo i row
 ground rule told rows limbo i row here all =
     record {
       covered = λ store t. of_place (LimboSound rule told rows) (λ f. IsRising f.samples × (end_of f.samples ≤ end_of (deep row store))) i store limbo
@@ -24,7 +24,7 @@ ground rule told rows limbo i row here all =
       parts = λ store t. of_place (LimboSound rule told rows) IsOfPart i store limbo (λ f a b s. s.part t) all;
     }
 
-pub row_may : (rule : Rule) (told : Bool) (rows : List RowState) (limbo : List FileState) (change : Change) (i : ℕ) (row : RowState) → slice_get rows i ≡ Some row → MayMake rule told rows limbo change → RowMay told limbo change i row
+pub row_may : (rule : Rule) (told : Bool) (rows : List RowState) (limbo : List RowFile) (change : Change) (i : ℕ) (row : RowState) → slice_get rows i ≡ Some row → MayMake rule told rows limbo change → RowMay told limbo change i row
 row_may rule told rows limbo (AddsRow name about) i row here may = tt
 row_may rule told rows limbo (SetsState k state) i row here may = λ is. may row (ap (λ n. slice_get rows n) (sym is) ∙ here)
 row_may rule told rows limbo (Renames k name) i row here may = tt
@@ -32,7 +32,7 @@ row_may rule told rows limbo (Appends batch) i row here may = may i row here
 row_may rule told rows limbo (Publishes k store copied) i row here may = λ is t. (may.moves, may.front row (ap (λ n. slice_get rows n) (sym is) ∙ here) t)
 row_may rule told rows limbo (Unlists k store to) i row here may = λ is t. (may.moves, may.covered row (ap (λ n. slice_get rows n) (sym is) ∙ here) t)
 
-module _ (rule : Rule) (told : Bool) (rows : List RowState) (limbo : List FileState) (change : Change)
+module _ (rule : Rule) (told : Bool) (rows : List RowState) (limbo : List RowFile) (change : Change)
     (each_row : (i : ℕ) (row : RowState) → slice_get rows i ≡ Some row → RowSound told row)
     (each_file : AllByRecursion (LimboSound rule told rows) limbo)
     (may : MayMake rule told rows limbo change) where

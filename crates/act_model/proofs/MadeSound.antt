@@ -12,7 +12,7 @@ use Rattle.series_model.proofs.OverLemmas.{end_of-over, since_max}
 use Rattle.partition_names.specs.declared.part.Part.{Part}
 use Rattle.act_model.specs.Rows.{RowState, Store, Short, Medium, Long, same_store, holds, next_store, durable, deep, tier, fresh_row, accepted, size_of, window, is_empty}
 use Rattle.act_model.specs.Rule.{Rule, IsPartition}
-use Rattle.act_model.specs.Limbo.{FileState, put, files_of, Covered, IsOfPart, Fits, unlisted, tier_at}
+use Rattle.act_model.specs.Limbo.{RowFile, put, files_of, Covered, IsOfPart, Fits, unlisted, tier_at}
 use Rattle.pv_name.specs.Key.{key_of}
 use Rattle.pb_messages.specs.declared.about.State.{State}
 use Rattle.pb_messages.specs.declared.about.State.TheVariants.{Retired}
@@ -49,7 +49,7 @@ before_end n c (x ∷ xs) low = by_test (nat_lt x.t c) refl (λ m h. before_end 
 
 -- COPIES BESIDE A FLUSH
 
-grown_source : (limbo l : List FileState) (below dest source copied xs : List Sample) (p : ℕ) → IsRising source → RisesFrom p xs → max (max (end_of below) (end_of dest)) (end_of source) ≤ p → Covered (max (end_of below) (end_of dest)) l → AllByRecursion IsOfPart l
+grown_source : (limbo l : List RowFile) (below dest source copied xs : List Sample) (p : ℕ) → IsRising source → RisesFrom p xs → max (max (end_of below) (end_of dest)) (end_of source) ≤ p → Covered (max (end_of below) (end_of dest)) l → AllByRecursion IsOfPart l
     → IsCopied limbo below dest source copied → IsCopied limbo below dest (put xs l source) copied
 grown_source limbo l below dest source copied xs p rises later high low parts is =
     let k = max (end_of below) (end_of dest) in
@@ -64,7 +64,7 @@ grown_source limbo l below dest source copied xs p rises later high low parts is
     let ends : end_of (put xs l source) ≡ end_from (end_of source) xs = both.1 in
     record { rises = is.rises; front = is.front ∙ sym same; fits = is.fits; until = omega arith }
 
-flushed_copies : (limbo : List FileState) (row : RowState) (i : ℕ) (store : Store) (copied xs rest : List Sample) → RowSound true row → Ground true limbo i row → row.tail ≡ xs ++ rest → store ≢ Long → CopiesOf limbo row i store copied → CopiesOf limbo (flushed true (files_of i Short limbo) xs row) i store copied
+flushed_copies : (limbo : List RowFile) (row : RowState) (i : ℕ) (store : Store) (copied xs rest : List Sample) → RowSound true row → Ground true limbo i row → row.tail ≡ xs ++ rest → store ≢ Long → CopiesOf limbo row i store copied → CopiesOf limbo (flushed true (files_of i Short limbo) xs row) i store copied
 flushed_copies limbo row i Short copied xs rest s g is apart c =
     let base = end_of-over row.long row.medium s.medium in
     let all = end_of-over (over row.long row.medium) row.short s.short in
@@ -75,13 +75,13 @@ flushed_copies limbo row i Short copied xs rest s g is apart c =
 flushed_copies limbo row i Medium copied xs rest s g is apart c = c
 flushed_copies limbo row i Long copied xs rest s g is apart c = absurd (apart refl)
 
-held_copies : (limbo : List FileState) (row : RowState) (i : ℕ) (state : State) (store : Store) (copied : List Sample) → CopiesOf limbo row i store copied → CopiesOf limbo (without_held state row) i store copied
+held_copies : (limbo : List RowFile) (row : RowState) (i : ℕ) (state : State) (store : Store) (copied : List Sample) → CopiesOf limbo row i store copied → CopiesOf limbo (without_held state row) i store copied
 held_copies limbo row i state Short copied c = c
 held_copies limbo row i state Medium copied c = c
 held_copies limbo row i state Long copied c = c
 
 -- copies of a row beside a change
-copies_stay : (limbo : List FileState) (change : Change) (row : RowState) (i : ℕ) (store : Store) (copied : List Sample) → RowSound true row → Ground true limbo i row → RowMay true limbo change i row → store ≢ Long
+copies_stay : (limbo : List RowFile) (change : Change) (row : RowState) (i : ℕ) (store : Store) (copied : List Sample) → RowSound true row → Ground true limbo i row → RowMay true limbo change i row → store ≢ Long
     → ((k : ℕ) (s : Store) (xs : List Sample) → change ≡ Publishes k s xs → i ≢ k) → ((k : ℕ) (s : Store) (to : ℕ) → change ≡ Unlists k s to → i ≢ k)
     → CopiesOf limbo row i store copied → CopiesOf limbo (changed true limbo change i row) i store copied
 copies_stay limbo (AddsRow name about) row i store copied s g may apart a b c = c
@@ -93,14 +93,14 @@ copies_stay limbo (Unlists k st to) row i store copied s g may apart a b c = at_
 
 -- FITS, WITH FEWER OF LIMBO AND OTHERS' FILES BESIDE
 
-pub fits_stay : (limbo into : List FileState) (p : FileState → Bool) (i : ℕ) (store : Store) (xs : List Sample) → AllByRecursion (λ (f : FileState). f.row ≢ i) into → AllByRecursion (Fits (files_of i store limbo)) xs → AllByRecursion (Fits (files_of i store (filter p (limbo ++ into)))) xs
+pub fits_stay : (limbo into : List RowFile) (p : RowFile → Bool) (i : ℕ) (store : Store) (xs : List Sample) → AllByRecursion (λ (f : RowFile). f.row ≢ i) into → AllByRecursion (Fits (files_of i store limbo)) xs → AllByRecursion (Fits (files_of i store (filter p (limbo ++ into)))) xs
 fits_stay limbo into p i store [] others all = tt
 fits_stay limbo into p i store (s ∷ xs) others all = (fewer_of_place (λ f. OneFits f s) p i store (limbo ++ into) (both limbo all.0), fits_stay limbo into p i store xs others all.1)
   where
-    OneFits : FileState → Sample → Type 0
+    OneFits : RowFile → Sample → Type 0
     OneFits f s = holds f.part s.t ≡ true → end_from f.part.start f.samples ≤ s.t
 
-    both : (limbo : List FileState) → Fits (files_of i store limbo) s → AllByRecursion (λ f. OneFits f s) (files_of i store (limbo ++ into))
+    both : (limbo : List RowFile) → Fits (files_of i store limbo) s → AllByRecursion (λ f. OneFits f s) (files_of i store (limbo ++ into))
     both [] all = of_place (λ f. f.row ≢ i) (λ f. OneFits f s) i store into (λ f a b c. absurd (c a)) others
     both (f ∷ limbo) all = by_test (f.row == i && same_store f.store store) (both limbo) all
       where
@@ -157,7 +157,7 @@ ended_publish moves change still n move here copies k st xs is = let such : IsSt
 ended_unlist : (moves : FinMap nat_cmp MoveState) (change : Change) → EndedMove moves change → (n : ℕ) (move : MoveState) → get moves n ≡ Some move → is_copying move.stage ≡ true → (k : ℕ) (st : Store) (to : ℕ) → change ≡ Unlists k st to → move.row ≢ k
 ended_unlist moves change still n move here copies k st to is = let such : IsStill moves k = subst (λ c. EndedMove moves c) is still in such n move here copies
 
-few_rows : (rule : Rule) (told : Bool) (rows : List RowState) (limbo : List FileState) (change : Change) → length rows ≤ 65536 → MayMake rule told rows limbo change → length rows + length (added change rows) ≤ 65536
+few_rows : (rule : Rule) (told : Bool) (rows : List RowState) (limbo : List RowFile) (change : Change) → length rows ≤ 65536 → MayMake rule told rows limbo change → length rows + length (added change rows) ≤ 65536
 few_rows rule told rows limbo (AddsRow name about) few may = let room : length rows < 65536 = may.room in omega arith
 few_rows rule told rows limbo (SetsState k state) few may = omega arith
 few_rows rule told rows limbo (Renames k name) few may = by_row (slice_get rows k) refl
@@ -169,7 +169,7 @@ few_rows rule told rows limbo (Appends batch) few may = omega arith
 few_rows rule told rows limbo (Publishes k st xs) few may = omega arith
 few_rows rule told rows limbo (Unlists k st to) few may = omega arith
 
-new_key : (rule : Rule) (told : Bool) (rows : List RowState) (limbo : List FileState) (change : Change) (j i : ℕ) (new row : RowState) → MayMake rule told rows limbo change → slice_get (added change rows) j ≡ Some new → slice_get rows i ≡ Some row → key_of row.name ≢ key_of new.name
+new_key : (rule : Rule) (told : Bool) (rows : List RowState) (limbo : List RowFile) (change : Change) (j i : ℕ) (new row : RowState) → MayMake rule told rows limbo change → slice_get (added change rows) j ≡ Some new → slice_get rows i ≡ Some row → key_of row.name ≢ key_of new.name
 new_key rule told rows limbo (AddsRow name about) zero i new row may is here = λ same. let one : fresh_row name about ≡ new = cc in may.free i row here (same ∙ ap (λ (r : RowState). key_of r.name) (sym one))
 new_key rule told rows limbo (AddsRow name about) (suc j) i new row may is here = absurd cc
 new_key rule told rows limbo (SetsState k state) j i new row may is here = absurd cc
@@ -251,7 +251,7 @@ goes_over false row new g =
         (rw less both.0, end)
 
 -- the row that is renamed is retired
-retires_own : (told : Bool) (limbo : List FileState) (k : ℕ) (name : List ℕ) (row : RowState) → (changed told limbo (Renames k name) k row).state ≡ Retired
+retires_own : (told : Bool) (limbo : List RowFile) (k : ℕ) (name : List ℕ) (row : RowState) → (changed told limbo (Renames k name) k row).state ≡ Retired
 retires_own told limbo k name row = let own : (k == k) ≡ true = grind (arith, nat_tests) in rw own refl
 
 -- THE MACHINE WITH A CHANGE
@@ -292,14 +292,14 @@ module _ (m : Machine) (change : Change) (s : IsSound m) (may : MayMake m.rule m
   pub made_follows : m.told ≡ true → AllFollow accepted m.rows → AllFollow accepted then_rows
   made_follows = follows_go m.told m.rows then_rows s.each_row s.bases forth back
 
-module _ (m : Machine) (into : List FileState) (change : Change) (s : IsSound m) (may : MayMake m.rule m.told m.rows m.limbo change) (retires : Retires m change into) where
+module _ (m : Machine) (into : List RowFile) (change : Change) (s : IsSound m) (may : MayMake m.rule m.told m.rows m.limbo change) (retires : Retires m change into) where
   abbrev new_rows : List RowState
   new_rows = changed_rows m.told m.limbo change m.rows
 
   longer : length m.rows ≤ length new_rows
   longer = let more : length new_rows ≡ length m.rows + length (added change m.rows) = more_rows m.told m.limbo change m.rows in omega arith
 
-  old_file : (f : FileState) → LimboSound m.rule m.told m.rows f → LimboSound m.rule m.told new_rows f
+  old_file : (f : RowFile) → LimboSound m.rule m.told m.rows f → LimboSound m.rule m.told new_rows f
   old_file f l = record { here = (let low : f.row < length m.rows = l.here in let more = longer in omega arith); moves = l.moves; partition = l.partition; part = l.part; rising = l.rising; covered = λ new there t. by_row new (came m.told m.limbo change m.rows f.row new there) t }
     where
       base : (store : Store) (row new : RowState) → store ≢ Long → RowGoes m.told row new → m.told ≡ true → end_of (deep row store) ≤ end_of (deep new store)
@@ -316,7 +316,7 @@ module _ (m : Machine) (into : List FileState) (change : Change) (s : IsSound m)
       by_row new (is_new j is there) t = absurd (past_end m.rows f.row j l.here is)
 
   -- a retired file
-  new_file : (k : ℕ) (store : Store) (to : ℕ) → change ≡ Unlists k store to → MayUnlist m.rule m.told m.rows k store to → (f : FileState) → IsRetired m k store to f → LimboSound m.rule m.told new_rows f
+  new_file : (k : ℕ) (store : Store) (to : ℕ) → change ≡ Unlists k store to → MayUnlist m.rule m.told m.rows k store to → (f : RowFile) → IsRetired m k store to f → LimboSound m.rule m.told new_rows f
   new_file k store to is may f r = by_row (slice_get m.rows k) refl
     where
       rises : (row : RowState) → slice_get m.rows k ≡ Some row → IsWindow f.part to (tier row store)
@@ -364,19 +364,19 @@ module _ (m : Machine) (into : List FileState) (change : Change) (s : IsSound m)
       by_change (Unlists k st to) is may r = of_all (IsRetired m k st to) (LimboSound m.rule m.told new_rows) into (new_file k st to is may) r.0
 
   -- a row that still copies has no file that goes to limbo
-  others_go : (i : ℕ) → ((k : ℕ) (st : Store) (to : ℕ) → change ≡ Unlists k st to → i ≢ k) → AllByRecursion (λ (f : FileState). f.row ≢ i) into
+  others_go : (i : ℕ) → ((k : ℕ) (st : Store) (to : ℕ) → change ≡ Unlists k st to → i ≢ k) → AllByRecursion (λ (f : RowFile). f.row ≢ i) into
   others_go i apart = by_change change refl retires
     where
-      none : into ≡ [] → AllByRecursion (λ (f : FileState). f.row ≢ i) into
+      none : into ≡ [] → AllByRecursion (λ (f : RowFile). f.row ≢ i) into
       none is = rw is tt
 
-      by_change : (c : Change) → change ≡ c → Retires m c into → AllByRecursion (λ (f : FileState). f.row ≢ i) into
+      by_change : (c : Change) → change ≡ c → Retires m c into → AllByRecursion (λ (f : RowFile). f.row ≢ i) into
       by_change (AddsRow name about) is r = none r
       by_change (SetsState k state) is r = none r
       by_change (Renames k name) is r = none r
       by_change (Appends batch) is r = none r
       by_change (Publishes k st xs) is r = none r
-      by_change (Unlists k st to) is r = of_all (IsRetired m k st to) (λ (f : FileState). f.row ≢ i) into (λ f one same. apart k st to is (sym same ∙ one.row)) r.0
+      by_change (Unlists k st to) is r = of_all (IsRetired m k st to) (λ (f : RowFile). f.row ≢ i) into (λ f one same. apart k st to is (sym same ∙ one.row)) r.0
 
   module _ (moves : FinMap nat_cmp MoveState) (still : EndedMove moves change)
       (each_move : (n : ℕ) (move : MoveState) → get moves n ≡ Some move → MoveSound m.rule m.told m.rows m.limbo move)
@@ -401,7 +401,7 @@ module _ (m : Machine) (into : List FileState) (change : Change) (s : IsSound m)
             let same : new ≡ changed true m.limbo change move.row row = is ∙ ap (λ b. changed b m.limbo change move.row row) t in
             let kept : CopiesOf m.limbo (changed true m.limbo change move.row row) move.row move.store move.copied =
             copies_stay m.limbo change row move.row move.store move.copied sound ground_here may_here old.moves (ended_publish moves change still n move here copies) apart (old.copied row there t copies) in
-            let fit = fits_stay m.limbo into (λ (f : FileState). is_empty (window f.part (tier_at new_rows f.row f.store))) move.row (next_store move.store) move.copied (others_go move.row apart) kept.fits in
+            let fit = fits_stay m.limbo into (λ (f : RowFile). is_empty (window f.part (tier_at new_rows f.row f.store))) move.row (next_store move.store) move.copied (others_go move.row apart) kept.fits in
             rw same (record { rises = kept.rises; front = kept.front; fits = fit; until = kept.until })
 
     pub made_sound : IsSoundOf m.rule m.told new_rows (unlisted new_rows (m.limbo ++ into)) m.pins moves None
@@ -421,8 +421,8 @@ module _ (m : Machine) (into : List FileState) (change : Change) (s : IsSound m)
           doubted = λ c is. absurd cc;
           each_move = move_goes;
           one_move = one_move;
-          each_file = of_filter (LimboSound m.rule m.told new_rows) (λ (f : FileState). is_empty (window f.part (tier_at new_rows f.row f.store))) (m.limbo ++ into) (of_append (LimboSound m.rule m.told new_rows) m.limbo into (of_all (LimboSound m.rule m.told m.rows) (LimboSound m.rule m.told new_rows) m.limbo old_file s.each_file) into_sound);
-          each_unlisted = all_filter (λ (f : FileState). is_empty (window f.part (tier_at new_rows f.row f.store))) (m.limbo ++ into);
+          each_file = of_filter (LimboSound m.rule m.told new_rows) (λ (f : RowFile). is_empty (window f.part (tier_at new_rows f.row f.store))) (m.limbo ++ into) (of_append (LimboSound m.rule m.told new_rows) m.limbo into (of_all (LimboSound m.rule m.told m.rows) (LimboSound m.rule m.told new_rows) m.limbo old_file s.each_file) into_sound);
+          each_unlisted = all_filter (λ (f : RowFile). is_empty (window f.part (tier_at new_rows f.row f.store))) (m.limbo ++ into);
           places = λ t. places_made m into change new_rows retires t (s.places t) s.each_unlisted;
           pinned = λ t. pins_made m into change may retires s.each_file t (s.pinned t);
         }

@@ -12,7 +12,7 @@ use Rattle.partition_names.specs.declared.part.Part.{Part}
 use Rattle.act_model.specs.Reply.{Reply}
 use Rattle.act_model.specs.Rows.{RowState, Store, Short, Medium, Long, same_store, next_store, tier, deep}
 use Rattle.act_model.specs.Rule.{Rule, IsPartition, IsPartitionEnd}
-use Rattle.act_model.specs.Limbo.{FileState, files_of, Covered, Fits}
+use Rattle.act_model.specs.Limbo.{RowFile, files_of, Covered, Fits}
 use Rattle.act_model.specs.Machine.{Machine, PinState, MoveState, Stage, Copies, HasCopied, HasPublished, Change, Publishes, Unlists}
 use Rattle.act_model.specs.Changes.{made}
 use Rattle.act_model.specs.Outcome.{all_go}
@@ -48,7 +48,7 @@ fewer : (n : ℕ) (moves : FinMap nat_cmp MoveState) (k : ℕ) (move : MoveState
 fewer n moves k move here = (removed moves n k move here).1
 
 -- what is put in the place of a move, or is new
-module _ (rule : Rule) (told : Bool) (rows : List RowState) (limbo : List FileState) (pins : FinMap nat_cmp PinState) (moves : FinMap nat_cmp MoveState) (doubt : Option Change)
+module _ (rule : Rule) (told : Bool) (rows : List RowState) (limbo : List RowFile) (pins : FinMap nat_cmp PinState) (moves : FinMap nat_cmp MoveState) (doubt : Option Change)
     (s : IsSoundOf rule told rows limbo pins moves doubt) (none : doubt ≡ None) (n : ℕ) (move : MoveState)
     (own : MoveSound rule told rows limbo move) (apart : (k : ℕ) (other : MoveState) → get moves k ≡ Some other → k ≢ n → other.row ≢ move.row) where
   each_inserted : (k : ℕ) (other : MoveState) → get (insert moves n move) k ≡ Some other → MoveSound rule told rows limbo other
@@ -72,7 +72,7 @@ module _ (rule : Rule) (told : Bool) (rows : List RowState) (limbo : List FileSt
 
 -- MOVE BEGIN
 
-no_copies : (limbo : List FileState) (below dest source : List Sample) → IsCopied limbo below dest source []
+no_copies : (limbo : List RowFile) (below dest source : List Sample) → IsCopied limbo below dest source []
 no_copies limbo below dest source = record { rises = tt; front = sym (nothing (max (end_of below) (end_of dest)) (end_of dest) source (omega arith)); fits = tt; until = omega arith }
   where
     nothing : (k c : ℕ) (xs : List Sample) → c ≤ k → since k (before c xs) ≡ []
@@ -217,7 +217,7 @@ move_step_sound n old new answer s step =
 
 -- SWEEP
 
-fits_fewer : (p : FileState → Bool) (i : ℕ) (store : Store) (limbo : List FileState) (xs : List Sample) → AllByRecursion (Fits (files_of i store limbo)) xs → AllByRecursion (Fits (files_of i store (filter p limbo))) xs
+fits_fewer : (p : RowFile → Bool) (i : ℕ) (store : Store) (limbo : List RowFile) (xs : List Sample) → AllByRecursion (Fits (files_of i store limbo)) xs → AllByRecursion (Fits (files_of i store (filter p limbo))) xs
 fits_fewer p i store limbo [] all = tt
 fits_fewer p i store limbo (s ∷ xs) all = (fewer_of_place _ p i store limbo all.0, fits_fewer p i store limbo xs all.1)
 
@@ -235,11 +235,11 @@ or_right true b is = refl
 or_right false b is = is
 
 -- each piece of a list is named by the list
-named_from : (all xs : List FileState) → ((f : FileState) → list_any (is_at f) xs ≡ true → list_any (is_at f) all ≡ true) → AllByRecursion (λ (piece : FileState). (f : FileState) → is_at f piece ≡ true → list_any (is_at f) all ≡ true) xs
+named_from : (all xs : List RowFile) → ((f : RowFile) → list_any (is_at f) xs ≡ true → list_any (is_at f) all ≡ true) → AllByRecursion (λ (piece : RowFile). (f : RowFile) → is_at f piece ≡ true → list_any (is_at f) all ≡ true) xs
 named_from all [] more = tt
 named_from all (x ∷ xs) more = (λ f is. more f (or_left (is_at f x) (list_any (is_at f) xs) is), named_from all xs (λ f is. more f (or_right (is_at f x) (list_any (is_at f) xs) is)))
 
-same_place : (f piece : FileState) → f.row ≡ piece.row → f.store ≡ piece.store → f.part ≡ piece.part → is_at f piece ≡ true
+same_place : (f piece : RowFile) → f.row ≡ piece.row → f.store ≡ piece.store → f.part ≡ piece.part → is_at f piece ≡ true
 same_place f piece a b c =
     let rows : (piece.row == f.row) ≡ true = grind (arith, nat_tests) in
     let stores : same_store piece.store f.store ≡ true = ap (λ w. same_store piece.store w) b ∙ same_store-refl piece.store in
@@ -247,7 +247,7 @@ same_place f piece a b c =
     rw (rows, stores, starts) refl
 
 -- a piece of a pin stays where no file that a pin names leaves limbo
-swept_piece : (m : Machine) (stays : FileState → Bool) → IsSwept m stays m.limbo → (n : ℕ) (pin : PinState) → get m.pins n ≡ Some pin → (piece : FileState) → ((f : FileState) → is_at f piece ≡ true → list_any (is_at f) pin.pieces ≡ true)
+swept_piece : (m : Machine) (stays : RowFile → Bool) → IsSwept m stays m.limbo → (n : ℕ) (pin : PinState) → get m.pins n ≡ Some pin → (piece : RowFile) → ((f : RowFile) → is_at f piece ≡ true → list_any (is_at f) pin.pieces ≡ true)
     → PieceSound m.rule m.rows m.limbo piece → PieceSound m.rule m.rows (filter stays m.limbo) piece
 swept_piece m stays just n pin here piece named p =
     record {
@@ -257,15 +257,15 @@ swept_piece m stays just n pin here piece named p =
       backed = λ row there. by_case row (p.backed row there);
     }
   where
-    stay : AllByRecursion (λ (f : FileState). f.row ≡ piece.row → f.store ≡ piece.store → f.part ≡ piece.part → stays f ≡ true) m.limbo
-    stay = of_all (λ f. (stays f ≡ true) ↔ (IsPinned m f ⊎ IsCopiedInto m f)) (λ (f : FileState). f.row ≡ piece.row → f.store ≡ piece.store → f.part ≡ piece.part → stays f ≡ true) m.limbo
+    stay : AllByRecursion (λ (f : RowFile). f.row ≡ piece.row → f.store ≡ piece.store → f.part ≡ piece.part → stays f ≡ true) m.limbo
+    stay = of_all (λ f. (stays f ≡ true) ↔ (IsPinned m f ⊎ IsCopiedInto m f)) (λ (f : RowFile). f.row ≡ piece.row → f.store ≡ piece.store → f.part ≡ piece.part → stays f ≡ true) m.limbo
         (λ f one a b c. one.1 (inl (record { number = n; pin = pin; here = here; names = named f (same_place f piece a b c) }))) just
 
     by_case : (row : RowState) → Backed m.limbo row piece → Backed (filter stays m.limbo) row piece
     by_case row (inl q) = inl q
     by_case row (inr q) = inr (q.0, there_filter piece.part piece.row piece.store stays m.limbo stay q.1)
 
-swept_sound : (m : Machine) (stays : FileState → Bool) → IsSound m → m.doubt ≡ None → IsSwept m stays m.limbo → IsSound (record m { limbo = filter stays m.limbo })
+swept_sound : (m : Machine) (stays : RowFile → Bool) → IsSound m → m.doubt ≡ None → IsSwept m stays m.limbo → IsSound (record m { limbo = filter stays m.limbo })
 swept_sound m stays s none just =
     record {
       few = s.few;
@@ -281,7 +281,7 @@ swept_sound m stays s none just =
       each_file = of_filter (LimboSound m.rule m.told m.rows) stays m.limbo s.each_file;
       each_unlisted = of_filter (IsUnlisted m.rows) stays m.limbo s.each_unlisted;
       places = λ t. places_filter stays m.limbo (s.places t);
-      pinned = λ t n pin here. of_both (λ (piece : FileState). (f : FileState) → is_at f piece ≡ true → list_any (is_at f) pin.pieces ≡ true) (PieceSound m.rule m.rows m.limbo) (PieceSound m.rule m.rows (filter stays m.limbo)) pin.pieces
+      pinned = λ t n pin here. of_both (λ (piece : RowFile). (f : RowFile) → is_at f piece ≡ true → list_any (is_at f) pin.pieces ≡ true) (PieceSound m.rule m.rows m.limbo) (PieceSound m.rule m.rows (filter stays m.limbo)) pin.pieces
           (λ piece named p. swept_piece m stays just n pin here piece named p) (named_from pin.pieces pin.pieces (λ f is. is)) (s.pinned t n pin here);
     }
 

@@ -5,7 +5,7 @@ use Rattle.series_model.specs.declared.sample.Sample.{Sample}
 use Rattle.series_model.specs.Series.{end_of, before}
 use Rattle.act_model.specs.Reply.{Reply}
 use Rattle.act_model.specs.Rows.{RowState, Store, Short, Medium, Long, next_store, tier, durable}
-use Rattle.act_model.specs.Limbo.{FileState, files_of}
+use Rattle.act_model.specs.Limbo.{RowFile, files_of}
 use Rattle.act_model.specs.Machine.{Machine, Change, Publishes, Unlists}
 use Rattle.act_model.specs.Changes.{made, each, changed, added, published, retired}
 use Rattle.act_model.specs.MoveStep.{GoesOn, copies, has_copied, publishes, retires, again, damaged}
@@ -21,7 +21,7 @@ same_rows : (rows news : List RowState) → news ≡ rows → RowsLike rows news
 same_rows rows news is = λ i row here. (row, ap (λ w. slice_get w i) is ∙ here, record { durable_is = refl; accepted_is = refl })
 
 -- copies that are listed
-copied_there : (limbo : List FileState) (k : ℕ) (store : Store) (copied : List Sample) (row : RowState) → RowSound true row → Ground true limbo k row → store ≢ Long → CopiesOf limbo row k store copied → durable (published true (files_of k (next_store store) limbo) (next_store store) copied row) ≡ durable row
+copied_there : (limbo : List RowFile) (k : ℕ) (store : Store) (copied : List Sample) (row : RowState) → RowSound true row → Ground true limbo k row → store ≢ Long → CopiesOf limbo row k store copied → durable (published true (files_of k (next_store store) limbo) (next_store store) copied row) ≡ durable row
 copied_there limbo k Short copied row s g apart is = (publish_medium row (files_of k Medium limbo) copied s (g.covered Medium refl) (g.parts Medium refl) is).same
 copied_there limbo k Medium copied row s g apart is = (publish_long row (files_of k Long limbo) copied s (g.covered Long refl) (g.parts Long refl) is).same
 copied_there limbo k Long copied row s g apart is = absurd (apart refl)
@@ -37,13 +37,13 @@ data IsOfMove : Change → Type 0 where
   of_publishing : (k : ℕ) (store : Store) (copied : List Sample) → IsOfMove (Publishes k store copied)
   of_retiring : (k : ℕ) (store : Store) (to : ℕ) → IsOfMove (Unlists k store to)
 
-durable_stays : (limbo : List FileState) (change : Change) (i : ℕ) (row : RowState) → IsOfMove change → RowSound true row → Ground true limbo i row → RowMay true limbo change i row → durable (changed true limbo change i row) ≡ durable row
+durable_stays : (limbo : List RowFile) (change : Change) (i : ℕ) (row : RowState) → IsOfMove change → RowSound true row → Ground true limbo i row → RowMay true limbo change i row → durable (changed true limbo change i row) ≡ durable row
 durable_stays limbo change i row (of_publishing k store copied) s g may =
     at_row k i (published true (files_of k (next_store store) limbo) (next_store store) copied) row (λ r. durable r ≡ durable row) refl
     (λ is. let both = may is refl in copied_there limbo k store copied row s (subst (λ n. Ground true limbo n row) is g) both.0 both.1)
 durable_stays limbo change i row (of_retiring k store to) s g may = at_row k i (retired true store to) row (λ r. durable r ≡ durable row) refl (λ is. let both = may is refl in left_there store to row s both.0 both.1)
 
-made_like : (m : Machine) (into : List FileState) (change : Change) → IsOfMove change → m.told ≡ true → IsSound m → MayMake m.rule m.told m.rows m.limbo change → RowsLike m.rows (made into change m).rows
+made_like : (m : Machine) (into : List RowFile) (change : Change) → IsOfMove change → m.told ≡ true → IsSound m → MayMake m.rule m.told m.rows m.limbo change → RowsLike m.rows (made into change m).rows
 made_like m into change of t s may = λ i row here.
     let new = changed m.told m.limbo change i row in
     let sound : RowSound true row = subst (λ b. RowSound b row) t (s.each_row i row here) in

@@ -11,9 +11,9 @@ use Rattle.series_model.specs.Archive.{IsPrefix}
 use Rattle.act_model.specs.Reply.{Reply}
 use Rattle.act_model.specs.Rows.{RowState, tier, tier, window, is_empty}
 use Rattle.act_model.specs.Rule.{Rule}
-use Rattle.act_model.specs.Limbo.{FileState, tier_at}
+use Rattle.act_model.specs.Limbo.{RowFile, tier_at}
 use Rattle.act_model.specs.Machine.{Machine, PinState}
-use Rattle.act_model.specs.Pin.{IsListedPiece, IsPieceOf, Pins, pins}
+use Rattle.act_model.specs.Pin.{IsListedPiece, IsPieceOf, MakesPin, pins}
 use Rattle.act_model.specs.OpenPiece.{Opens, refused_open, no_piece, opens, faults_opening, wants_memory_opening}
 use Rattle.act_model.specs.Unpin.{Unpins, refused_unpin, unpins}
 use Rattle.act_model.specs.Sound.{IsUnlisted, PieceSound, PinsSound, IsSound}
@@ -39,7 +39,7 @@ pin_removed all n k other here = by_test (k == n) refl
 -- PIN
 
 -- no file of limbo is of a listed partition, so each begins with a listed piece
-pub listed_sound : (rule : Rule) (rows : List RowState) (limbo : List FileState) (i : ℕ) (row : RowState) → slice_get rows i ≡ Some row → AllByRecursion (IsUnlisted rows) limbo → (piece : FileState) → IsListedPiece rule i row piece → PieceSound rule rows limbo piece
+pub listed_sound : (rule : Rule) (rows : List RowState) (limbo : List RowFile) (i : ℕ) (row : RowState) → slice_get rows i ≡ Some row → AllByRecursion (IsUnlisted rows) limbo → (piece : RowFile) → IsListedPiece rule i row piece → PieceSound rule rows limbo piece
 listed_sound rule rows limbo i row here all piece l =
     record {
       here = (let low : i < length rows = slice_get_within rows i row here in let own : piece.row ≡ i = l.own in omega arith);
@@ -51,7 +51,7 @@ listed_sound rule rows limbo i row here all piece l =
     by_some : {a b : RowState} → Some a ≡ Some b → a ≡ b
     by_some is = cc
 
-    listed : (f : FileState) → f.row ≡ piece.row → f.store ≡ piece.store → IsUnlisted rows f → f.part ≡ piece.part → ⊥
+    listed : (f : RowFile) → f.row ≡ piece.row → f.store ≡ piece.store → IsUnlisted rows f → f.part ≡ piece.part → ⊥
     listed f a b bare same =
         let there : tier_at rows f.row f.store ≡ tier row piece.store = ap (λ n. tier_at rows n f.store) (a ∙ l.own) ∙ (rw here (ap (λ w. tier row w) b)) in
         let files : window f.part (tier_at rows f.row f.store) ≡ piece.samples = ap (λ w. window w (tier_at rows f.row f.store)) same ∙ (ap (λ w. window piece.part w) there ∙ sym l.samples) in
@@ -62,7 +62,7 @@ listed_sound rule rows limbo i row here all piece l =
 pub other_pins : (m : Machine) (others : FinMap nat_cmp PinState) → IsSound m → (m.told ≡ true → PinsSound m.rule m.rows m.limbo others) → IsSound (record m { pins = others })
 other_pins m others s sound = record { few = s.few; keys = s.keys; each_row = s.each_row; bases = s.bases; lines = s.lines; intake = s.intake; doubted = s.doubted; each_move = s.each_move; one_move = s.one_move; each_file = s.each_file; each_unlisted = s.each_unlisted; places = s.places; pinned = sound }
 
-pub pins_sound : {who : ℕ} {name : List ℕ} {query : Query} {mid new : Machine} {reply : Reply} → IsSound mid → Pins who name query mid reply new → IsSound new
+pub pins_sound : {who : ℕ} {name : List ℕ} {query : Query} {mid new : Machine} {reply : Reply} → IsSound mid → MakesPin who name query mid reply new → IsSound new
 pins_sound {who} {mid = mid} {new = new} s (pins i row pin pieces found here free least listed order gives few same) =
     same_sound (record mid { pins = insert mid.pins pin (record { owner = who; pieces = pieces }) }) new same (other_pins mid (insert mid.pins pin (record { owner = who; pieces = pieces })) s
     (λ t n other there. by_case t n other (pin_inserted mid.pins pin n (record { owner = who; pieces = pieces }) other there)))

@@ -11,12 +11,12 @@ use Rattle.series_model.specs.Series.{over}
 use Rattle.series_model.specs.Retrieval.{answer}
 use Rattle.pb_messages.specs.declared.about.About.{About}
 use Rattle.act_model.specs.Rows.{RowState, accepted}
-use Rattle.act_model.specs.Limbo.{FileState}
+use Rattle.act_model.specs.Limbo.{RowFile}
 use Rattle.disk_model.specs.Files.{Name}
 use Rattle.act_model.specs.declared.acts.Act.{Act}
 use Rattle.act_model.specs.declared.acts.Act.TheVariants.{Register, Pause, Resume, Rename, Offer, Tick, Flush, MoveBegin, MoveStep, Sweep, Pin, OpenPiece, Unpin, Names, Details, Doors, DoorDone}
 use Rattle.act_model.specs.declared.acts.Answer.TheVariants.{Piece, Pinned, NotYours}
-use Rattle.act_model.specs.Reply.{Reply, Opened}
+use Rattle.act_model.specs.Reply.{Reply, OpenedFile}
 use Rattle.act_model.specs.Machine.{Machine, PinState, MoveState, Change, find_row, place, same_bytes}
 use Rattle.act_model.specs.Changes.{Settles, no_doubt, as_not_made, as_made}
 use Rattle.act_model.specs.Outcome.{Outcome, Ends, Same, Acts, all_go, refused_at_once, refused, runs, faults_first, faults_between, faults_within, faults_removing, wants_memory, wants_memory_settled}
@@ -30,7 +30,7 @@ use Rattle.act_model.specs.MoveStep.{GoesOn, copies, has_copied, publishes, reti
 use Rattle.act_model.specs.Sweep.{Sweeps}
 use Rattle.act_model.specs.Rule.{Rule}
 use Rattle.act_model.specs.Files.{IsFileOf}
-use Rattle.act_model.specs.Pin.{IsPieceOf, Pins, pins, over_pieces}
+use Rattle.act_model.specs.Pin.{IsPieceOf, MakesPin, pins, over_pieces}
 use Rattle.act_model.specs.Whole.{whole}
 use Rattle.act_model.specs.OpenPiece.{Opens, refused_open, no_piece, opens, faults_opening, wants_memory_opening, Shows, IsNamed}
 use Rattle.act_model.specs.Unpin.{Unpins, refused_unpin, unpins, pin_refused}
@@ -117,7 +117,7 @@ later_stays : (n : ℕ) (pin : PinState) (old mid new : Machine) → Alike old m
 later_stays n pin old mid new is more here = more (alike_stays n pin old mid is here)
 
 -- a new pin has a free number
-pins_stay : (n : ℕ) (pin : PinState) {who : ℕ} {name : List ℕ} {query : Query} {mid new : Machine} {reply : Reply} → Pins who name query mid reply new → Stays n pin mid new
+pins_stay : (n : ℕ) (pin : PinState) {who : ℕ} {name : List ℕ} {query : Query} {mid new : Machine} {reply : Reply} → MakesPin who name query mid reply new → Stays n pin mid new
 pins_stay n pin {who} {mid = mid} {new = new} (pins i row k pieces found there free least listed order gives few same) here = ap (λ (m : Machine). get m.pins n) same ∙ by_test (n == k) refl
   where
     by_test : (b : Bool) → (n == k) ≡ b → get (insert mid.pins k (record { owner = who; pieces = pieces })) n ≡ Some pin
@@ -161,7 +161,7 @@ step_keeps n pin e old new s ask step keeps = by_act e.act ask step refl
     by_act (MoveBegin store now) ask step is = alike (Acts-alike _ (Begins (store_of store) now) _ all_go (λ mid answer new ran. begins_pins ran) step)
     by_act (MoveStep k) ask step is = alike (Acts-alike _ (GoesOn k) _ (ends_move k) (λ mid answer new ran. goes_pins ran) step)
     by_act Sweep ask step is = alike (Acts-alike _ Sweeps _ all_go (λ mid answer new ran. ap (λ (m : Machine). m.pins) ran.same) step)
-    by_act (Pin name query) ask step is = Acts-pins (details_refused name) (Pins e.who name query) (λ m. None) all_go (Stays n pin) (alike_stays n pin) (later_stays n pin) (λ mid answer new ran. pins_stay n pin ran) step
+    by_act (Pin name query) ask step is = Acts-pins (details_refused name) (MakesPin e.who name query) (λ m. None) all_go (Stays n pin) (alike_stays n pin) (later_stays n pin) (λ mid answer new ran. pins_stay n pin ran) step
     by_act (OpenPiece k i) ask step is = alike (opens_pins step)
     by_act (Unpin k) ask step is = unpins_stay n pin (λ owner same. keeps owner (is ∙ ap (λ w. Unpin w) same)) step
     by_act (Names from most) ask step is = alike (ends_pins _ old new e.answer refl step)
@@ -200,7 +200,7 @@ pin_stands_beside n pin entries old new s p none here = pin_stands n pin entries
 one_pin : {a b : PinState} → Some a ≡ Some b → a ≡ b
 one_pin is = cc
 
-opened_here : (n i : ℕ) (pin : PinState) {who : ℕ} {old new : Machine} {reply : Reply} → get old.pins n ≡ Some pin → old.told ≡ true → Opens who n i old reply new → (reader : Opened) (name : Name) (head_len len : ℕ) → reply ≡ Piece reader name head_len len → IsOpenedAs old pin i reader name head_len len
+opened_here : (n i : ℕ) (pin : PinState) {who : ℕ} {old new : Machine} {reply : Reply} → get old.pins n ≡ Some pin → old.told ≡ true → Opens who n i old reply new → (reader : OpenedFile) (name : Name) (head_len len : ℕ) → reply ≡ Piece reader name head_len len → IsOpenedAs old pin i reader name head_len len
 opened_here n i pin {who} {old} here t (refused_open reply p) reader name head_len len is = absurd (by_pin (get old.pins n) (subst (λ r. pin_refused who (get old.pins n) ≡ Some r) is p))
   where
     by_owner : (b : Bool) (o : ℕ) → cond b None (Some (NotYours o)) ≡ Some (Piece reader name head_len len) → ⊥
@@ -215,16 +215,16 @@ opened_here n i pin {who} {old} here t (opens p piece r nm hl l a b c d shows na
     let own : p ≡ pin = one_pin (sym a ∙ here) in
     let parts = one_reply r nm hl l reader name head_len len is in
     let shown : Shows piece r hl l = shows t in
-    record { piece = piece; at = ap (λ (w : PinState). slice_get w.pieces i) (sym own) ∙ c; shows = subst (λ w. Shows piece w head_len len) parts.0 (subst (λ w. Shows piece r w len) parts.1 (subst (λ w. Shows piece r hl w) parts.2 shown)); named = subst (λ w. IsNamed old piece w) parts.3 (named t); faults = ap (λ (w : Opened). w.faults) (sym parts.0) ∙ d }
+    record { piece = piece; at = ap (λ (w : PinState). slice_get w.pieces i) (sym own) ∙ c; shows = subst (λ w. Shows piece w head_len len) parts.0 (subst (λ w. Shows piece r w len) parts.1 (subst (λ w. Shows piece r hl w) parts.2 shown)); named = subst (λ w. IsNamed old piece w) parts.3 (named t); faults = ap (λ (w : OpenedFile). w.faults) (sym parts.0) ∙ d }
   where
-    one_reply : (r : Opened) (nm : Name) (hl l : ℕ) (r' : Opened) (nm' : Name) (hl' l' : ℕ) → Piece r nm hl l ≡ Piece r' nm' hl' l' → (r ≡ r') × (hl ≡ hl') × (l ≡ l') × (nm ≡ nm')
+    one_reply : (r : OpenedFile) (nm : Name) (hl l : ℕ) (r' : OpenedFile) (nm' : Name) (hl' l' : ℕ) → Piece r nm hl l ≡ Piece r' nm' hl' l' → (r ≡ r') × (hl ≡ hl') × (l ≡ l') × (nm ≡ nm')
     one_reply r nm hl l r' nm' hl' l' is = (cc, cc, cc, cc)
 opened_here n i pin here t (faults_opening p piece a b c same q) reader name head_len len is = absurd cc
 opened_here n i pin here t (wants_memory_opening same q) reader name head_len len is = absurd cc
 
 -- Whatever was done since a pin was made, but for its owner's Unpin: a piece of it that is opened has the bytes that were pinned.
 pub opens_pinned : (n i : ℕ) (pin : PinState) (entries : List Entry) (old mid new : Machine) → old.told ≡ true → IsSound old → Runs old entries mid → AllKeep pin.owner n entries → get old.pins n ≡ Some pin
-    → (who : ℕ) (reader : Opened) (name : Name) (head_len len : ℕ) → Step who (OpenPiece n i) mid (Piece reader name head_len len) new → IsOpenedAs mid pin i reader name head_len len
+    → (who : ℕ) (reader : OpenedFile) (name : Name) (head_len len : ℕ) → Step who (OpenPiece n i) mid (Piece reader name head_len len) new → IsOpenedAs mid pin i reader name head_len len
 opens_pinned n i pin entries old mid new t s p keep here who reader name head_len len step =
     let there = runs_keep n pin entries old mid s p keep here in
     let on = runs_onward entries old mid s p in
@@ -243,10 +243,10 @@ one_answer : (n count : ℕ) (nm : List ℕ) (about : About) (tail : List Sample
 one_answer n count nm about tail n' count' nm' about' tail' is = (cc, cc, cc, cc, cc)
 
 -- a file of a row is one of another row with the same type
-file_of : (rule : Rule) (own row : RowState) (f : FileState) → own.about.ty ≡ row.about.ty → IsFileOf rule own f → IsFileOf rule row f
+file_of : (rule : Rule) (own row : RowState) (f : RowFile) → own.about.ty ≡ row.about.ty → IsFileOf rule own f → IsFileOf rule row f
 file_of rule own row f same is = record { whole = is.whole; message = is.message; means = is.means; header = is.header; says = is.says; ty = is.ty ∙ same; lines = is.lines; rising = is.rising }
 
-made_here : {who : ℕ} {name : List ℕ} {query : Query} {mid new : Machine} {reply : Reply} (n count : ℕ) (nm : List ℕ) (about : About) (tail : List Sample) → Pins who name query mid reply new → reply ≡ Pinned n nm about count tail → IsPinMade who name query n nm about count tail new
+made_here : {who : ℕ} {name : List ℕ} {query : Query} {mid new : Machine} {reply : Reply} (n count : ℕ) (nm : List ℕ) (about : About) (tail : List Sample) → MakesPin who name query mid reply new → reply ≡ Pinned n nm about count tail → IsPinMade who name query n nm about count tail new
 made_here {who} {name} {query} {mid} {new} n count nm about tail (pins i row pin pieces found here free least listed order gives few same) is =
     let own = one_answer pin (length pieces) row.name row.about row.tail n count nm about tail is in
     let rows : new.rows ≡ mid.rows = ap (λ (m : Machine). m.rows) same in
@@ -272,7 +272,7 @@ made_here {who} {name} {query} {mid} {new} n count nm about tail (pins i row pin
 pub pin_answers : (who n count : ℕ) (name nm : List ℕ) (query : Query) (about : About) (tail : List Sample) (old new : Machine) → Step who (Pin name query) old (Pinned n nm about count tail) new → IsPinMade who name query n nm about count tail new
 pin_answers who n count name nm query about tail old new step = by_act step refl
   where
-    by_act : {old new : Machine} {reply : Reply} → Acts (details_refused name) (Pins who name query) (λ m. None) all_go old reply new → reply ≡ Pinned n nm about count tail → IsPinMade who name query n nm about count tail new
+    by_act : {old new : Machine} {reply : Reply} → Acts (details_refused name) (MakesPin who name query) (λ m. None) all_go old reply new → reply ≡ Pinned n nm about count tail → IsPinMade who name query n nm about count tail new
     by_act {old} (refused_at_once answer p) is = absurd (no_refusal name (find_row old name) old n count nm about tail refl (p ∙ ap (λ w. Some w) is))
     by_act (refused {mid = mid} answer p settles q same r) is = absurd (no_refusal name (find_row mid name) mid n count nm about tail refl (q ∙ ap (λ w. Some w) is))
     by_act (runs answer p settles q ran r) is = made_here n count nm about tail ran is
@@ -289,7 +289,7 @@ keep_owner : (a b n : ℕ) (entries : List Entry) → a ≡ b → AllKeep a n en
 keep_owner a b n entries same keep = subst (λ w. AllKeep w n entries) same keep
 
 -- A pin is made, anything is done but its Unpin, and a piece of it is opened: the piece is one of those that answer the query, as it was.
-pub pieces_read : (who n count i head_len len : ℕ) (name nm : List ℕ) (query : Query) (about : About) (tail : List Sample) (reader : Opened) (file : Name) (xs ys zs : List Entry) (start end : Machine) → start.told ≡ true → IsSound start
+pub pieces_read : (who n count i head_len len : ℕ) (name nm : List ℕ) (query : Query) (about : About) (tail : List Sample) (reader : OpenedFile) (file : Name) (xs ys zs : List Entry) (start end : Machine) → start.told ≡ true → IsSound start
     → Runs start (xs ++ (record { who = who; act = Pin name query; answer = Pinned n nm about count tail } ∷ (ys ++ (record { who = who; act = OpenPiece n i; answer = Piece reader file head_len len } ∷ zs)))) end → AllKeep who n ys
     → IsRead start.rule who name query n nm about count tail i reader file head_len len
 pieces_read who n count i head_len len name nm query about tail reader file xs ys zs start end t s p keep =

@@ -12,7 +12,7 @@ use Rattle.pb_messages.specs.declared.about.State.{State}
 use Rattle.pb_messages.specs.declared.about.State.TheVariants.{Retired}
 use Rattle.act_model.specs.Rows.{RowState, Store, Short, Medium, Long, same_store, next_store, tier, window, holds, is_empty}
 use Rattle.act_model.specs.Rule.{IsPartition}
-use Rattle.act_model.specs.Limbo.{FileState, files_of, put, tier_at, unlisted, IsThere, Extend}
+use Rattle.act_model.specs.Limbo.{RowFile, files_of, put, tier_at, unlisted, IsThere, Extend}
 use Rattle.act_model.specs.Machine.{Machine, PinState, Change, AddsRow, SetsState, Renames, Appends, Publishes, Unlists}
 use Rattle.act_model.specs.Changes.{changed, changed_rows, added, published, retired, without_held, of_row, Retires, IsRetired}
 use Rattle.act_model.specs.Sound.{MayMake, MayUnlist, LimboSound, Backed, PieceSound, PinsSound}
@@ -23,7 +23,7 @@ use Rattle.act_model.proofs.Revivals.{IsFileOf, piece_put, piece_revived, window
 
 -- WHAT A CHANGE DOES TO ONE STORE OF A ROW
 
-pub data TierGoes (limbo : List FileState) (change : Change) (i : ℕ) (row new : RowState) (st : Store) : Type 0 where
+pub data TierGoes (limbo : List RowFile) (change : Change) (i : ℕ) (row new : RowState) (st : Store) : Type 0 where
   same_tier : tier new st ≡ tier row st → TierGoes limbo change i row new st
   put_tier : (xs : List Sample) → tier new st ≡ put xs (files_of i st limbo) (tier row st) → TierGoes limbo change i row new st
   left_tier : (to : ℕ) → change ≡ Unlists i st to → tier new st ≡ since to (tier row st) → TierGoes limbo change i row new st
@@ -33,7 +33,7 @@ held_tier state row Short = refl
 held_tier state row Medium = refl
 held_tier state row Long = refl
 
-pub tier_goes : (limbo : List FileState) (change : Change) (i : ℕ) (row : RowState) (st : Store) → TierGoes limbo change i row (changed true limbo change i row) st
+pub tier_goes : (limbo : List RowFile) (change : Change) (i : ℕ) (row : RowState) (st : Store) → TierGoes limbo change i row (changed true limbo change i row) st
 tier_goes limbo (AddsRow name about) i row st = same_tier refl
 tier_goes limbo (SetsState k state) i row st = at_row k i (without_held state) row (λ r. TierGoes limbo (SetsState k state) i row r st) (same_tier refl) (λ is. same_tier (held_tier state row st))
 tier_goes limbo (Renames k name) i row st = at_row k i (without_held Retired) row (λ r. TierGoes limbo (Renames k name) i row r st) (same_tier refl) (λ is. same_tier (held_tier Retired row st))
@@ -67,7 +67,7 @@ tier_goes limbo (Unlists k store to) i row st = at_row k i (retired true store t
 
 -- WHAT STAYS IN LIMBO
 
-there_append : (p : Part) (i : ℕ) (st : Store) (limbo into : List FileState) → IsThere p (files_of i st limbo) ⊎ IsThere p (files_of i st into) → IsThere p (files_of i st (limbo ++ into))
+there_append : (p : Part) (i : ℕ) (st : Store) (limbo into : List RowFile) → IsThere p (files_of i st limbo) ⊎ IsThere p (files_of i st into) → IsThere p (files_of i st (limbo ++ into))
 there_append p i st [] into (inl there) = absurd there
 there_append p i st [] into (inr there) = there
 there_append p i st (f ∷ limbo) into there = by_test (f.row == i && same_store f.store st) there (λ t. there_append p i st limbo into t)
@@ -80,7 +80,7 @@ there_append p i st (f ∷ limbo) into there = by_test (f.row == i && same_store
     by_test false t more = more t
 
 -- a file of the partition stays, where all of it stay
-pub there_filter : (p : Part) (i : ℕ) (st : Store) (keep : FileState → Bool) (limbo : List FileState) → AllByRecursion (λ (f : FileState). f.row ≡ i → f.store ≡ st → f.part ≡ p → keep f ≡ true) limbo → IsThere p (files_of i st limbo) → IsThere p (files_of i st (filter keep limbo))
+pub there_filter : (p : Part) (i : ℕ) (st : Store) (keep : RowFile → Bool) (limbo : List RowFile) → AllByRecursion (λ (f : RowFile). f.row ≡ i → f.store ≡ st → f.part ≡ p → keep f ≡ true) limbo → IsThere p (files_of i st limbo) → IsThere p (files_of i st (filter keep limbo))
 there_filter p i st keep [] stay there = there
 there_filter p i st keep (f ∷ limbo) stay there = by_test (f.row == i) refl (same_store f.store st) refl (keep f) refl there (λ t. there_filter p i st keep limbo stay.1 t)
   where
@@ -96,15 +96,15 @@ there_filter p i st keep (f ∷ limbo) stay there = by_test (f.row == i) refl (s
     by_test false r b s false e t more = more t
 
 -- a file of the partition stays where that isn't listed
-there_kept : (p : Part) (i : ℕ) (st : Store) (rows : List RowState) (limbo : List FileState) → is_empty (window p (tier_at rows i st)) ≡ true → IsThere p (files_of i st limbo) → IsThere p (files_of i st (unlisted rows limbo))
+there_kept : (p : Part) (i : ℕ) (st : Store) (rows : List RowState) (limbo : List RowFile) → is_empty (window p (tier_at rows i st)) ≡ true → IsThere p (files_of i st limbo) → IsThere p (files_of i st (unlisted rows limbo))
 there_kept p i st rows limbo empty there =
-    there_filter p i st (λ (f : FileState). is_empty (window f.part (tier_at rows f.row f.store))) limbo (all_of (λ (f : FileState). f.row ≡ i → f.store ≡ st → f.part ≡ p → is_empty (window f.part (tier_at rows f.row f.store)) ≡ true) limbo (λ f a b c. rw (c, a, b) empty)) there
+    there_filter p i st (λ (f : RowFile). is_empty (window f.part (tier_at rows f.row f.store))) limbo (all_of (λ (f : RowFile). f.row ≡ i → f.store ≡ st → f.part ≡ p → is_empty (window f.part (tier_at rows f.row f.store)) ≡ true) limbo (λ f a b c. rw (c, a, b) empty)) there
 
 -- ONE PIECE
 
 module _ (IsPartition : Part → Type 0) (one_part : (p q : Part) (t : ℕ) → IsPartition p → IsPartition q → holds p t ≡ true → holds q t ≡ true → p ≡ q) where
   -- a change of the piece's row: what is new of its store, with all that may stay of it in limbo
-  pub backed_goes : (limbo all : List FileState) (change : Change) (row new : RowState) (piece : FileState) → IsPartition piece.part → AllByRecursion (IsFileOf IsPartition one_part) (files_of piece.row piece.store limbo)
+  pub backed_goes : (limbo all : List RowFile) (change : Change) (row new : RowState) (piece : RowFile) → IsPartition piece.part → AllByRecursion (IsFileOf IsPartition one_part) (files_of piece.row piece.store limbo)
       → Extend piece.samples piece.part (files_of piece.row piece.store limbo) → Backed limbo row piece
       → (is_empty (window piece.part (tier new piece.store)) ≡ true → IsThere piece.part (files_of piece.row piece.store limbo) → IsThere piece.part (files_of piece.row piece.store all))
       → ((to : ℕ) → change ≡ Unlists piece.row piece.store to → ((piece.part.end ≤ to) × (is_empty (window piece.part (tier row piece.store)) ≡ false → is_empty (window piece.part (tier new piece.store)) ≡ true → IsThere piece.part (files_of piece.row piece.store all))) ⊎ (to ≤ piece.part.start))
@@ -150,7 +150,7 @@ module _ (IsPartition : Part → Type 0) (one_part : (p q : Part) (t : ℕ) → 
 
 -- THE MACHINE
 
-place_append : (Q : FileState → Type 0) (i : ℕ) (st : Store) (limbo into : List FileState) → AllByRecursion Q (files_of i st limbo) → AllByRecursion Q (files_of i st into) → AllByRecursion Q (files_of i st (limbo ++ into))
+place_append : (Q : RowFile → Type 0) (i : ℕ) (st : Store) (limbo into : List RowFile) → AllByRecursion Q (files_of i st limbo) → AllByRecursion Q (files_of i st into) → AllByRecursion Q (files_of i st (limbo ++ into))
 place_append Q i st [] into a b = b
 place_append Q i st (f ∷ limbo) into a b = by_test (f.row == i && same_store f.store st) a (λ w. place_append Q i st limbo into w b)
   where
@@ -158,16 +158,16 @@ place_append Q i st (f ∷ limbo) into a b = by_test (f.row == i && same_store f
     by_test true a more = (a.0, more a.1)
     by_test false a more = more a
 
-module _ (m : Machine) (into : List FileState) (change : Change) (may : MayMake m.rule m.told m.rows m.limbo change) (retires : Retires m change into)
+module _ (m : Machine) (into : List RowFile) (change : Change) (may : MayMake m.rule m.told m.rows m.limbo change) (retires : Retires m change into)
     (each_file : AllByRecursion (LimboSound m.rule m.told m.rows) m.limbo) (told : m.told ≡ true) where
   abbrev rows' : List RowState
   rows' = changed_rows m.told m.limbo change m.rows
 
-  abbrev limbo' : List FileState
+  abbrev limbo' : List RowFile
   limbo' = unlisted rows' (m.limbo ++ into)
 
   -- one piece, of which what is listed stays in limbo
-  module _ (piece : FileState) (s : PieceSound m.rule m.rows m.limbo piece)
+  module _ (piece : RowFile) (s : PieceSound m.rule m.rows m.limbo piece)
       (stays : (to : ℕ) → change ≡ Unlists piece.row piece.store to → piece.part.end ≤ to → is_empty (window piece.part (tier_at m.rows piece.row piece.store)) ≡ false → IsThere piece.part (files_of piece.row piece.store into)) where
     abbrev OfStore : Part → Type 0
     OfStore part = IsPartition m.rule piece.store part
@@ -179,13 +179,13 @@ module _ (m : Machine) (into : List FileState) (change : Change) (may : MayMake 
     edge : (to : ℕ) → change ≡ Unlists piece.row piece.store to → (piece.part.end ≤ to) ⊎ (to ≤ piece.part.start)
     edge to is = let own : MayUnlist m.rule m.told m.rows piece.row piece.store to = subst (λ c. MayMake m.rule m.told m.rows m.limbo c) is may in not_cut m.rule piece.store piece.part to s.partition (own.edge told)
 
-    into_extend : AllByRecursion (λ (f : FileState). f.part ≡ piece.part → IsPrefix piece.samples f.samples) (files_of piece.row piece.store into)
+    into_extend : AllByRecursion (λ (f : RowFile). f.part ≡ piece.part → IsPrefix piece.samples f.samples) (files_of piece.row piece.store into)
     into_extend = by_change change retires
       where
-        none : into ≡ [] → AllByRecursion (λ (f : FileState). f.part ≡ piece.part → IsPrefix piece.samples f.samples) (files_of piece.row piece.store into)
+        none : into ≡ [] → AllByRecursion (λ (f : RowFile). f.part ≡ piece.part → IsPrefix piece.samples f.samples) (files_of piece.row piece.store into)
         none is = rw is tt
 
-        by_row : (k : ℕ) (store : Store) (to : ℕ) (f : FileState) → f.row ≡ piece.row → f.store ≡ piece.store → IsRetired m k store to f → f.part ≡ piece.part → (o : Option RowState) → slice_get m.rows piece.row ≡ o → IsPrefix piece.samples f.samples
+        by_row : (k : ℕ) (store : Store) (to : ℕ) (f : RowFile) → f.row ≡ piece.row → f.store ≡ piece.store → IsRetired m k store to f → f.part ≡ piece.part → (o : Option RowState) → slice_get m.rows piece.row ≡ o → IsPrefix piece.samples f.samples
         by_row k store to f a b r same None is = absurd (there_is_row m.rows piece.row s.here is)
         by_row k store to f a b r same (Some row) is =
             let at_is : tier_at m.rows k store ≡ tier row piece.store = ap (λ n. tier_at m.rows n store) (sym r.row ∙ a) ∙ (ap (λ w. tier_at m.rows piece.row w) (sym r.own_store ∙ b) ∙ rw is refl) in
@@ -196,13 +196,13 @@ module _ (m : Machine) (into : List FileState) (change : Change) (may : MayMake 
             by_backed row samples (inl p) = (p.0, samples ∙ p.1)
             by_backed row samples (inr p) = absurd (let some : is_empty f.samples ≡ false = r.some told in let none : is_empty f.samples ≡ true = ap is_empty samples ∙ p.0 in cc)
 
-        by_change : (c : Change) → Retires m c into → AllByRecursion (λ (f : FileState). f.part ≡ piece.part → IsPrefix piece.samples f.samples) (files_of piece.row piece.store into)
+        by_change : (c : Change) → Retires m c into → AllByRecursion (λ (f : RowFile). f.part ≡ piece.part → IsPrefix piece.samples f.samples) (files_of piece.row piece.store into)
         by_change (AddsRow name about) r = none r
         by_change (SetsState k state) r = none r
         by_change (Renames k name) r = none r
         by_change (Appends batch) r = none r
         by_change (Publishes k st xs) r = none r
-        by_change (Unlists k st to) r = of_place (IsRetired m k st to) (λ (f : FileState). f.part ≡ piece.part → IsPrefix piece.samples f.samples) piece.row piece.store into (λ f a b one same. by_row k st to f a b one same (slice_get m.rows piece.row) refl) r.0
+        by_change (Unlists k st to) r = of_place (IsRetired m k st to) (λ (f : RowFile). f.part ≡ piece.part → IsPrefix piece.samples f.samples) piece.row piece.store into (λ f a b one same. by_row k st to f a b one same (slice_get m.rows piece.row) refl) r.0
 
     backed_made : (new : RowState) → slice_get rows' piece.row ≡ Some new → Backed limbo' new piece
     backed_made new there = by_row new there (came m.told m.limbo change m.rows piece.row new there)
@@ -235,13 +235,13 @@ module _ (m : Machine) (into : List FileState) (change : Change) (may : MayMake 
         record {
           here = (let low : piece.row < length m.rows = s.here in let more : length rows' ≡ length m.rows + length (added change m.rows) = more_rows m.told m.limbo change m.rows in omega arith);
           partition = s.partition;
-          extend = fewer_of_place (λ f. f.part ≡ piece.part → IsPrefix piece.samples f.samples) (λ (f : FileState). is_empty (window f.part (tier_at rows' f.row f.store))) piece.row piece.store (m.limbo ++ into)
+          extend = fewer_of_place (λ f. f.part ≡ piece.part → IsPrefix piece.samples f.samples) (λ (f : RowFile). is_empty (window f.part (tier_at rows' f.row f.store))) piece.row piece.store (m.limbo ++ into)
               (place_append (λ f. f.part ≡ piece.part → IsPrefix piece.samples f.samples) piece.row piece.store m.limbo into s.extend into_extend);
           backed = backed_made;
         }
 
   -- what a retirement leaves of a pin's piece
-  abbrev Leaves : FileState → Type 0
+  abbrev Leaves : RowFile → Type 0
   Leaves piece = (to : ℕ) → change ≡ Unlists piece.row piece.store to → piece.part.end ≤ to → is_empty (window piece.part (tier_at m.rows piece.row piece.store)) ≡ false → IsThere piece.part (files_of piece.row piece.store into)
 
   leaves : (n : ℕ) (pin : PinState) → get m.pins n ≡ Some pin → AllByRecursion Leaves pin.pieces
@@ -259,10 +259,10 @@ module _ (m : Machine) (into : List FileState) (change : Change) (may : MayMake 
       by_change (Renames k name) is r = other (λ i st to same. (let bad = sym is ∙ same in cc))
       by_change (Appends batch) is r = other (λ i st to same. (let bad = sym is ∙ same in cc))
       by_change (Publishes k st xs) is r = other (λ i store to same. (let bad = sym is ∙ same in cc))
-      by_change (Unlists k st to) is r = of_all (λ (piece : FileState). piece.row ≡ k → piece.store ≡ st → piece.part.end ≤ to → is_empty (window piece.part (tier_at m.rows k st)) ≡ false → IsThere piece.part (files_of k st into)) Leaves pin.pieces
+      by_change (Unlists k st to) is r = of_all (λ (piece : RowFile). piece.row ≡ k → piece.store ≡ st → piece.part.end ≤ to → is_empty (window piece.part (tier_at m.rows k st)) ≡ false → IsThere piece.part (files_of k st into)) Leaves pin.pieces
           (λ piece stay end same low some. by_own piece stay end (own k piece.row st piece.store to end (sym is ∙ same)) low some) (r.1.stays n pin here)
         where
-          by_own : (piece : FileState) → (piece.row ≡ k → piece.store ≡ st → piece.part.end ≤ to → is_empty (window piece.part (tier_at m.rows k st)) ≡ false → IsThere piece.part (files_of k st into)) → (end : ℕ) → (k ≡ piece.row) × (st ≡ piece.store) × (to ≡ end)
+          by_own : (piece : RowFile) → (piece.row ≡ k → piece.store ≡ st → piece.part.end ≤ to → is_empty (window piece.part (tier_at m.rows k st)) ≡ false → IsThere piece.part (files_of k st into)) → (end : ℕ) → (k ≡ piece.row) × (st ≡ piece.store) × (to ≡ end)
               → piece.part.end ≤ end → is_empty (window piece.part (tier_at m.rows piece.row piece.store)) ≡ false → IsThere piece.part (files_of piece.row piece.store into)
           by_own piece stay end same low some =
               let last : to ≡ end = same.2 in

@@ -9,7 +9,7 @@ use Rattle.series_model.specs.Series.{end_from, end_of, RisesFrom, IsRising, sin
 use Rattle.series_model.proofs.RisingLists.{end_from-append, end_from-ge, RisesFrom-append, RisesFrom-lower, since-append, since_none}
 use Rattle.partition_names.specs.declared.part.Part.{Part}
 use Rattle.act_model.specs.Rows.{window, holds, is_empty}
-use Rattle.act_model.specs.Limbo.{FileState, revived, put, Covered, IsOfPart, Fits}
+use Rattle.act_model.specs.Limbo.{RowFile, revived, put, Covered, IsOfPart, Fits}
 
 pub before-append : (n : ℕ) (xs ys : List Sample) → before n (xs ++ ys) ≡ before n xs ++ before n ys
 before-append n xs ys = filter-append (λ s. nat_lt s.t n) xs ys
@@ -22,7 +22,7 @@ pub put_plain : (xs listed : List Sample) → put xs [] listed ≡ listed ++ xs
 put_plain [] listed = sym (append-nil listed)
 put_plain (s ∷ rest) listed = put_plain rest (listed ++ s ∷ []) ∙ append_assoc listed (s ∷ []) rest
 
-revived-since : (n : ℕ) (limbo : List FileState) (listed : List Sample) (s : Sample) → Covered n limbo → since n (revived limbo listed s) ≡ []
+revived-since : (n : ℕ) (limbo : List RowFile) (listed : List Sample) (s : Sample) → Covered n limbo → since n (revived limbo listed s) ≡ []
 revived-since n [] listed s low = refl
 revived-since n (f ∷ rest) listed s low = by_test (holds f.part s.t) (is_empty (window f.part listed)) (revived-since n rest listed s low.1)
   where
@@ -32,7 +32,7 @@ revived-since n (f ∷ rest) listed s low = by_test (holds f.part s.t) (is_empty
     by_test false c more = more
 
 -- what limbo gives back lies before what covers it
-pub put-since : (xs : List Sample) (n : ℕ) (limbo : List FileState) (listed : List Sample) → Covered n limbo → since n (put xs limbo listed) ≡ since n listed ++ since n xs
+pub put-since : (xs : List Sample) (n : ℕ) (limbo : List RowFile) (listed : List Sample) → Covered n limbo → since n (put xs limbo listed) ≡ since n listed ++ since n xs
 put-since [] n limbo listed low = sym (append-nil (since n listed))
 put-since (s ∷ rest) n limbo listed low =
     let back = revived limbo listed s in
@@ -55,7 +55,7 @@ pub end_from-mono : (m n : ℕ) (xs : List Sample) → m ≤ n → end_from m xs
 end_from-mono m n [] h = h
 end_from-mono m n (x ∷ xs) h = omega arith
 
-revived_rises : (limbo : List FileState) (listed : List Sample) (s : Sample) → IsRising listed → end_of listed ≤ s.t → AllByRecursion IsOfPart limbo → Fits limbo s → RisesFrom (end_of listed) (revived limbo listed s ++ s ∷ [])
+revived_rises : (limbo : List RowFile) (listed : List Sample) (s : Sample) → IsRising listed → end_of listed ≤ s.t → AllByRecursion IsOfPart limbo → Fits limbo s → RisesFrom (end_of listed) (revived limbo listed s ++ s ∷ [])
 revived_rises [] listed s rises late parts fits = (late, tt)
 revived_rises (f ∷ rest) listed s rises late parts fits = by_test (holds f.part s.t) refl (is_empty (window f.part listed)) refl (revived_rises rest listed s rises late parts.1 fits.1)
   where
@@ -69,7 +69,7 @@ revived_rises (f ∷ rest) listed s rises late parts fits = by_test (holds f.par
     by_test true is false none more = (late, tt)
     by_test false is c none more = more
 
-pub put_rises : (xs : List Sample) (limbo : List FileState) (listed : List Sample) → IsRising listed → RisesFrom (end_of listed) xs → AllByRecursion IsOfPart limbo → AllByRecursion (Fits limbo) xs
+pub put_rises : (xs : List Sample) (limbo : List RowFile) (listed : List Sample) → IsRising listed → RisesFrom (end_of listed) xs → AllByRecursion IsOfPart limbo → AllByRecursion (Fits limbo) xs
     → IsRising (put xs limbo listed) × (end_of (put xs limbo listed) ≡ end_from (end_of listed) xs)
 put_rises [] limbo listed rises later parts fits = (rises, refl)
 put_rises (s ∷ rest) limbo listed rises later parts fits =

@@ -10,13 +10,13 @@ use Rattle.series_model.specs.Series.{end_from, RisesFrom, since, before}
 use Rattle.series_model.proofs.RisingLists.{end_from-ge, since_all, since-since}
 use Rattle.partition_names.specs.declared.part.Part.{Part}
 use Rattle.act_model.specs.Rows.{window, holds, is_empty}
-use Rattle.act_model.specs.Limbo.{FileState, revived, put, IsOfPart, IsThere, Extend}
+use Rattle.act_model.specs.Limbo.{RowFile, revived, put, IsOfPart, IsThere, Extend}
 use Rattle.act_model.proofs.Puts.{window-append, since-before}
 use Rattle.act_model.proofs.Copies.{before_all, window_empty}
 
 -- WHAT IS PUT STANDS BEHIND
 
-pub put_extends : (xs : List Sample) (limbo : List FileState) (listed : List Sample) → IsPrefix listed (put xs limbo listed)
+pub put_extends : (xs : List Sample) (limbo : List RowFile) (listed : List Sample) → IsPrefix listed (put xs limbo listed)
 put_extends [] limbo listed = ([], sym (append-nil listed))
 put_extends (s ∷ rest) limbo listed =
     let back = revived limbo listed s ++ s ∷ [] in
@@ -27,7 +27,7 @@ pub window_extends : (part : Part) (xs ys : List Sample) → IsPrefix xs ys → 
 window_extends part xs ys p = (window part p.0, ap (λ w. window part w) p.1 ∙ window-append part xs p.0)
 
 -- a listed piece stays in front, whatever is put behind
-pub piece_put : (piece xs : List Sample) (limbo : List FileState) (listed : List Sample) (part : Part) → IsPrefix piece (window part listed) → IsPrefix piece (window part (put xs limbo listed))
+pub piece_put : (piece xs : List Sample) (limbo : List RowFile) (listed : List Sample) (part : Part) → IsPrefix piece (window part listed) → IsPrefix piece (window part (put xs limbo listed))
 piece_put piece xs limbo listed part p =
     let more = window_extends part listed (put xs limbo listed) (put_extends xs limbo listed) in
     (p.0 ++ more.0, more.1 ∙ (ap (λ w. w ++ more.0) p.1 ∙ append_assoc piece p.0 more.0))
@@ -69,12 +69,12 @@ module _ (IsPartition : Part → Type 0) (one_part : (p q : Part) (t : ℕ) → 
       by_test false is = is
 
   -- a file of limbo: of a partition, with samples in it
-  pub record IsFileOf (f : FileState) : Type 0 where
+  pub record IsFileOf (f : RowFile) : Type 0 where
     pub partition : IsPartition f.part
     pub of_part : IsOfPart f
 
   -- before a sample of the partition its file comes back
-  back_own : (piece : List Sample) (p : Part) (limbo : List FileState) (listed : List Sample) (s : Sample) → IsPartition p → AllByRecursion IsFileOf limbo → Extend piece p limbo → IsThere p limbo → holds p s.t ≡ true → is_empty (window p listed) ≡ true
+  back_own : (piece : List Sample) (p : Part) (limbo : List RowFile) (listed : List Sample) (s : Sample) → IsPartition p → AllByRecursion IsFileOf limbo → Extend piece p limbo → IsThere p limbo → holds p s.t ≡ true → is_empty (window p listed) ≡ true
       → IsPrefix piece (window p (revived limbo listed s))
   back_own piece p [] listed s part files extend there here empty = absurd there
   back_own piece p (f ∷ limbo) listed s part files extend there here empty = by_test (holds f.part s.t) refl there (λ t. back_own piece p limbo listed s part files.1 extend.1 t here empty)
@@ -90,7 +90,7 @@ module _ (IsPartition : Part → Type 0) (one_part : (p q : Part) (t : ℕ) → 
       by_test false is (inr t) more = more t
 
   -- before a sample of another partition nothing of this one comes back
-  back_other : (p : Part) (limbo : List FileState) (listed : List Sample) (s : Sample) → IsPartition p → AllByRecursion IsFileOf limbo → holds p s.t ≡ false → window p (revived limbo listed s) ≡ []
+  back_other : (p : Part) (limbo : List RowFile) (listed : List Sample) (s : Sample) → IsPartition p → AllByRecursion IsFileOf limbo → holds p s.t ≡ false → window p (revived limbo listed s) ≡ []
   back_other p [] listed s part files out = refl
   back_other p (f ∷ limbo) listed s part files out = by_test (holds f.part s.t) refl (is_empty (window f.part listed)) (back_other p limbo listed s part files.1 out)
     where
@@ -101,7 +101,7 @@ module _ (IsPartition : Part → Type 0) (one_part : (p q : Part) (t : ℕ) → 
       by_test false is c more = more
 
   -- where a piece's file is in limbo: it stays unlisted, or comes back in front
-  pub piece_revived : (xs : List Sample) (piece : List Sample) (p : Part) (limbo : List FileState) (listed : List Sample) → IsPartition p → AllByRecursion IsFileOf limbo → Extend piece p limbo → IsThere p limbo → is_empty (window p listed) ≡ true
+  pub piece_revived : (xs : List Sample) (piece : List Sample) (p : Part) (limbo : List RowFile) (listed : List Sample) → IsPartition p → AllByRecursion IsFileOf limbo → Extend piece p limbo → IsThere p limbo → is_empty (window p listed) ≡ true
       → (is_empty (window p (put xs limbo listed)) ≡ true) ⊎ IsPrefix piece (window p (put xs limbo listed))
   piece_revived [] piece p limbo listed part files extend there empty = inl empty
   piece_revived (s ∷ rest) piece p limbo listed part files extend there empty = by_test (holds p s.t) refl (λ e. piece_revived rest piece p limbo (listed ++ (revived limbo listed s ++ s ∷ [])) part files extend there e)

@@ -8,7 +8,7 @@ use Rattle.series_model.specs.Series.{end_from, end_of, RisesFrom, IsRising, sin
 use Rattle.series_model.proofs.RisingLists.{end_from-append, end_from-ge, RisesFrom-front, RisesFrom-rest, RisesFrom-lower, RisesFrom-filter, since-append, since_all, since_none}
 use Rattle.series_model.proofs.OverLemmas.{end_of-over, since_max, over_assoc, over_retired, end_of-deep}
 use Rattle.act_model.specs.Rows.{RowState, Short, Medium, Long, durable, deep, accepted}
-use Rattle.act_model.specs.Limbo.{FileState, put, Covered, IsOfPart, Fits}
+use Rattle.act_model.specs.Limbo.{RowFile, put, Covered, IsOfPart, Fits}
 use Rattle.act_model.specs.Changes.{flushed, published, retired}
 use Rattle.act_model.specs.Sound.{RowSound, IsCopied}
 use Rattle.act_model.proofs.Puts.{put-since, put_rises}
@@ -49,24 +49,24 @@ since_front n (x ∷ xs) rest rises =
 
 -- A FLUSH
 
-pub fit_all : (xs : List Sample) (n : ℕ) (limbo : List FileState) → RisesFrom n xs → Covered n limbo → AllByRecursion (Fits limbo) xs
+pub fit_all : (xs : List Sample) (n : ℕ) (limbo : List RowFile) → RisesFrom n xs → Covered n limbo → AllByRecursion (Fits limbo) xs
 fit_all [] n limbo rises low = tt
 fit_all (s ∷ xs) n limbo rises low = (one limbo low rises.0, fit_all xs (s.t + 1) limbo rises.1 (higher limbo low))
   where
-    one : (limbo : List FileState) → Covered n limbo → n ≤ s.t → Fits limbo s
+    one : (limbo : List RowFile) → Covered n limbo → n ≤ s.t → Fits limbo s
     one [] low late = tt
     one (f ∷ rest) low late = (λ is. let up : f.part.start ≤ s.t = grind (arith, nat_tests) in let end : end_of f.samples ≤ n = low.0.1 in end_from-below f.part.start s.t f.samples up (omega arith), one rest low.1 late)
 
-    higher : (limbo : List FileState) → Covered n limbo → Covered (s.t + 1) limbo
+    higher : (limbo : List RowFile) → Covered n limbo → Covered (s.t + 1) limbo
     higher [] low = tt
     higher (f ∷ rest) low = ((low.0.0, (let end : end_of f.samples ≤ n = low.0.1 in let late : n ≤ s.t = rises.0 in omega arith)), higher rest low.1)
 
-pub higher_cover : (limbo : List FileState) (n m : ℕ) → Covered n limbo → n ≤ m → Covered m limbo
+pub higher_cover : (limbo : List RowFile) (n m : ℕ) → Covered n limbo → n ≤ m → Covered m limbo
 higher_cover [] n m low h = tt
 higher_cover (f ∷ rest) n m low h = ((low.0.0, (let end : end_of f.samples ≤ n = low.0.1 in omega arith)), higher_cover rest n m low.1 h)
 
 -- samples later than all that is durable go behind it
-pub put_durable : (base store xs : List Sample) (limbo : List FileState) → IsRising store → RisesFrom (end_of (over base store)) xs → Covered (end_of base) limbo → over base (put xs limbo store) ≡ over base store ++ xs
+pub put_durable : (base store xs : List Sample) (limbo : List RowFile) → IsRising store → RisesFrom (end_of (over base store)) xs → Covered (end_of base) limbo → over base (put xs limbo store) ≡ over base store ++ xs
 put_durable base store xs limbo rises later low =
     let e = end_of base in
     let up : e ≤ end_of (over base store) = end_of-deep base store rises in
@@ -75,7 +75,7 @@ put_durable base store xs limbo rises later low =
 -- A MOVE
 
 -- published copies are invisible
-pub moved_over : (limbo : List FileState) (below dest source copied : List Sample) → IsRising dest → IsRising source → Covered (end_of below) limbo → AllByRecursion IsOfPart limbo → IsCopied limbo below dest source copied
+pub moved_over : (limbo : List RowFile) (below dest source copied : List Sample) → IsRising dest → IsRising source → Covered (end_of below) limbo → AllByRecursion IsOfPart limbo → IsCopied limbo below dest source copied
     → over (over below (put copied limbo dest)) source ≡ over (over below dest) source
 moved_over limbo below dest source copied rises rises' low parts is =
     let e = end_of below in
@@ -103,7 +103,7 @@ pub record Flushes (row new : RowState) (xs : List Sample) : Type 0 where
   pub same : accepted new ≡ accepted row
   pub deep_end : end_of (deep row Short) ≤ end_of (deep new Short)
 
-pub flush_row : (row : RowState) (limbo : List FileState) (xs rest : List Sample) → RowSound true row → row.tail ≡ xs ++ rest → Covered (end_of (deep row Short)) limbo → AllByRecursion IsOfPart limbo → Flushes row (flushed true limbo xs row) xs
+pub flush_row : (row : RowState) (limbo : List RowFile) (xs rest : List Sample) → RowSound true row → row.tail ≡ xs ++ rest → Covered (end_of (deep row Short)) limbo → AllByRecursion IsOfPart limbo → Flushes row (flushed true limbo xs row) xs
 flush_row row limbo xs rest s is low parts =
     let base = over row.long row.medium in
     let p = end_of (durable row) in
@@ -142,7 +142,7 @@ keeps_row row new s a b c same tail next =
       tail = tail;
     }
 
-pub publish_medium : (row : RowState) (limbo : List FileState) (copied : List Sample) → RowSound true row → Covered (end_of row.long) limbo → AllByRecursion IsOfPart limbo → IsCopied limbo row.long row.medium row.short copied → Keeps row (published true limbo Medium copied row)
+pub publish_medium : (row : RowState) (limbo : List RowFile) (copied : List Sample) → RowSound true row → Covered (end_of row.long) limbo → AllByRecursion IsOfPart limbo → IsCopied limbo row.long row.medium row.short copied → Keeps row (published true limbo Medium copied row)
 publish_medium row limbo copied s low parts is =
     keeps_row row (published true limbo Medium copied row) s s.short (put_rises copied limbo row.medium s.medium is.rises parts is.fits).0 s.long
     (moved_over limbo row.long row.medium row.short copied s.medium s.short low parts is) refl refl
@@ -150,7 +150,7 @@ publish_medium row limbo copied s low parts is =
 nil_over : (b : List Sample) → IsRising b → over [] b ≡ b
 nil_over b rises = since_all 0 0 b rises (omega arith)
 
-pub publish_long : (row : RowState) (limbo : List FileState) (copied : List Sample) → RowSound true row → Covered 0 limbo → AllByRecursion IsOfPart limbo → IsCopied limbo [] row.long row.medium copied → Keeps row (published true limbo Long copied row)
+pub publish_long : (row : RowState) (limbo : List RowFile) (copied : List Sample) → RowSound true row → Covered 0 limbo → AllByRecursion IsOfPart limbo → IsCopied limbo [] row.long row.medium copied → Keeps row (published true limbo Long copied row)
 publish_long row limbo copied s low parts is =
     let new = put copied limbo row.long in
     let rises : IsRising new = (put_rises copied limbo row.long s.long is.rises parts is.fits).0 in

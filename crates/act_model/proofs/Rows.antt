@@ -5,7 +5,7 @@ use Rattle.std.proofs.lemmas.Bool.Decides.{nat_tests}
 use Rattle.std.proofs.lemmas.List.{length-append}
 use Rattle.std.specs.List.{AllByRecursion}
 use Rattle.act_model.specs.Rows.{RowState, Store, Short, Medium, Long, same_store}
-use Rattle.act_model.specs.Limbo.{FileState, files_of}
+use Rattle.act_model.specs.Limbo.{RowFile, files_of}
 use Rattle.act_model.specs.Machine.{Change}
 use Rattle.act_model.specs.Changes.{each, changed, changed_rows, added}
 
@@ -38,11 +38,11 @@ append_forward (x ∷ rows) more zero row here = here
 append_forward (x ∷ rows) more (suc i) row here = append_forward rows more i row here
 
 -- where a row of the changed ones comes from
-pub data Came (told : Bool) (limbo : List FileState) (change : Change) (rows : List RowState) (i : ℕ) (new : RowState) : Type 0 where
+pub data Came (told : Bool) (limbo : List RowFile) (change : Change) (rows : List RowState) (i : ℕ) (new : RowState) : Type 0 where
   from_row : (row : RowState) → slice_get rows i ≡ Some row → new ≡ changed told limbo change i row → Came told limbo change rows i new
   is_new : (j : ℕ) → i ≡ length rows + j → slice_get (added change rows) j ≡ Some new → Came told limbo change rows i new
 
-pub came : (told : Bool) (limbo : List FileState) (change : Change) (rows : List RowState) (i : ℕ) (new : RowState) → slice_get (changed_rows told limbo change rows) i ≡ Some new → Came told limbo change rows i new
+pub came : (told : Bool) (limbo : List RowFile) (change : Change) (rows : List RowState) (i : ℕ) (new : RowState) → slice_get (changed_rows told limbo change rows) i ≡ Some new → Came told limbo change rows i new
 came told limbo change rows i new is = by_place (get_append (each (changed told limbo change) 0 rows) (added change rows) i new is)
   where
     by_place : (slice_get (each (changed told limbo change) 0 rows) i ≡ Some new) ⊎ ((j : ℕ) × (i ≡ length (each (changed told limbo change) 0 rows) + j) × (slice_get (added change rows) j ≡ Some new)) → Came told limbo change rows i new
@@ -63,7 +63,7 @@ same_store_is Long Short is = absurd cc
 same_store_is Long Medium is = absurd cc
 
 -- what holds of all of limbo at a place holds of those of this row and store
-pub of_place : (P : FileState → Type 0) (Q : FileState → Type 0) (i : ℕ) (store : Store) (limbo : List FileState) → ((f : FileState) → f.row ≡ i → f.store ≡ store → P f → Q f) → AllByRecursion P limbo → AllByRecursion Q (files_of i store limbo)
+pub of_place : (P : RowFile → Type 0) (Q : RowFile → Type 0) (i : ℕ) (store : Store) (limbo : List RowFile) → ((f : RowFile) → f.row ≡ i → f.store ≡ store → P f → Q f) → AllByRecursion P limbo → AllByRecursion Q (files_of i store limbo)
 of_place P Q i store [] one all = tt
 of_place P Q i store (f ∷ limbo) one all = by_test (f.row == i) refl (same_store f.store store) refl (of_place P Q i store limbo one all.1)
   where
@@ -72,7 +72,7 @@ of_place P Q i store (f ∷ limbo) one all = by_test (f.row == i) refl (same_sto
     by_test true is false is' more = more
     by_test false is c is' more = more
 
-pub of_filter : (P : FileState → Type 0) (p : FileState → Bool) (limbo : List FileState) → AllByRecursion P limbo → AllByRecursion P (filter p limbo)
+pub of_filter : (P : RowFile → Type 0) (p : RowFile → Bool) (limbo : List RowFile) → AllByRecursion P limbo → AllByRecursion P (filter p limbo)
 of_filter P p [] all = tt
 of_filter P p (f ∷ limbo) all = by_test (p f) (of_filter P p limbo all.1)
   where
@@ -80,16 +80,16 @@ of_filter P p (f ∷ limbo) all = by_test (p f) (of_filter P p limbo all.1)
     by_test true more = (all.0, more)
     by_test false more = more
 
-pub of_append : (P : FileState → Type 0) (xs ys : List FileState) → AllByRecursion P xs → AllByRecursion P ys → AllByRecursion P (xs ++ ys)
+pub of_append : (P : RowFile → Type 0) (xs ys : List RowFile) → AllByRecursion P xs → AllByRecursion P ys → AllByRecursion P (xs ++ ys)
 of_append P [] ys p q = q
 of_append P (x ∷ xs) ys p q = (p.0, of_append P xs ys p.1 q)
 
-pub of_all : (P Q : FileState → Type 0) (limbo : List FileState) → ((f : FileState) → P f → Q f) → AllByRecursion P limbo → AllByRecursion Q limbo
+pub of_all : (P Q : RowFile → Type 0) (limbo : List RowFile) → ((f : RowFile) → P f → Q f) → AllByRecursion P limbo → AllByRecursion Q limbo
 of_all P Q [] one all = tt
 of_all P Q (f ∷ limbo) one all = (one f all.0, of_all P Q limbo one all.1)
 
 -- the files of a row and store among fewer of limbo
-pub fewer_of_place : (P : FileState → Type 0) (p : FileState → Bool) (i : ℕ) (store : Store) (limbo : List FileState) → AllByRecursion P (files_of i store limbo) → AllByRecursion P (files_of i store (filter p limbo))
+pub fewer_of_place : (P : RowFile → Type 0) (p : RowFile → Bool) (i : ℕ) (store : Store) (limbo : List RowFile) → AllByRecursion P (files_of i store limbo) → AllByRecursion P (files_of i store (filter p limbo))
 fewer_of_place P p i store [] all = tt
 fewer_of_place P p i store (f ∷ limbo) all = by_test (p f) (f.row == i && same_store f.store store) refl (λ w. fewer_of_place P p i store limbo w) all
   where
@@ -99,21 +99,21 @@ fewer_of_place P p i store (f ∷ limbo) all = by_test (p f) (f.row == i && same
     by_test false true is more all = more all.1
     by_test false false is more all = more all
 
-pub more_rows : (told : Bool) (limbo : List FileState) (change : Change) (rows : List RowState) → length (changed_rows told limbo change rows) ≡ length rows + length (added change rows)
+pub more_rows : (told : Bool) (limbo : List RowFile) (change : Change) (rows : List RowState) → length (changed_rows told limbo change rows) ≡ length rows + length (added change rows)
 more_rows told limbo change rows = length-append (each (changed told limbo change) 0 rows) (added change rows) ∙ ap (λ n. n + length (added change rows)) (length-each (changed told limbo change) 0 rows)
 
 -- LISTS OF PIECES
 
-pub all_of : (P : FileState → Type 0) (xs : List FileState) → ((f : FileState) → P f) → AllByRecursion P xs
+pub all_of : (P : RowFile → Type 0) (xs : List RowFile) → ((f : RowFile) → P f) → AllByRecursion P xs
 all_of P [] one = tt
 all_of P (f ∷ xs) one = (one f, all_of P xs one)
 
-pub of_both : (P Q R : FileState → Type 0) (xs : List FileState) → ((f : FileState) → P f → Q f → R f) → AllByRecursion P xs → AllByRecursion Q xs → AllByRecursion R xs
+pub of_both : (P Q R : RowFile → Type 0) (xs : List RowFile) → ((f : RowFile) → P f → Q f → R f) → AllByRecursion P xs → AllByRecursion Q xs → AllByRecursion R xs
 of_both P Q R [] one p q = tt
 of_both P Q R (f ∷ xs) one p q = (one f p.0 q.0, of_both P Q R xs one p.1 q.1)
 
 -- what passes a filter
-pub all_filter : (p : FileState → Bool) (xs : List FileState) → AllByRecursion (λ f. p f ≡ true) (filter p xs)
+pub all_filter : (p : RowFile → Bool) (xs : List RowFile) → AllByRecursion (λ f. p f ≡ true) (filter p xs)
 all_filter p [] = tt
 all_filter p (f ∷ xs) = by_test (p f) refl (all_filter p xs)
   where

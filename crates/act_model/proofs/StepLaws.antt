@@ -5,7 +5,7 @@ use Rattle.std.specs.FinMap.{FinMap, get}
 use Rattle.act_model.specs.Reply.{Reply}
 use Rattle.act_model.specs.Rows.{RowState}
 use Rattle.act_model.specs.Rule.{Rule}
-use Rattle.act_model.specs.Limbo.{FileState}
+use Rattle.act_model.specs.Limbo.{RowFile}
 use Rattle.act_model.specs.Machine.{Machine, PinState, MoveState, Change, AddsRow, SetsState, Renames, Appends, Publishes, Unlists}
 use Rattle.act_model.specs.Changes.{made, Retires, Settles, no_doubt, as_not_made, as_made}
 use Rattle.act_model.specs.Outcome.{Outcome, Ends, Same, Acts, stops, refused_at_once, refused, runs, faults_first, faults_between, faults_within, faults_removing, wants_memory, wants_memory_settled}
@@ -24,7 +24,7 @@ ended_fewer moves fewer sub (Appends batch) e = tt
 ended_fewer moves fewer sub (Publishes i store copied) e = λ n move here copies. e n move (sub n move here) copies
 ended_fewer moves fewer sub (Unlists i store to) e = λ n move here copies. e n move (sub n move here) copies
 
-pub fewer_moves : (rule : Rule) (told : Bool) (rows : List RowState) (limbo : List FileState) (pins : FinMap nat_cmp PinState) (moves fewer : FinMap nat_cmp MoveState) (doubt : Option Change) → ((n : ℕ) (move : MoveState) → get fewer n ≡ Some move → get moves n ≡ Some move) → IsSoundOf rule told rows limbo pins moves doubt → IsSoundOf rule told rows limbo pins fewer doubt
+pub fewer_moves : (rule : Rule) (told : Bool) (rows : List RowState) (limbo : List RowFile) (pins : FinMap nat_cmp PinState) (moves fewer : FinMap nat_cmp MoveState) (doubt : Option Change) → ((n : ℕ) (move : MoveState) → get fewer n ≡ Some move → get moves n ≡ Some move) → IsSoundOf rule told rows limbo pins moves doubt → IsSoundOf rule told rows limbo pins fewer doubt
 fewer_moves rule told rows limbo pins moves fewer doubt sub s =
     record {
       few = s.few;
@@ -42,11 +42,11 @@ fewer_moves rule told rows limbo pins moves fewer doubt sub s =
       pinned = s.pinned;
     }
 
-pub with_doubt : (rule : Rule) (told : Bool) (rows : List RowState) (limbo : List FileState) (pins : FinMap nat_cmp PinState) (moves : FinMap nat_cmp MoveState) (doubt : Option Change) (change : Change) → IsSoundOf rule told rows limbo pins moves doubt → MayMake rule told rows limbo change × EndedMove moves change → IsSoundOf rule told rows limbo pins moves (Some change)
+pub with_doubt : (rule : Rule) (told : Bool) (rows : List RowState) (limbo : List RowFile) (pins : FinMap nat_cmp PinState) (moves : FinMap nat_cmp MoveState) (doubt : Option Change) (change : Change) → IsSoundOf rule told rows limbo pins moves doubt → MayMake rule told rows limbo change × EndedMove moves change → IsSoundOf rule told rows limbo pins moves (Some change)
 with_doubt rule told rows limbo pins moves doubt change s may =
     record { few = s.few; keys = s.keys; each_row = s.each_row; bases = s.bases; lines = s.lines; intake = s.intake; doubted = λ c is. let same : change ≡ c = cc in subst (λ d. MayMake rule told rows limbo d × EndedMove moves d) same may; each_move = s.each_move; one_move = s.one_move; each_file = s.each_file; each_unlisted = s.each_unlisted; places = s.places; pinned = s.pinned }
 
-pub no_doubt_sound : (rule : Rule) (told : Bool) (rows : List RowState) (limbo : List FileState) (pins : FinMap nat_cmp PinState) (moves : FinMap nat_cmp MoveState) (doubt : Option Change) → IsSoundOf rule told rows limbo pins moves doubt → IsSoundOf rule told rows limbo pins moves None
+pub no_doubt_sound : (rule : Rule) (told : Bool) (rows : List RowState) (limbo : List RowFile) (pins : FinMap nat_cmp PinState) (moves : FinMap nat_cmp MoveState) (doubt : Option Change) → IsSoundOf rule told rows limbo pins moves doubt → IsSoundOf rule told rows limbo pins moves None
 no_doubt_sound rule told rows limbo pins moves doubt s =
     record { few = s.few; keys = s.keys; each_row = s.each_row; bases = s.bases; lines = s.lines; intake = s.intake; doubted = λ c is. absurd cc; each_move = s.each_move; one_move = s.one_move; each_file = s.each_file; each_unlisted = s.each_unlisted; places = s.places; pinned = s.pinned }
 
@@ -61,7 +61,7 @@ settled_none (as_not_made change is) = refl
 settled_none (as_made change into is retires) = refl
 
 -- an act's own change, where no doubt stands
-pub own_change : (mid new : Machine) (into : List FileState) (change : Change) → IsSound mid → mid.doubt ≡ None → MayMake mid.rule mid.told mid.rows mid.limbo change → EndedMove mid.moves change → Retires mid change into → Same (made into change mid) new → IsSound new
+pub own_change : (mid new : Machine) (into : List RowFile) (change : Change) → IsSound mid → mid.doubt ≡ None → MayMake mid.rule mid.told mid.rows mid.limbo change → EndedMove mid.moves change → Retires mid change into → Same (made into change mid) new → IsSound new
 own_change mid new into change s none may still retires same =
     let changed = made into change mid in
     let after : IsSoundOf changed.rule changed.told changed.rows changed.limbo changed.pins changed.moves None = made_sound mid into change s may retires mid.moves still s.each_move s.one_move in

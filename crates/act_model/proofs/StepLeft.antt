@@ -23,7 +23,7 @@ use Rattle.act_model.specs.Details.{Describes, details_refused}
 use Rattle.act_model.specs.MoveBegin.{Begins, begins, all_run, none_to_make}
 use Rattle.act_model.specs.MoveStep.{GoesOn, copies, has_copied, publishes, retires, again, damaged, no_move, change_of, ends_move}
 use Rattle.act_model.specs.Sweep.{Sweeps}
-use Rattle.act_model.specs.Pin.{Pins, pins}
+use Rattle.act_model.specs.Pin.{MakesPin, pins}
 use Rattle.act_model.specs.OpenPiece.{Opens, refused_open, no_piece, opens, faults_opening, wants_memory_opening}
 use Rattle.act_model.specs.Unpin.{Unpins, refused_unpin, unpins}
 use Rattle.act_model.specs.Step.{Step, MayAsk, store_of, change_by, refuse_by}
@@ -113,7 +113,7 @@ goes_leave {n} {mid} free (retires move into here at covers stays named same) =
 goes_leave free (again move len copied here at grown less part same) = leaves (sym (ap (λ (m : Machine). kept m) same))
 goes_leave free (damaged name at untold same) = leaves (sym (ap (λ (m : Machine). kept m) same))
 
-pins_leave : {who : _} {name : _} {query : _} {act : Act} {mid new : Machine} {reply : Reply} → Pins who name query mid reply new → Leaves act mid new
+pins_leave : {who : _} {name : _} {query : _} {act : Act} {mid new : Machine} {reply : Reply} → MakesPin who name query mid reply new → Leaves act mid new
 pins_leave (pins i row pin pieces a b c d e order f few same) = leaves (sym (ap (λ (m : Machine). kept m) same))
 
 opens_left : {who pin i : ℕ} {old new : Machine} {reply : Reply} (act : Act) → Opens who pin i old reply new → IsLeft act old new
@@ -171,7 +171,7 @@ step_left who (Flush limit) old new answer s ask step =
 step_left who (MoveBegin store now) old new answer s ask step = Acts-left (MoveBegin store now) (λ m. None) (Begins (store_of store) now) (λ m. None) all_go (λ mid answer new free p. begins_leave p) step
 step_left who (MoveStep n) old new answer s ask step = Acts-left (MoveStep n) (λ m. no_move (get m.moves n)) (GoesOn n) (λ m. change_of m (get m.moves n)) (ends_move n) (λ mid answer new free p. goes_leave free p) step
 step_left who Sweep old new answer s ask step = Acts-left Sweep (λ m. None) Sweeps (λ m. None) all_go (λ mid answer new free p. leaves (sym (ap (λ (m : Machine). kept m) p.same))) step
-step_left who (Pin name query) old new answer s ask step = Acts-left (Pin name query) (details_refused name) (Pins who name query) (λ m. None) all_go (λ mid answer new free p. pins_leave p) step
+step_left who (Pin name query) old new answer s ask step = Acts-left (Pin name query) (details_refused name) (MakesPin who name query) (λ m. None) all_go (λ mid answer new free p. pins_leave p) step
 step_left who (OpenPiece pin i) old new answer s ask step = opens_left (OpenPiece pin i) step
 step_left who (Unpin pin) old new answer s ask step = unpins_left (Unpin pin) step
 step_left who (Names from most) old new answer s ask step = ends_left (Names from most) _ old new answer refl step

@@ -23,7 +23,7 @@ use Rattle.act_model.specs.Details.{Describes, details_refused}
 use Rattle.act_model.specs.MoveBegin.{Begins, begins, all_run, none_to_make}
 use Rattle.act_model.specs.MoveStep.{GoesOn, copies, has_copied, publishes, retires, again, damaged, no_move, change_of, ends_move}
 use Rattle.act_model.specs.Sweep.{Sweeps}
-use Rattle.act_model.specs.Pin.{Pins, pins}
+use Rattle.act_model.specs.Pin.{MakesPin, pins}
 use Rattle.act_model.specs.OpenPiece.{Opens, refused_open, no_piece, opens, faults_opening, wants_memory_opening}
 use Rattle.act_model.specs.Unpin.{Unpins, refused_unpin, unpins}
 use Rattle.act_model.specs.Step.{Step, MayAsk, store_of, change_by, refuse_by}
@@ -87,7 +87,7 @@ goes_onward {n} {mid} {new} s (retires move into here at covers stays named same
 goes_onward {mid = mid} {new = new} s (again move len copied here at grown less part same) = onward_same mid new (ap (λ (m : Machine). m.told) same) (ap (λ (m : Machine). m.rule) same) (ap (λ (m : Machine). m.rows) same)
 goes_onward {mid = mid} {new = new} s (damaged name at untold same) = onward_same mid new (ap (λ (m : Machine). m.told) same) (ap (λ (m : Machine). m.rule) same) (ap (λ (m : Machine). m.rows) same)
 
-pins_onward : {who : ℕ} {name : List ℕ} {query : Query} {mid new : Machine} {reply : Reply} → Pins who name query mid reply new → Onward mid new
+pins_onward : {who : ℕ} {name : List ℕ} {query : Query} {mid new : Machine} {reply : Reply} → MakesPin who name query mid reply new → Onward mid new
 pins_onward {mid = mid} {new = new} (pins i row pin pieces a b c d e order f few same) = onward_same mid new (ap (λ (m : Machine). m.told) same) (ap (λ (m : Machine). m.rule) same) (ap (λ (m : Machine). m.rows) same)
 
 opens_onward : {who pin i : ℕ} {old new : Machine} {reply : Reply} → Opens who pin i old reply new → Onward old new
@@ -117,7 +117,7 @@ step_onward who (Flush limit) old new reply s ask step = Acts-onward (λ m. None
 step_onward who (MoveBegin store now) old new reply s ask step = Acts-onward (λ m. None) (Begins (store_of store) now) (λ m. None) all_go (λ mid answer new s free ran. begins_onward ran) s step
 step_onward who (MoveStep n) old new reply s ask step = Acts-onward (λ m. no_move (get m.moves n)) (GoesOn n) (λ m. change_of m (get m.moves n)) (ends_move n) (λ mid answer new s free ran. goes_onward s ran) s step
 step_onward who Sweep old new reply s ask step = Acts-onward (λ m. None) Sweeps (λ m. None) all_go (λ mid answer new s free ran. onward_same mid new (ap (λ (m : Machine). m.told) ran.same) (ap (λ (m : Machine). m.rule) ran.same) (ap (λ (m : Machine). m.rows) ran.same)) s step
-step_onward who (Pin name query) old new reply s ask step = Acts-onward (details_refused name) (Pins who name query) (λ m. None) all_go (λ mid answer new s free ran. pins_onward ran) s step
+step_onward who (Pin name query) old new reply s ask step = Acts-onward (details_refused name) (MakesPin who name query) (λ m. None) all_go (λ mid answer new s free ran. pins_onward ran) s step
 step_onward who (OpenPiece pin i) old new reply s ask step = opens_onward step
 step_onward who (Unpin pin) old new reply s ask step = unpins_onward step
 step_onward who (Names from most) old new reply s ask step = ends_onward _ old new reply (onward_refl old) step

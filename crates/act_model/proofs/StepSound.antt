@@ -11,7 +11,7 @@ use Rattle.act_model.specs.Outcome.{all_go}
 use Rattle.act_model.specs.Pause.{not_running}
 use Rattle.act_model.specs.Resume.{not_paused}
 use Rattle.act_model.specs.Details.{Describes, details_refused}
-use Rattle.act_model.specs.Pin.{Pins}
+use Rattle.act_model.specs.Pin.{MakesPin}
 use Rattle.act_model.specs.Step.{Step, MayAsk, store_of}
 use Rattle.act_model.specs.Sound.{MayMake, EndedMove, IsSound}
 use Rattle.act_model.proofs.StepLaws.{Acts-sound, Ends-sound, same_sound}
@@ -36,7 +36,7 @@ step_sound who (Flush limit) old new reply s ask step = flush_sound limit old ne
 step_sound who (MoveBegin store now) old new reply s ask step = move_begin_sound (store_of store) now old new reply s step
 step_sound who (MoveStep n) old new reply s ask step = move_step_sound n old new reply s step
 step_sound who Sweep old new reply s ask step = sweep_sound old new reply s step
-step_sound who (Pin name query) old new reply s ask step = Acts-sound (details_refused name) (Pins who name query) (λ m. None) all_go all_fewer (λ mid answer new s none free ran. pins_sound s ran) (no_change name) s step
+step_sound who (Pin name query) old new reply s ask step = Acts-sound (details_refused name) (MakesPin who name query) (λ m. None) all_go all_fewer (λ mid answer new s none free ran. pins_sound s ran) (no_change name) s step
 step_sound who (OpenPiece pin i) old new reply s ask step = opens_sound s step
 step_sound who (Unpin pin) old new reply s ask step = unpins_sound s step
 step_sound who (Names from most) old new reply s ask step = Ends-sound _ old new reply s s step

@@ -8,7 +8,7 @@ use Rattle.series_model.specs.Series.{IsRising, end_from, end_of, since, over}
 use Rattle.series_model.proofs.RisingLists.{end_from-append, end_from-ge, RisesFrom-append, since-append, since_all}
 use Rattle.pb_messages.specs.declared.about.State.TheVariants.{Paused}
 use Rattle.act_model.specs.Rows.{RowState, Store, Short, Medium, Long, next_store, deep, tier, durable, accepted, is_running, size_of, window, is_empty}
-use Rattle.act_model.specs.Limbo.{FileState, tier_at}
+use Rattle.act_model.specs.Limbo.{RowFile, tier_at}
 use Rattle.pv_name.specs.Key.{key_of}
 use Rattle.act_model.specs.Whole.{AllFollow}
 use Rattle.act_model.specs.Machine.{Machine, Change, AddsRow, SetsState, Renames, Appends, Publishes, Unlists, held_bytes}
@@ -39,7 +39,7 @@ pub record RowTail (told : Bool) (row new : RowState) : Type 0 where
 pub same_tail : (told : Bool) (row : RowState) → RowSound told row → LinesSound row → RowTail told row row
 same_tail told row s l = record { short = refl; medium = refl; long = refl; name = refl; about = refl; state = refl; base = refl; gain = no_gain refl refl; more = ([], sym (append-nil row.tail)); sound = s; lines = l }
 
-copies_same : (told : Bool) (limbo : List FileState) (row new : RowState) (i : ℕ) (store : Store) (copied : List Sample) → RowTail told row new → CopiesOf limbo row i store copied → CopiesOf limbo new i store copied
+copies_same : (told : Bool) (limbo : List RowFile) (row new : RowState) (i : ℕ) (store : Store) (copied : List Sample) → RowTail told row new → CopiesOf limbo row i store copied → CopiesOf limbo new i store copied
 copies_same told limbo row new i Short copied t c = rw (t.short, t.medium, t.long) c
 copies_same told limbo row new i Medium copied t c = rw (t.medium, t.long) c
 copies_same told limbo row new i Long copied t c = rw t.long c

@@ -10,7 +10,7 @@ use Rattle.series_model.specs.Sampling.{first_cell}
 use Rattle.series_model.specs.Series.{since, end_of}
 use Rattle.series_model.specs.declared.batch.RowSamples.{RowSamples}
 use Rattle.series_model.specs.declared.sample.Sample.{Sample}
-use Rattle.act_model.specs.Limbo.{FileState, files_of, put, tier_at, unlisted, IsThere, PlacesDiffer}
+use Rattle.act_model.specs.Limbo.{RowFile, files_of, put, tier_at, unlisted, IsThere, PlacesDiffer}
 use Rattle.act_model.specs.Machine.{PinState, Change, AddsRow, SetsState, Renames, Appends, Publishes, Unlists, Machine}
 use Rattle.act_model.specs.Rows.{RowState, fresh_row, renamed_row, Store, Short, Long, next_store, tier, with_tier, window, is_empty}
 use Rattle.act_model.specs.Rule.{IsPartition}
@@ -38,11 +38,11 @@ abbrev pub without_held : State → RowState → RowState
 without_held state row = record row { state = state; cell = first_cell }
 
 -- samples leave the tail for store 1
-abbrev pub flushed : Bool → List FileState → List Sample → RowState → RowState
+abbrev pub flushed : Bool → List RowFile → List Sample → RowState → RowState
 flushed told limbo xs row = record row { short = if told then put xs limbo row.short else row.short; tail = since (end_of xs) row.tail }
 
 -- copied samples are listed
-abbrev pub published : Bool → List FileState → Store → List Sample → RowState → RowState
+abbrev pub published : Bool → List RowFile → Store → List Sample → RowState → RowState
 published told limbo store xs row = if told then with_tier row store (put xs limbo (tier row store)) else row
 
 -- what is before a moment leaves a store
@@ -50,7 +50,7 @@ abbrev pub retired : Bool → Store → ℕ → RowState → RowState
 retired told store to row = if told then with_tier row store (since to (tier row store)) else row
 
 -- what a change makes of each row
-abbrev pub changed : Bool → List FileState → Change → ℕ → RowState → RowState
+abbrev pub changed : Bool → List RowFile → Change → ℕ → RowState → RowState
 changed told limbo (AddsRow name about) i row = row
 changed told limbo (SetsState k state) i row = at k (without_held state) i row
 changed told limbo (Renames k name) i row = at k (without_held Retired) i row
@@ -72,11 +72,11 @@ added (Publishes k store copied) rows = []
 added (Unlists k store to) rows = []
 
 -- the rows once the change is made
-abbrev pub changed_rows : Bool → List FileState → Change → List RowState → List RowState
+abbrev pub changed_rows : Bool → List RowFile → Change → List RowState → List RowState
 changed_rows told limbo change rows = each (changed told limbo change) 0 rows ++ added change rows
 
 -- The state once the change is made: its rows, and limbo without what is listed again. `into` are the retired files that go to limbo.
-abbrev pub made : List FileState → Change → Machine → Machine
+abbrev pub made : List RowFile → Change → Machine → Machine
 made into change m =
     record m {
       rows = changed_rows m.told m.limbo change m.rows;
@@ -84,7 +84,7 @@ made into change m =
     }
 
 -- the piece is a listed file of a row's store, all of whose partition is before the moment
-pub record IsRetired (m : Machine) (i : ℕ) (store : Store) (to : ℕ) (f : FileState) : Type 0 where
+pub record IsRetired (m : Machine) (i : ℕ) (store : Store) (to : ℕ) (f : RowFile) : Type 0 where
   pub row : f.row ≡ i
   pub here : i < length m.rows
   pub own_store : f.store ≡ store
@@ -96,12 +96,12 @@ pub record IsRetired (m : Machine) (i : ℕ) (store : Store) (to : ℕ) (f : Fil
   pub some : m.told ≡ true → is_empty f.samples ≡ false
 
 -- each listed piece of a pin stays
-pub record StaysPinned (m : Machine) (i : ℕ) (store : Store) (to : ℕ) (into : List FileState) : Type 0 where
+pub record StaysPinned (m : Machine) (i : ℕ) (store : Store) (to : ℕ) (into : List RowFile) : Type 0 where
   pub stays : (n : ℕ) (p : PinState) → get m.pins n ≡ Some p
-      → AllByRecursion (λ (piece : FileState). piece.row ≡ i → piece.store ≡ store → piece.part.end ≤ to → is_empty (window piece.part (tier_at m.rows i store)) ≡ false → IsThere piece.part (files_of i store into)) p.pieces
+      → AllByRecursion (λ (piece : RowFile). piece.row ≡ i → piece.store ≡ store → piece.part.end ≤ to → is_empty (window piece.part (tier_at m.rows i store)) ≡ false → IsThere piece.part (files_of i store into)) p.pieces
 
 -- which retired files may stay as limbo
-abbrev pub Retires : Machine → Change → List FileState → Type 0
+abbrev pub Retires : Machine → Change → List RowFile → Type 0
 Retires m (AddsRow name about) into = into ≡ []
 Retires m (SetsState k state) into = into ≡ []
 Retires m (Renames k name) into = into ≡ []
@@ -113,5 +113,5 @@ Retires m (Unlists k store to) into = AllByRecursion (IsRetired m k store to) in
 pub data Settles : Machine → Machine → Type 0 where
   no_doubt : {m : Machine} → m.doubt ≡ None → Settles m m
   as_not_made : {m : Machine} (change : Change) → m.doubt ≡ Some change → Settles m (record m { doubt = None })
-  as_made : {m : Machine} (change : Change) (into : List FileState) → m.doubt ≡ Some change → Retires m change into
+  as_made : {m : Machine} (change : Change) (into : List RowFile) → m.doubt ≡ Some change → Retires m change into
       → Settles m (record (made into change m) { doubt = None })

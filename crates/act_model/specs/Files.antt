@@ -9,7 +9,7 @@ use Rattle.pb_wire.specs.declared.payload.PayloadType.{PayloadType}
 use Rattle.act_model.specs.Event.{IsEvent}
 use Rattle.act_model.specs.Rows.{RowState}
 use Rattle.act_model.specs.Rule.{Rule, Header}
-use Rattle.act_model.specs.Limbo.{FileState}
+use Rattle.act_model.specs.Limbo.{RowFile}
 
 -- an event of the type in this year
 pub record IsEventIn (ty : PayloadType) (year : ℤ) (s : Sample) : Type 0 where
@@ -17,7 +17,7 @@ pub record IsEventIn (ty : PayloadType) (year : ℤ) (s : Sample) : Type 0 where
   pub year_is : event.year ≡ year
 
 -- the file's header is of the row's type, and its samples are of the header's year and rise
-pub record IsFileOf (rule : Rule) (row : RowState) (f : FileState) : Type 0 where
+pub record IsFileOf (rule : Rule) (row : RowState) (f : RowFile) : Type 0 where
   pub whole : HasNoNewline f.head
   pub message : List ℕ
   pub means : Means f.head message

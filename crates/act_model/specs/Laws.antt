@@ -13,7 +13,7 @@ use Rattle.act_model.specs.declared.acts.Act.{Act}
 use Rattle.act_model.specs.declared.acts.Act.TheVariants.{Flush, MoveBegin, MoveStep, Details, Pin, OpenPiece}
 use Rattle.act_model.specs.declared.acts.Answer.TheVariants.{Flushed, Begun, Damaged, Retired, Described, Pinned, NotYours, Piece, Memory}
 use Rattle.act_model.specs.declared.details.Details.{Details as Told}
-use Rattle.act_model.specs.Reply.{Reply, Opened}
+use Rattle.act_model.specs.Reply.{Reply, OpenedFile}
 use Rattle.act_model.specs.Rows.{RowState, durable, accepted}
 use Rattle.act_model.specs.Rule.{Rule}
 use Rattle.act_model.specs.Whole.{AllFollow, past, whole}
@@ -237,14 +237,14 @@ abbrev pub PieceOpensAsPinned : Type 0
 PieceOpensAsPinned =
     (n i : ℕ) (pin : PinState) (entries : List Entry) (old mid new : Machine) → old.told ≡ true → IsSound old
     → Runs old entries mid → AllKeep pin.owner n entries → get old.pins n ≡ Some pin
-    → (who : ℕ) (reader : Opened) (name : Name) (head_len len : ℕ)
+    → (who : ℕ) (reader : OpenedFile) (name : Name) (head_len len : ℕ)
     → Step who (OpenPiece n i) mid (Piece reader name head_len len) new
     → IsOpenedAs mid pin i reader name head_len len
 
 -- in one history a pin that is made and a piece that is opened of it later belong together
 abbrev pub PieceIsRead : Type 0
 PieceIsRead =
-    (who n count i head_len len : ℕ) (name told_name : List ℕ) (query : Query) (about : About) (tail : List Sample) (reader : Opened) (file : Name)
+    (who n count i head_len len : ℕ) (name told_name : List ℕ) (query : Query) (about : About) (tail : List Sample) (reader : OpenedFile) (file : Name)
     (xs ys zs : List Entry) (start end : Machine) → start.told ≡ true → IsSound start
     → Runs start (xs ++ (record { who = who; act = Pin name query; answer = Pinned n told_name about count tail }
     ∷ (ys ++ (record { who = who; act = OpenPiece n i; answer = Piece reader file head_len len } ∷ zs)))) end

@@ -10,7 +10,7 @@ use Rattle.partition_names.specs.declared.part.Part.{Part}
 use Rattle.act_model.specs.Rows.{RowState, Store, same_store, tier, window, holds, is_empty}
 
 -- A file of a row, a store and a partition: the line of its header, and its samples. Files of limbo and a pin's pieces are such.
-pub record FileState : Type 0 where
+pub record RowFile : Type 0 where
   pub row : ℕ
   pub store : Store
   pub part : Part
@@ -18,16 +18,16 @@ pub record FileState : Type 0 where
   pub samples : List Sample
 
 -- those of one row and store
-abbrev pub files_of : ℕ → Store → List FileState → List FileState
-files_of i store limbo = filter (λ (f : FileState). f.row == i && same_store f.store store) limbo
+abbrev pub files_of : ℕ → Store → List RowFile → List RowFile
+files_of i store limbo = filter (λ (f : RowFile). f.row == i && same_store f.store store) limbo
 
 -- what comes back before a sample: what limbo has of its partition, where that isn't listed
-abbrev pub revived : List FileState → List Sample → Sample → List Sample
+abbrev pub revived : List RowFile → List Sample → Sample → List Sample
 revived [] listed s = []
 revived (f ∷ rest) listed s = if holds f.part s.t then (if is_empty (window f.part listed) then f.samples else []) else revived rest listed s
 
 -- samples go behind what is listed, each into its partition
-abbrev pub put : List Sample → List FileState → List Sample → List Sample
+abbrev pub put : List Sample → List RowFile → List Sample → List Sample
 put [] limbo listed = listed
 put (s ∷ rest) limbo listed = put rest limbo (listed ++ (revived limbo listed s ++ s ∷ []))
 
@@ -40,36 +40,36 @@ tier_at rows i store = of (slice_get rows i)
     of (Some row) = tier row store
 
 -- those that aren't listed
-abbrev pub unlisted : List RowState → List FileState → List FileState
-unlisted rows limbo = filter (λ (f : FileState). is_empty (window f.part (tier_at rows f.row f.store))) limbo
+abbrev pub unlisted : List RowState → List RowFile → List RowFile
+unlisted rows limbo = filter (λ (f : RowFile). is_empty (window f.part (tier_at rows f.row f.store))) limbo
 
 -- all files of limbo end no later than n
-abbrev pub Covered : ℕ → List FileState → Type 0
-Covered n limbo = AllByRecursion (λ (f : FileState). IsRising f.samples × (end_of f.samples ≤ n)) limbo
+abbrev pub Covered : ℕ → List RowFile → Type 0
+Covered n limbo = AllByRecursion (λ (f : RowFile). IsRising f.samples × (end_of f.samples ≤ n)) limbo
 
 -- a file of limbo is of its partition
-pub record IsOfPart (f : FileState) : Type 0 where
+pub record IsOfPart (f : RowFile) : Type 0 where
   pub from : RisesFrom f.part.start f.samples
   pub to : end_from f.part.start f.samples ≤ f.part.end
 
 -- a sample in the partition of a file of limbo is later than the file
-abbrev pub Fits : List FileState → Sample → Type 0
-Fits limbo s = AllByRecursion (λ (f : FileState). holds f.part s.t ≡ true → end_from f.part.start f.samples ≤ s.t) limbo
+abbrev pub Fits : List RowFile → Sample → Type 0
+Fits limbo s = AllByRecursion (λ (f : RowFile). holds f.part s.t ≡ true → end_from f.part.start f.samples ≤ s.t) limbo
 
 -- one of the files is of this partition
-abbrev pub IsThere : Part → List FileState → Type 0
+abbrev pub IsThere : Part → List RowFile → Type 0
 IsThere p [] = ⊥
 IsThere p (f ∷ limbo) = (f.part ≡ p) ⊎ IsThere p limbo
 
 -- all files of the partition begin with these samples
-abbrev pub Extend : List Sample → Part → List FileState → Type 0
-Extend piece p limbo = AllByRecursion (λ (f : FileState). f.part ≡ p → IsPrefix piece f.samples) limbo
+abbrev pub Extend : List Sample → Part → List RowFile → Type 0
+Extend piece p limbo = AllByRecursion (λ (f : RowFile). f.part ≡ p → IsPrefix piece f.samples) limbo
 
 -- not of the same row, store and partition
-abbrev pub IsElsewhere : FileState → FileState → Type 0
+abbrev pub IsElsewhere : RowFile → RowFile → Type 0
 IsElsewhere f g = g.row ≡ f.row → g.store ≡ f.store → g.part ≡ f.part → ⊥
 
 -- no two files have one place
-abbrev pub PlacesDiffer : List FileState → Type 0
+abbrev pub PlacesDiffer : List RowFile → Type 0
 PlacesDiffer [] = Unit {0}
 PlacesDiffer (f ∷ limbo) = AllByRecursion (IsElsewhere f) limbo × PlacesDiffer limbo

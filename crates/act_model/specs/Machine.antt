@@ -9,14 +9,14 @@ use Rattle.pb_messages.specs.declared.about.State.{State}
 use Rattle.pv_name.specs.Key.{key_of}
 use Rattle.series_model.specs.declared.batch.RowSamples.{RowSamples}
 use Rattle.series_model.specs.declared.sample.Sample.{Sample}
-use Rattle.act_model.specs.Limbo.{FileState}
+use Rattle.act_model.specs.Limbo.{RowFile}
 use Rattle.act_model.specs.Rows.{RowState, Store, size_of}
 use Rattle.act_model.specs.Rule.{Rule}
 
 -- a pin: whose it is, and the files that it names, as they were when it was made
 pub record PinState : Type 0 where
   pub owner : ℕ
-  pub pieces : List FileState
+  pub pieces : List RowFile
 
 -- a move copies, then has copied, then has its copies listed
 pub data Stage : Type 0 where
@@ -48,7 +48,7 @@ pub data Change : Type 0 where
 pub record Machine : Type 0 where
   pub rule : Rule
   pub rows : List RowState
-  pub limbo : List FileState
+  pub limbo : List RowFile
   pub pins : FinMap nat_cmp PinState
   pub moves : FinMap nat_cmp MoveState
   pub doubt : Option Change

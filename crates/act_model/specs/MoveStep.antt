@@ -10,7 +10,7 @@ use Rattle.partition_names.specs.declared.part.Part.{Part}
 use Rattle.series_model.specs.Series.{since, before, end_of, end_from}
 use Rattle.series_model.specs.declared.sample.Sample.{Sample}
 use Rattle.act_model.specs.Changes.{Retires, made}
-use Rattle.act_model.specs.Limbo.{FileState, files_of}
+use Rattle.act_model.specs.Limbo.{RowFile, files_of}
 use Rattle.act_model.specs.Machine.{Machine, MoveState, Stage, Copies, HasCopied, HasPublished, Change, Publishes, Unlists}
 use Rattle.act_model.specs.MoveBegin.{with_move}
 use Rattle.act_model.specs.Outcome.{Acts, Same}
@@ -21,7 +21,7 @@ use Rattle.act_model.specs.Sweep.{IsPinned}
 use Rattle.act_model.specs.declared.acts.Answer.TheVariants.{NoMove, Damaged, Copying, Copied, Published, Retired, Again}
 
 -- in the partition of a file of limbo only what is later than the file is copied
-abbrev pub is_later : List FileState → Sample → Bool
+abbrev pub is_later : List RowFile → Sample → Bool
 is_later [] s = true
 is_later (f ∷ limbo) s = (if holds f.part s.t then nat_le (end_from f.part.start f.samples) s.t else true) && is_later limbo s
 
@@ -95,7 +95,7 @@ pub data GoesOn (n : ℕ) : Machine → Reply → Machine → Type 0 where
       → Same (with_move n (moved move HasPublished move.copied) (made [] (Publishes move.row move.store move.copied) mid)) new
       → GoesOn n mid Published new
   -- the parts leave their store, and the move has ended; the files that go to limbo are pinned
-  retires : {mid new : Machine} (move : MoveState) (into : List FileState) → get mid.moves n ≡ Some move → move.stage ≡ HasPublished
+  retires : {mid new : Machine} (move : MoveState) (into : List RowFile) → get mid.moves n ≡ Some move → move.stage ≡ HasPublished
       → is_covered mid move ≡ true → Retires mid (Unlists move.row move.store move.to) into
       → (mid.told ≡ true → AllByRecursion (IsPinned mid) into)
       → Same (without_move n (made into (Unlists move.row move.store move.to) mid)) new → GoesOn n mid (Retired move.parts) new

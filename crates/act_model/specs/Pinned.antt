@@ -11,9 +11,9 @@ use Rattle.pb_messages.specs.declared.about.About.{About}
 use Rattle.disk_model.specs.Files.{Name}
 use Rattle.act_model.specs.Rows.{RowState, accepted}
 use Rattle.act_model.specs.declared.acts.Act.TheVariants.{Unpin}
-use Rattle.act_model.specs.Reply.{Opened}
+use Rattle.act_model.specs.Reply.{OpenedFile}
 use Rattle.act_model.specs.Files.{IsFileOf}
-use Rattle.act_model.specs.Limbo.{FileState}
+use Rattle.act_model.specs.Limbo.{RowFile}
 use Rattle.act_model.specs.Machine.{Machine, PinState, find_row}
 use Rattle.act_model.specs.Rule.{Rule}
 use Rattle.act_model.specs.OpenPiece.{Shows, IsNamed}
@@ -35,8 +35,8 @@ pub record PinStands (n : ℕ) (pin : PinState) (m : Machine) : Type 0 where
   pub pieces : m.told ≡ true → AllByRecursion (PieceSound m.rule m.rows m.limbo) pin.pieces
 
 -- the reader shows just a pin's piece, by the name of its file, and has no fault yet
-pub record IsOpenedAs (m : Machine) (pin : PinState) (i : ℕ) (reader : Opened) (name : Name) (head_len len : ℕ) : Type 0 where
-  pub piece : FileState
+pub record IsOpenedAs (m : Machine) (pin : PinState) (i : ℕ) (reader : OpenedFile) (name : Name) (head_len len : ℕ) : Type 0 where
+  pub piece : RowFile
   pub at : slice_get pin.pieces i ≡ Some piece
   pub shows : Shows piece reader head_len len
   pub named : IsNamed m piece name
@@ -62,7 +62,7 @@ pub record IsPinMade (who : ℕ) (name : List ℕ) (query : Query) (n : ℕ) (to
   pub gives : m.told ≡ true → answer (over (over_pieces [] pin.pieces) tail) query ≡ answer (whole accepted m.rows i) query
 
 -- The pin that was made and the piece that was opened later: each by the state in which its act ended or began, under this rule.
-pub record IsRead (rule : Rule) (who : ℕ) (name : List ℕ) (query : Query) (n : ℕ) (told_name : List ℕ) (about : About) (count : ℕ) (tail : List Sample) (i : ℕ) (reader : Opened) (file : Name) (head_len len : ℕ) : Type 0 where
+pub record IsRead (rule : Rule) (who : ℕ) (name : List ℕ) (query : Query) (n : ℕ) (told_name : List ℕ) (about : About) (count : ℕ) (tail : List Sample) (i : ℕ) (reader : OpenedFile) (file : Name) (head_len len : ℕ) : Type 0 where
   pub pinned : Machine
   pub opening : Machine
   pub told : pinned.told ≡ true

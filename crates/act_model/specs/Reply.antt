@@ -5,13 +5,13 @@ use Rattle.act_model.specs.declared.acts.Answer.{Answer}
 use Rattle.act_model.specs.declared.acts.Answer.TheVariants.{NameTaken, KeyTaken, CatalogueFull, Registered, NoSuchVariable, NotRunning, NotPaused, Done, RenameNotPaused, NotDurable, Renamed, Dropped, IntakeFull, Kept, Held, NoRow, TickNone, NotDue, TickKept, Flushed, Begun, Busy, Nothing, NoMove, Damaged, Copying, Copied, Published, Retired, Again, Swept, Pinned, NoPin, NotYours, NoPiece, Piece, Unpinned, NamesAre, Described, DoorsLeft, DiskFault, Memory}
 
 -- an opened file as a history keeps it
-pub record Opened : Type 0 where
+pub record OpenedFile : Type 0 where
   pub tells : Bool
   pub bytes : List ℕ
   pub faults : ℕ
 
 abbrev pub Reply : Type 0
-Reply = Answer Opened
+Reply = Answer OpenedFile
 
 -- the answer with what is kept of its reader, if it has one
 abbrev pub with_reader : {R S : Type 0} → (R → S) → Answer R → Answer S

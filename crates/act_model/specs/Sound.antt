@@ -16,7 +16,7 @@ use Rattle.act_model.specs.Event.{IsEvent}
 use Rattle.act_model.specs.Rows.{RowState, Store, Long, next_store, tier, deep, durable, accepted, window, is_empty}
 use Rattle.act_model.specs.Whole.{whole}
 use Rattle.act_model.specs.Rule.{Rule, IsPartition, IsPartitionEnd}
-use Rattle.act_model.specs.Limbo.{FileState, files_of, tier_at, Fits, IsOfPart, IsThere, Extend, PlacesDiffer}
+use Rattle.act_model.specs.Limbo.{RowFile, files_of, tier_at, Fits, IsOfPart, IsThere, Extend, PlacesDiffer}
 use Rattle.pv_name.specs.Key.{key_of}
 use Rattle.act_model.specs.Machine.{Machine, PinState, MoveState, Stage, Copies, HasCopied, HasPublished, Change, AddsRow, SetsState, Renames, Appends, Publishes, Unlists, held_bytes}
 use Rattle.act_model.specs.Changes.{of_row}
@@ -56,14 +56,14 @@ pub record LinesSound (row : RowState) : Type 0 where
   pub held : IsHeld row.about.ty row.cell.held
 
 -- What a move has copied: from the destination's end on, and without a gap but for what the stores below the destination cover.
-pub record IsCopied (limbo : List FileState) (below dest source copied : List Sample) : Type 0 where
+pub record IsCopied (limbo : List RowFile) (below dest source copied : List Sample) : Type 0 where
   pub rises : RisesFrom (end_of dest) copied
   pub front : since (end_of below) copied ≡ since (max (end_of below) (end_of dest)) (before (end_from (end_of dest) copied) source)
   pub fits : AllByRecursion (Fits limbo) copied
   pub until : end_from (end_of dest) copied ≤ max (max (end_of below) (end_of dest)) (end_of source)
 
 -- a move's copies, of this row and store
-abbrev pub CopiesOf : List FileState → RowState → ℕ → Store → List Sample → Type 0
+abbrev pub CopiesOf : List RowFile → RowState → ℕ → Store → List Sample → Type 0
 CopiesOf limbo row i store copied = IsCopied (files_of i (next_store store) limbo) (deep row (next_store store)) (tier row (next_store store)) (tier row store) copied
 
 -- whether its copies aren't listed yet
@@ -73,7 +73,7 @@ is_copying HasCopied = true
 is_copying HasPublished = false
 
 -- A running move is of a row that is there and up to the end of a partition, and its copies that aren't listed yet are right.
-pub record MoveSound (rule : Rule) (told : Bool) (rows : List RowState) (limbo : List FileState) (move : MoveState) : Type 0 where
+pub record MoveSound (rule : Rule) (told : Bool) (rows : List RowState) (limbo : List RowFile) (move : MoveState) : Type 0 where
   pub here : move.row < length rows
   pub moves : move.store ≢ Long
   pub edge : told ≡ true → IsPartitionEnd rule move.store move.to
@@ -100,7 +100,7 @@ pub record MayRename (rows : List RowState) (i : ℕ) (name : List ℕ) : Type 0
   pub none : (row : RowState) → slice_get rows i ≡ Some row → row.tail ≡ []
 
 -- the copies are right
-pub record MayPublish (told : Bool) (rows : List RowState) (limbo : List FileState) (i : ℕ) (store : Store) (copied : List Sample) : Type 0 where
+pub record MayPublish (told : Bool) (rows : List RowState) (limbo : List RowFile) (i : ℕ) (store : Store) (copied : List Sample) : Type 0 where
   pub here : i < length rows
   pub moves : store ≢ Long
   pub front : (row : RowState) → slice_get rows i ≡ Some row → told ≡ true → CopiesOf limbo row i store copied
@@ -114,7 +114,7 @@ pub record MayUnlist (rule : Rule) (told : Bool) (rows : List RowState) (i : ℕ
       → end_of (before to (tier row store)) ≤ end_of (tier row (next_store store))
 
 -- when a change may be made: as an act's own, or as a doubt that is settled so
-abbrev pub MayMake : Rule → Bool → List RowState → List FileState → Change → Type 0
+abbrev pub MayMake : Rule → Bool → List RowState → List RowFile → Change → Type 0
 MayMake rule told rows limbo (AddsRow name about) = MayAdd rows name
 MayMake rule told rows limbo (SetsState i state) = IsLive rows i
 MayMake rule told rows limbo (Renames i name) = MayRename rows i name
@@ -132,7 +132,7 @@ EndedMove moves (Publishes i store copied) = IsStill moves i
 EndedMove moves (Unlists i store to) = IsStill moves i
 
 -- A file of limbo: of its partition, and covered by the stores below its own.
-pub record LimboSound (rule : Rule) (told : Bool) (rows : List RowState) (f : FileState) : Type 0 where
+pub record LimboSound (rule : Rule) (told : Bool) (rows : List RowState) (f : RowFile) : Type 0 where
   pub here : f.row < length rows
   pub moves : f.store ≢ Long
   pub partition : told ≡ true → IsPartition rule f.store f.part
@@ -141,26 +141,26 @@ pub record LimboSound (rule : Rule) (told : Bool) (rows : List RowState) (f : Fi
   pub covered : (row : RowState) → slice_get rows f.row ≡ Some row → told ≡ true → end_of f.samples ≤ end_of (deep row f.store)
 
 -- it isn't listed
-abbrev pub IsUnlisted : List RowState → FileState → Type 0
+abbrev pub IsUnlisted : List RowState → RowFile → Type 0
 IsUnlisted rows f = is_empty (window f.part (tier_at rows f.row f.store)) ≡ true
 
 -- the piece is the front of what is listed of its partition, or nothing is listed and its file is in limbo
-abbrev pub Backed : List FileState → RowState → FileState → Type 0
+abbrev pub Backed : List RowFile → RowState → RowFile → Type 0
 Backed limbo row piece = IsPrefix piece.samples (window piece.part (tier row piece.store)) ⊎ ((is_empty (window piece.part (tier row piece.store)) ≡ true) × IsThere piece.part (files_of piece.row piece.store limbo))
 
 -- A pin's piece: it stands in its store or in limbo, and every file of its place in limbo begins with it.
-pub record PieceSound (rule : Rule) (rows : List RowState) (limbo : List FileState) (piece : FileState) : Type 0 where
+pub record PieceSound (rule : Rule) (rows : List RowState) (limbo : List RowFile) (piece : RowFile) : Type 0 where
   pub here : piece.row < length rows
   pub partition : IsPartition rule piece.store piece.part
   pub extend : Extend piece.samples piece.part (files_of piece.row piece.store limbo)
   pub backed : (row : RowState) → slice_get rows piece.row ≡ Some row → Backed limbo row piece
 
 -- each pin's pieces are there
-abbrev pub PinsSound : Rule → List RowState → List FileState → FinMap nat_cmp PinState → Type 0
+abbrev pub PinsSound : Rule → List RowState → List RowFile → FinMap nat_cmp PinState → Type 0
 PinsSound rule rows limbo pins = (n : ℕ) (pin : PinState) → get pins n ≡ Some pin → AllByRecursion (PieceSound rule rows limbo) pin.pieces
 
 -- What every step keeps, of these members alone, so that a state with another count of faults is as sound.
-pub record IsSoundOf (rule : Rule) (told : Bool) (rows : List RowState) (limbo : List FileState) (pins : FinMap nat_cmp PinState) (moves : FinMap nat_cmp MoveState) (doubt : Option Change) : Type 0 where
+pub record IsSoundOf (rule : Rule) (told : Bool) (rows : List RowState) (limbo : List RowFile) (pins : FinMap nat_cmp PinState) (moves : FinMap nat_cmp MoveState) (doubt : Option Change) : Type 0 where
   pub few : length rows ≤ most_rows
   pub keys : (i j : ℕ) (a b : RowState) → slice_get rows i ≡ Some a → slice_get rows j ≡ Some b → key_of a.name ≡ key_of b.name → i ≡ j
   pub each_row : (i : ℕ) (row : RowState) → slice_get rows i ≡ Some row → RowSound told row

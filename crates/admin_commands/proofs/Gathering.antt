@@ -11,7 +11,7 @@ use Rattle.http_front.specs.declared.request.WebCall.TheVariants.{AllPvs}
 use Rattle.admin_commands.specs.declared.reply.WebReply.TheVariants.{Success}
 use Rattle.admin_commands.specs.declared.end.NoReply.TheVariants as stopped
 use Rattle.admin_commands.specs.Bodies.{names_text}
-use Rattle.admin_commands.specs.Next.{Next, asks, names_from, page}
+use Rattle.admin_commands.specs.Next.{NextStep, asks, names_from, page}
 use Rattle.admin_commands.specs.Serving.{Anyhow, Comes, Follows, IsTold, Proceeds, answers_of}
 use Rattle.admin_commands.proofs.Proceeding.{follows_more}
 
@@ -30,7 +30,7 @@ module _ {A : Type 0} (number : A → ℕ) (between : A → List Entry → A →
   module _ (joined : (a b c : A) (xs ys : List Entry) → between a xs b → between b ys c → between a (xs ++ ys) c)
       (number_stays : (a b : A) (entries : List Entry) → between a entries b → number b ≡ number a) where
     -- one act more, whatever it was answered
-    one_more : (goes_on : Next → Type 0) (start now new : A) (names : List (List ℕ)) (from : ℕ) (reply : Reply) (g : Gathered number between start names from now) → MadeOne number between now (Names from page) reply new → goes_on (names_from 0 [] (answers_of g.done ++ reply ∷ [])) → Proceeds number between AllPvs start goes_on new
+    one_more : (goes_on : NextStep → Type 0) (start now new : A) (names : List (List ℕ)) (from : ℕ) (reply : Reply) (g : Gathered number between start names from now) → MadeOne number between now (Names from page) reply new → goes_on (names_from 0 [] (answers_of g.done ++ reply ∷ [])) → Proceeds number between AllPvs start goes_on new
     one_more goes_on start now new names from reply g made goes =
         let d : Done = record { act = Names from page; answer = reply } in
         record {

@@ -7,11 +7,11 @@ use Rattle.admin_commands.specs.declared.refusal.Refusal.{Refusal}
 use Rattle.admin_commands.specs.declared.refusal.Refusal.TheVariants.{BadHead, HeadTooLong, BadMethod, BadPath, BadParameter, NoSuchVariable, NameTaken, KeyTaken, CatalogueFull, NotRunning, NotPaused, RenameNotPaused, NotDurable, DiskFault, Spent}
 
 -- A row of the table.
-pub record Row : Type 0 where
+pub record RefusalRow : Type 0 where
   pub status : ℕ
   pub word : List ℕ
 
-abbrev pub row_of : Refusal → Row
+abbrev pub row_of : Refusal → RefusalRow
 row_of BadHead = record { status = 400; word = codes "E27" }
 row_of (BadParameter which) = record { status = 400; word = codes "E31" }
 row_of BadPath = record { status = 404; word = codes "E30" }

@@ -14,7 +14,7 @@ use Rattle.admin_commands.specs.declared.end.NoReply.{NoReply}
 use Rattle.admin_commands.specs.declared.end.NoReply.TheVariants as stopped
 use Rattle.admin_commands.specs.declared.end.AdminErr.{AdminErr}
 use Rattle.admin_commands.specs.declared.end.AdminErr.TheVariants.{SinkFault, Spent, Memory}
-use Rattle.admin_commands.specs.Next.{Next, asks, tells, next}
+use Rattle.admin_commands.specs.Next.{NextStep, asks, tells, next}
 use Rattle.admin_commands.specs.Replies.{reply_text}
 
 abbrev pub answers_of : List Done → List Reply
@@ -26,25 +26,25 @@ Follows call seen [] = Unit {0}
 Follows call seen (d ∷ done) = (next call seen ≡ asks d.act) × Follows call (seen ++ d.answer ∷ []) done
 
 -- Just these acts were made under the actor's number: the first ones that the call asks for. Behind them it goes on so.
-pub record Proceeds {A : Type 0} (number : A → ℕ) (between : A → List Entry → A → Type 0) (call : WebCall) (old : A) (goes_on : Next → Type 0) (new : A) : Type 0 where
+pub record Proceeds {A : Type 0} (number : A → ℕ) (between : A → List Entry → A → Type 0) (call : WebCall) (old : A) (goes_on : NextStep → Type 0) (new : A) : Type 0 where
   pub done : List Done
   pub made : Made number between old done new
   pub follows : Follows call [] done
   pub goes : goes_on (next call (answers_of done))
 
 -- the reply is told
-abbrev pub IsTold : WebReply → Next → Type 0
+abbrev pub IsTold : WebReply → NextStep → Type 0
 IsTold reply n = n ≡ tells reply
 
 -- one more act is asked for
-abbrev pub AsksMore : Next → Type 0
+abbrev pub AsksMore : NextStep → Type 0
 AsksMore n = (act : Act) × (n ≡ asks act)
 
-abbrev pub Anyhow : Next → Type 0
+abbrev pub Anyhow : NextStep → Type 0
 Anyhow n = Unit {0}
 
 -- what is made of an answer: the reply, or nothing, since memory ran out
-abbrev pub Tells : Next → Result WebReply NoReply → Type 0
+abbrev pub Tells : NextStep → Result WebReply NoReply → Type 0
 Tells n (Ok reply) = n ≡ tells reply
 Tells n (Err stopped.Spent) = ⊥
 Tells n (Err stopped.Memory) = Unit {0}

@@ -2,10 +2,10 @@
 use Rattle.std.proofs.Common.{◌≡◌, ℕ, List, [], ◌∷◌, ◌++◌, sym, ◌∙◌, ap, subst}
 use Rattle.std.proofs.lemmas.List.{append-nil}
 use mathlib.Core.List.{IsPrefix}
-use Rattle.turn_rooms.specs.declared.room.Entry.{Entry as RoomEntry}
+use Rattle.turn_rooms.specs.declared.room.RoomEntry.{RoomEntry}
 use Rattle.turn_rooms.specs.declared.rooms.Pass.{Pass}
 use Rattle.turn_rooms.specs.declared.rooms.Rooms.{Rooms}
-use Rattle.turn_rooms.specs.declared.view.Seen.{Seen}
+use Rattle.turn_rooms.specs.declared.view.RoomSeen.{RoomSeen}
 use Rattle.turn_rooms.specs.Histories.{Legal, end_of}
 use Rattle.turn_rooms.specs.Passes.{IsPassOf, Meets, Parts, opened, known}
 use Rattle.turn_rooms.specs.Passes.{Goes as RoomGoes}
@@ -44,7 +44,7 @@ module _ {S B : Type 0} (steps : S → ℕ → ℕ → Act → B → S → Type 
   pub acts_after_parted : ((s : S) (m : Machine) → stands s m → IsSound m) → (rooms : Rooms S Act B) (old new note : Pass S Act B) → Parts steps rooms old new note
       → ActsAfter steps stands reply rooms old new × ActsAfter steps stands reply rooms old note
   acts_after_parted sound rooms old new note made =
-      let same : known new ≡ known old = ap (λ (s : Seen S Act B). s.known) made.same_seen in (
+      let same : known new ≡ known old = ap (λ (s : RoomSeen S Act B). s.known) made.same_seen in (
         acts_after sound rooms old new made.rooms ([], append-nil (known old) ∙ sym same),
         acts_after sound rooms old note made.note_rooms ([], append-nil (known old) ∙ sym made.note_knows),
       )

@@ -2,10 +2,10 @@
 use Rattle.std.proofs.Common.{◌≡◌, ℕ, ◌+◌, List, [], ◌∷◌, ◌++◌, refl, sym, ◌∙◌, ap, subst, append_assoc}
 use Rattle.std.specs.Prelude.{Contains}
 use Rattle.std.proofs.lemmas.List.{append-nil}
-use Rattle.turn_rooms.specs.declared.room.Entry.{Entry as RoomEntry}
+use Rattle.turn_rooms.specs.declared.room.RoomEntry.{RoomEntry}
 use Rattle.turn_rooms.specs.declared.rooms.Pass.{Pass}
 use Rattle.turn_rooms.specs.declared.rooms.Rooms.{Rooms}
-use Rattle.turn_rooms.specs.declared.view.Standing.{Standing}
+use Rattle.turn_rooms.specs.declared.view.SeatNumbers.{SeatNumbers}
 use Rattle.turn_rooms.specs.Histories.{LegalFrom, Legal, end_of}
 use Rattle.turn_rooms.specs.Passes.{IsPassOf, opened, known, taken}
 use Rattle.turn_rooms.specs.Passes.{Goes as RoomGoes}
@@ -88,7 +88,7 @@ module _ {S B : Type 0} (steps : S → ℕ → ℕ → Act → B → S → Type 
     same_number = q.same_number ∙ p.same_number;
     same_standing = q.same_standing ∙ p.same_standing;
     goes_on = prefix_trans (known a) (known b) (known c) p.goes_on q.goes_on;
-    others = λ k c other. q.others k (subst (λ (n : Standing). Contains n.stands k) (sym p.same_standing) c) (λ is. other (is ∙ p.same_number)) ∙ p.others k c other;
+    others = λ k c other. q.others k (subst (λ (n : SeatNumbers). Contains n.stands k) (sym p.same_standing) c) (λ is. other (is ∙ p.same_number)) ∙ p.others k c other;
     more_taken = prefix_trans (taken a) (taken b) (taken c) p.more_taken q.more_taken;
   }
 

@@ -1,6 +1,6 @@
 -- The acts of a room as entries and steps of the machine.
 use Rattle.std.specs.Prelude.{ℕ, List, Bool, map}
-use Rattle.turn_rooms.specs.declared.room.Entry.{Entry as RoomEntry}
+use Rattle.turn_rooms.specs.declared.room.RoomEntry.{RoomEntry}
 use Rattle.act_model.specs.declared.acts.Act.{Act}
 use Rattle.act_model.specs.declared.acts.Answer.{Answer}
 use Rattle.act_model.specs.Alone.{Applied}

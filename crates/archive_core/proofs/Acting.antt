@@ -10,7 +10,7 @@ use Rattle.disk_model.specs.Past.{Passes, MayLeave}
 use Rattle.act_model.specs.Changes.{made}
 use Rattle.partition_names.specs.declared.granularity.Granularity.{Granularity}
 use Rattle.std.specs.Prelude.{IsTrue, slice_get, ◌&&◌, OnOk}
-use Rattle.tier_store.specs.Change.{Has, HoldsEither, IsOpen, Call, Changes, Costs, EndsFrom, HoldsBy}
+use Rattle.tier_store.specs.Change.{Has, HoldsEither, IsOpen, StoreCall, Changes, Costs, EndsFrom, HoldsBy}
 use Rattle.tier_store.specs.Stores.{Stores, tier}
 use Rattle.tier_store.proofs.Holding.{has_left, open_left}
 use Rattle.archive_core.specs.Ends.{LeavesBetween, ChangesTo, HoldsChanged, LeavesWithin, LeavesByAct, AskEnds, is_spent, is_failed, is_answered, Steps, SettlesTo, StandsStill, disk_reply, HoldsMachine}
@@ -61,7 +61,7 @@ use Rattle.act_model.proofs.Onward.{prefix_trans}
 use Rattle.act_model.proofs.StepOnward.{crash_within, left_on}
 use Rattle.act_model.proofs.WholeLaws.{wholes_between, wholes_on}
 use Rattle.archive_core.specs.Running.{HoldsBetween, LeftIn, MakesAll, RunsOn, asked}
-use Rattle.turn_rooms.specs.declared.room.Entry.{Entry as RoomEntry}
+use Rattle.turn_rooms.specs.declared.room.RoomEntry.{RoomEntry}
 
 -- What a crash between acts leaves, and one while a doubt is settled.
 
@@ -106,15 +106,15 @@ crash_leaves tells p m image told s left = left_of tells p m told s image left s
 -- THE CALL
 
 -- how a call ended of what the stores had
-pub record Called {A E : Type 0} (tells : Bool) (call : Call A E) (old new : Seen) (held : Stores) (end : End A E) : Type 0 where
+pub record Called {A E : Type 0} (tells : Bool) (call : StoreCall A E) (old new : Seen) (held : Stores) (end : End A E) : Type 0 where
   pub ends : EndsFrom tells call new held end
   pub any_moment : IsTrue tells → Passes (HoldsBy (granularities old.manifests) call.by held) old.past new.past
   pub costs : Costs old new end
 
-pub called : {A E : Type 0} (tells : Bool) (call : Call A E) (old new : Seen) (held : Stores) (end : End A E) → Has tells old held → Changes tells call old new end → Called tells call old new held end
+pub called : {A E : Type 0} (tells : Bool) (call : StoreCall A E) (old new : Seen) (held : Stores) (end : End A E) → Has tells old held → Changes tells call old new end → Called tells call old new held end
 called {A} {E} tells call old new held end has changes = record { ends = changes.ends held has; any_moment = λ told. changes.any_moment told held has; costs = changes.costs }
 
-pub called_given : {A E : Type 0} (tells : Bool) (call : Call A E) (old new : Seen) (held : Stores) (end : End A E) (Is : Stores → Type 0) → Has tells old held → Is held → ChangesGiven Is tells call old new end → Called tells call old new held end
+pub called_given : {A E : Type 0} (tells : Bool) (call : StoreCall A E) (old new : Seen) (held : Stores) (end : End A E) (Is : Stores → Type 0) → Has tells old held → Is held → ChangesGiven Is tells call old new end → Called tells call old new held end
 called_given {A} {E} tells call old new held end Is has is changes = record { ends = changes.ends held has is; any_moment = λ told. changes.any_moment told held has is; costs = changes.costs }
 
 -- of each granularity that the place has, the files are of it
@@ -132,7 +132,7 @@ filed_each gs ms s same_g each i g here =
     subst (λ (u : Granularity). AreFiled u (tier i s)) n.2 (each i n.0 n.1)
 
 -- A change of the machine is what the call makes of the stores. With the change in doubt the archive keeps this of it, and this of each row.
-pub record Makes {A E : Type 0} (tells : Bool) (call : Call A E) (c : Change) (d : Doubt) (kept : List RowMemory) (p : Parts) (m : Machine) (held : Stores) : Type 0 where
+pub record Makes {A E : Type 0} (tells : Bool) (call : StoreCall A E) (c : Change) (d : Doubt) (kept : List RowMemory) (p : Parts) (m : Machine) (held : Stores) : Type 0 where
   pub sound : IsSound (record m { doubt = Some c })
   pub rows : AreRowsOf p.at.catalogue.rows kept p.tails m.rows
   pub is : IsDoubtOf (Some d) (Some c)
@@ -149,7 +149,7 @@ rests_again tells p m r new same_g shown has = let s = r.stands in doubt_stands 
 pub none_kept : (tells : Bool) (p : Parts) (m : Machine) → Rests tells p m → p.doubt ≡ None
 none_kept tells p m r = no_own p.doubt (subst (λ (o : Option Change). IsDoubtOf p.doubt o) r.settled r.stands.doubt)
 
-module _ {A E : Type 0} (tells : Bool) (call : Call A E) (c : Change) (d : Doubt) (kept : List RowMemory) (p : Parts) (m : Machine) (r : Rests tells p m) (makes : Makes tells call c d kept p m r.stands.store.before)
+module _ {A E : Type 0} (tells : Bool) (call : StoreCall A E) (c : Change) (d : Doubt) (kept : List RowMemory) (p : Parts) (m : Machine) (r : Rests tells p m) (makes : Makes tells call c d kept p m r.stands.store.before)
     (go : (new : Seen) (after : Stores) → StoresGrow m.moves r.stands.store.before after → StoresGo tells (beside new p.limbo) m.told m.rows m.moves r.stands.store.before after c) (new : Seen) (frame : Frame tells (beside p.at p.limbo) (beside new p.limbo)) where
   abbrev held : Stores
   held = r.stands.store.before

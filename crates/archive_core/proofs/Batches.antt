@@ -12,7 +12,7 @@ use Rattle.moves.specs.declared.table.Running.{Running}
 use Rattle.tier_store.specs.Pinned.{SeenAll}
 use Rattle.tier_store.specs.Seen.{IsSettled, Seen}
 use Rattle.tier_store.specs.Strays.{IsKnownName, IsStray, LeavesNoStray, MakesNoStray, targets}
-use Rattle.tier_store.specs.declared.removing.Swept.{Swept}
+use Rattle.tier_store.specs.declared.removing.StoreSwept.{StoreSwept}
 use Rattle.tier_store.proofs.Strays.{fronts_strays, no_strays}
 use Rattle.act_model.specs.Reply.{reply_of}
 use Rattle.archive_core.specs.Ends.{disk_reply}
@@ -61,7 +61,7 @@ use Rattle.archive_core.proofs.MoveChoice.{place_end}
 use Rattle.archive_core.proofs.Lists.{element, get_front, same_or_not, take_whole}
 use Rattle.archive_core.proofs.Windows.{kept_to, taken_durable, taken_later, kept_untold, kept_empty}
 use Rattle.act_model.proofs.Rows.{each_forward}
-use Rattle.etl_mover.specs.Move.{MoveState as Moving}
+use Rattle.etl_mover.specs.Move.{Moving}
 use Rattle.moves.specs.Table.{at as move_at}
 
 -- What acts leave of strays: whatever is one afterwards was one before.
@@ -179,7 +179,7 @@ none_taken number slots left none taken k = elim (same_cases k number) [
 ]
 
 -- the stores' sweep, once a doubt is settled, of which all is removed
-pub swept_by : (tells : Bool) (p q new : Parts) (r : Result Swept DiskErr) → files_of q ≡ files_of p → q.slots ≡ p.slots → new.slots ≡ q.slots → IfOk r (λ (s : Swept). IsSettled new.at × (s.removed ≡ Ok tt → LeavesNoStray tells (files_of q) (files_of new))) → IsWell (sweep_reply r) → Tidies tells p new
+pub swept_by : (tells : Bool) (p q new : Parts) (r : Result StoreSwept DiskErr) → files_of q ≡ files_of p → q.slots ≡ p.slots → new.slots ≡ q.slots → IfOk r (λ (s : StoreSwept). IsSettled new.at × (s.removed ≡ Ok tt → LeavesNoStray tells (files_of q) (files_of new))) → IsWell (sweep_reply r) → Tidies tells p new
 swept_by tells p q new (Ok s) same slots still tidy well = tidy_then tells p q new same slots (by_removal s.removed refl well)
   where
     by_removal : (removed : Result (Unit {0}) DiskErr) → s.removed ≡ removed → IsWell (removal_reply s.files removed) → Tidies tells q new

@@ -10,7 +10,7 @@ use Rattle.disk_model.specs.Past.{MayLeave, Passes}
 use Rattle.disk_model.specs.declared.disk.DiskErr.{DiskErr}
 use Rattle.disk_model.specs.declared.disk.DiskErr.TheVariants.{Fault, Memory}
 use Rattle.disk_model.proofs.Passing.{passes_weaker}
-use Rattle.etl_mover.specs.Move.{MoveState as Moving, part_file}
+use Rattle.etl_mover.specs.Move.{Moving, part_file}
 use Rattle.etl_mover.specs.declared.moving.Stage.TheVariants.{Copying, Published}
 use Rattle.partition_names.specs.Path.{path_of}
 use Rattle.partition_names.proofs.PathLemmas.{one_path}

@@ -19,7 +19,7 @@ use Rattle.act_model.specs.Sound.{MayMake, IsSound}
 use Rattle.archive_core.proofs.Acting.{IsFiledAt, Called, called, called_given, Makes, IsAct, Went, acted, done_then, failed_then}
 use Rattle.archive_core.proofs.MoveLimbo.{HaveMachine}
 use Rattle.durable_write.specs.Plan.{of_row}
-use Rattle.tier_store.specs.Change.{IsKnownAt, Has, IsKnown, Registers, Renames, Switches, EndsFrom, Call}
+use Rattle.tier_store.specs.Change.{IsKnownAt, Has, IsKnown, Registers, Renames, Switches, EndsFrom, StoreCall}
 use Rattle.act_model.specs.Changes.{of_row as own_of, made, changed}
 use Rattle.act_model.specs.Rows.{RowState, Short}
 use Rattle.archive_core.proofs.MoveCopying.{batch_over, short_over}
@@ -390,7 +390,7 @@ module _ (tells : Bool) (p : Parts) (m : Machine) (r : Rests tells p m) (limit :
   has = rests_has tells p m r
 
   -- the stores' call
-  abbrev pub flush_call : Call ℕ ⊥
+  abbrev pub flush_call : StoreCall ℕ ⊥
   flush_call = flushing_over p.limbo files batch
 
   pub flush_called : (new : Seen) (end : End ℕ ⊥) → ChangesGiven (λ (s : Stores). AreWhole 0 tells p.at p.limbo s.stands files) tells flush_call p.at new end → Called tells flush_call p.at new held end

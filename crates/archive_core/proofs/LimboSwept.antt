@@ -2,7 +2,7 @@
 use Rattle.std.proofs.Common.{◌≡◌, ℕ, List, Bool, Some, ◌+◌, ◌∷◌, length, true, false, Option, refl, sym, ◌∙◌, ap, subst, arith, zero, suc, [], map, cond, None, inl, ◌++◌, ◌≢◌, ◌⊎◌, inr}
 use Rattle.std.specs.Prelude.{slice_get, IsTrue, nat_eq, Contains, All, ◌==◌, ◌↔◌, filter, not}
 use Rattle.disk_model.specs.Files.{Name}
-use Rattle.act_model.specs.Limbo.{FileState, PlacesDiffer, IsElsewhere}
+use Rattle.act_model.specs.Limbo.{RowFile, PlacesDiffer, IsElsewhere}
 use Rattle.act_model.specs.Rows.{RowState, Store, Short, Medium, Long, same_store}
 use Rattle.std.specs.FinMap.{FinMap, get, insert, get-insert}
 use Rattle.std.specs.Ordering.{nat_cmp, eq_by_cmp}
@@ -169,7 +169,7 @@ module _ (tells : Bool) (all : SeenAll) (m : Machine) (s : Stores) (has : Has te
       }
 
   pub pieces_are : (i : ℕ) (closed files behind : List Placed) (pinned : FinMap nat_cmp PinOf) (pin : ℕ) (own : PinOf) → files_of_line i s ≡ closed ++ (files ++ behind) → own.pieces ≡ map (piece_of all.stores.catalogue.rows) (map listed_of files) → get pinned pin ≡ Some own → PinsStand tells all pinned
-      → (j : ℕ) (piece : FileState) → slice_get (map state_of files) j ≡ Some piece → HasFileOf tells all m.rows own j piece
+      → (j : ℕ) (piece : RowFile) → slice_get (map state_of files) j ≡ Some piece → HasFileOf tells all m.rows own j piece
   pieces_are i closed files behind pinned pin own split are there stand j piece got =
       let low = slice_get_within (map state_of files) j piece got in
       let count = length-map files state_of in
@@ -178,7 +178,7 @@ module _ (tells : Bool) (all : SeenAll) (m : Machine) (s : Stores) (has : Has te
       let at : slice_get own.pieces j ≡ Some file = ap (λ (fs : List PinnedFile). slice_get fs j) are ∙ get_map (piece_of all.stores.catalogue.rows) (map listed_of files) j (listed_of p.0) (get_map listed_of files j p.0 p.1) in
       let is_own = all_get (IsOwn all.stores s) files j p.0 (all_before (IsOwn all.stores s) files behind (all_last (IsOwn all.stores s) closed (files ++ behind) (subst (λ (xs : List Placed). AllByRecursion (IsOwn all.stores s) xs) split (line_own (line s.rows i))))) p.1 in
       let same : state_of p.0 ≡ piece = same_Some (state_of p.0) piece (sym (get_map state_of files j p.0 p.1) ∙ got) in
-      record { file = file; there = at; is = subst (λ (x : FileState). IsPieceOf tells all m.rows x file) same (piece_is p.0 is_own (stand pin j own file there at)) }
+      record { file = file; there = at; is = subst (λ (x : RowFile). IsPieceOf tells all m.rows x file) same (piece_is p.0 is_own (stand pin j own file there at)) }
 
 -- A file that a store lists is, as one to be retired, a file of the machine.
 
@@ -188,7 +188,7 @@ module _ (tells : Bool) (at : Seen) (limbo : List Retired) (m : Machine) (s : St
   listed = list_at (index_of store) s
 
   -- the file of the machine, and the retired one
-  abbrev pub own : FileState
+  abbrev pub own : RowFile
   own = row_file i store h
 
   abbrev pub file : Retired
@@ -273,12 +273,12 @@ store_itself Medium = refl
 store_itself Long = refl
 
 -- a place is a row, a store and a partition
-pub record IsSamePlace (g f : FileState) : Type 0 where
+pub record IsSamePlace (g f : RowFile) : Type 0 where
   pub row : g.row ≡ f.row
   pub store : g.store ≡ f.store
   pub part : g.part ≡ f.part
 
-module _ (m : Machine) (sound : IsSound m) (f g : FileState) (r q : RowState) (here : slice_get m.rows f.row ≡ Some r) (there : slice_get m.rows g.row ≡ Some q) (part : IsPartition m.rule f.store f.part) (other : IsPartition m.rule g.store g.part) where
+module _ (m : Machine) (sound : IsSound m) (f g : RowFile) (r q : RowState) (here : slice_get m.rows f.row ≡ Some r) (there : slice_get m.rows g.row ≡ Some q) (part : IsPartition m.rule f.store f.part) (other : IsPartition m.rule g.store g.part) where
   same_unit : g.store ≡ f.store → other.unit ≡ part.unit
   same_unit store = same_Some other.unit part.unit (sym other.of_store ∙ (ap (λ (s : Store). slice_get m.rule.granularity (index_of s)) store ∙ part.of_store))
 
@@ -336,8 +336,8 @@ named_at [] name (k, low, is) = absurd (omega (arith, low))
 named_at (file ∷ files) name (zero, low, is) = (0, file, refl, is)
 named_at (file ∷ files) name (suc k, low, is) = let rest = named_at files name (k, omega (arith, low), is) in (suc rest.0, rest.1, rest.2, rest.3)
 
-module _ (tells : Bool) (all : SeenAll) (m : Machine) (sound : IsSound m) (told : m.told ≡ true) (pinned : FinMap nat_cmp PinOf) (pins : ArePinsOf tells all m.told m.rows m.pins pinned) (f : FileState) (r : RowState) (here : slice_get m.rows f.row ≡ Some r) (part : IsPartition m.rule f.store f.part) where
-  piece_sound : (n : ℕ) (state : PinState) (k : ℕ) (piece : FileState) → get m.pins n ≡ Some state → slice_get state.pieces k ≡ Some piece → PieceSound m.rule m.rows m.limbo piece
+module _ (tells : Bool) (all : SeenAll) (m : Machine) (sound : IsSound m) (told : m.told ≡ true) (pinned : FinMap nat_cmp PinOf) (pins : ArePinsOf tells all m.told m.rows m.pins pinned) (f : RowFile) (r : RowState) (here : slice_get m.rows f.row ≡ Some r) (part : IsPartition m.rule f.store f.part) where
+  piece_sound : (n : ℕ) (state : PinState) (k : ℕ) (piece : RowFile) → get m.pins n ≡ Some state → slice_get state.pieces k ≡ Some piece → PieceSound m.rule m.rows m.limbo piece
   piece_sound n state k piece there got = get_all (PieceSound m.rule m.rows m.limbo) state.pieces k piece (sound.pinned told n state there) got
 
   pub pinned_there : IsPinnedFile pinned (name_of r f) → IsPinned m f
@@ -395,22 +395,22 @@ named_in : (files : List Retired) (name : Name) (file : Retired) → Contains fi
 named_in files name file there same = is_among (names_in files) name (subst (λ (n : Name). Contains (names_in files) n) same (name_left files file there))
 
 -- the name of a file of the machine
-abbrev name_in : List RowState → FileState → Name
+abbrev name_in : List RowState → RowFile → Name
 name_in rows f = of (slice_get rows f.row) f
   where
-    of : Option RowState → FileState → Name
+    of : Option RowState → RowFile → Name
     of None f = (0, [])
     of (Some row) f = name_of row f
 
-name_there : (rows : List RowState) (f : FileState) (row : RowState) → slice_get rows f.row ≡ Some row → name_in rows f ≡ name_of row f
+name_there : (rows : List RowState) (f : RowFile) (row : RowState) → slice_get rows f.row ≡ Some row → name_in rows f ≡ name_of row f
 name_there rows f row here = rw here refl
 
 -- those of the machine's limbo that have one name are of one place, so each name stands once there
-names_once : (m : Machine) → IsSound m → m.told ≡ true → (files : List FileState) → AllByRecursion (LimboSound m.rule m.told m.rows) files → AllByRecursion (λ (f : FileState). (row : RowState) × (slice_get m.rows f.row ≡ Some row)) files → PlacesDiffer files → NamesDiffer (name_in m.rows) files
+names_once : (m : Machine) → IsSound m → m.told ≡ true → (files : List RowFile) → AllByRecursion (LimboSound m.rule m.told m.rows) files → AllByRecursion (λ (f : RowFile). (row : RowState) × (slice_get m.rows f.row ≡ Some row)) files → PlacesDiffer files → NamesDiffer (name_in m.rows) files
 names_once m sound told [] each rows places = tt
 names_once m sound told (f ∷ files) each rows places = (behind files each.1 rows.1 places.0, names_once m sound told files each.1 rows.1 places.1)
   where
-    behind : (gs : List FileState) → AllByRecursion (LimboSound m.rule m.told m.rows) gs → AllByRecursion (λ (g : FileState). (row : RowState) × (slice_get m.rows g.row ≡ Some row)) gs → AllByRecursion (IsElsewhere f) gs → AllByRecursion (λ (g : FileState). name_in m.rows g ≢ name_in m.rows f) gs
+    behind : (gs : List RowFile) → AllByRecursion (LimboSound m.rule m.told m.rows) gs → AllByRecursion (λ (g : RowFile). (row : RowState) × (slice_get m.rows g.row ≡ Some row)) gs → AllByRecursion (IsElsewhere f) gs → AllByRecursion (λ (g : RowFile). name_in m.rows g ≢ name_in m.rows f) gs
     behind [] each_g rows_g apart = tt
     behind (g ∷ gs) each_g rows_g apart = (
       λ same.
@@ -420,20 +420,20 @@ names_once m sound told (f ∷ files) each rows places = (behind files each.1 ro
       behind gs each_g.1 rows_g.1 apart.1,
     )
 
-filter_differ : (name : FileState → Name) (test : FileState → Bool) (xs : List FileState) → NamesDiffer name xs → NamesDiffer name (filter test xs)
+filter_differ : (name : RowFile → Name) (test : RowFile → Bool) (xs : List RowFile) → NamesDiffer name xs → NamesDiffer name (filter test xs)
 filter_differ name test [] differ = tt
 filter_differ name test (x ∷ xs) differ = by_test (test x) (filter_differ name test xs differ.1)
   where
     by_test : (b : Bool) → NamesDiffer name (filter test xs) → NamesDiffer name (cond b (x ∷ filter test xs) (filter test xs))
-    by_test true rest = (of_filter (λ (y : FileState). name y ≢ name x) test xs differ.0, rest)
+    by_test true rest = (of_filter (λ (y : RowFile). name y ≢ name x) test xs differ.0, rest)
     by_test false rest = rest
 
 -- THE SWEEP
 
 module _ (tells : Bool) (old new : SeenAll) (m : Machine) (sound : IsSound m) (told : m.told ≡ true) (ties : AreRetired tells old m.rows m.limbo) (free : AreUnlisted old m.rows m.limbo) (differ : NamesDiffer named old.limbo) (pinned : FinMap nat_cmp PinOf) (pins : ArePinsOf tells old m.told m.rows m.pins pinned)
-    (lists : ListsSame old.stores new.stores old.limbo) (copied : List Name) (copied_is : (f : FileState) (row : RowState) → Contains m.limbo f → slice_get m.rows f.row ≡ Some row → Contains copied (name_of row f) ↔ IsCopiedInto m f) (files : ℕ) (swept : StoresSwept new.stores pinned copied old.limbo new.limbo files) where
+    (lists : ListsSame old.stores new.stores old.limbo) (copied : List Name) (copied_is : (f : RowFile) (row : RowState) → Contains m.limbo f → slice_get m.rows f.row ≡ Some row → Contains copied (name_of row f) ↔ IsCopiedInto m f) (files : ℕ) (swept : StoresSwept new.stores pinned copied old.limbo new.limbo files) where
   -- a file stays where one of its name does
-  abbrev pub stays : FileState → Bool
+  abbrev pub stays : RowFile → Bool
   stays f = list_any (λ (other : Name). is_same other (name_in m.rows f)) (names_in new.limbo)
 
   -- a file that the stores leave in limbo is needed, and was there
@@ -444,7 +444,7 @@ module _ (tells : Bool) (old new : SeenAll) (m : Machine) (sound : IsSound m) (t
       (in_old.0, in_retired.1, in_old.1)
 
   -- a file of the machine is among those that aren't listed
-  retired_there : (f : FileState) (there : Contains m.limbo f) → Contains swept.retired (ties.each f there).file
+  retired_there : (f : RowFile) (there : Contains m.limbo f) → Contains swept.retired (ties.each f there).file
   retired_there f there =
       let own = ties.each f there in
       elim (stay_cases (λ r. IsListedName new.stores r.name → ⊥) (λ r. IsListedName new.stores r.name) old.limbo swept.retired own.file swept.unlisted own.within) [
@@ -452,11 +452,11 @@ module _ (tells : Bool) (old new : SeenAll) (m : Machine) (sound : IsSound m) (t
         | inr listed ↦ absurd (free f own.is.row there own.is.here (subst (λ (n : Name). IsListedName old.stores n) own.is.named ((lists own.file own.within).0 listed)))
       ]
 
-  own_name : (f : FileState) (there : Contains m.limbo f) → (ties.each f there).file.name ≡ name_in m.rows f
+  own_name : (f : RowFile) (there : Contains m.limbo f) → (ties.each f there).file.name ≡ name_in m.rows f
   own_name f there = let own = ties.each f there in own.is.named ∙ sym (name_there m.rows f own.is.row own.is.here)
 
   -- it stays where it is needed
-  pub stays_where : (f : FileState) (there : Contains m.limbo f) → (stays f ≡ true) ↔ IsNeeded pinned copied (ties.each f there).file.name
+  pub stays_where : (f : RowFile) (there : Contains m.limbo f) → (stays f ≡ true) ↔ IsNeeded pinned copied (ties.each f there).file.name
   stays_where f there = (
     λ test.
         let some = map_out named new.limbo (name_in m.rows f) (among_is (names_in new.limbo) (name_in m.rows f) test) in
@@ -467,18 +467,18 @@ module _ (tells : Bool) (old new : SeenAll) (m : Machine) (sound : IsSound m) (t
     ],
   )
 
-  limbo_sound : (f : FileState) → Contains m.limbo f → LimboSound m.rule m.told m.rows f
+  limbo_sound : (f : RowFile) → Contains m.limbo f → LimboSound m.rule m.told m.rows f
   limbo_sound f there = of_all (LimboSound m.rule m.told m.rows) m.limbo f sound.each_file there
 
   -- just those that a pin names, or into whose partition a move has copied
   pub just : IsSwept m stays m.limbo
-  just = all_of (λ (f : FileState). (stays f ≡ true) ↔ (IsPinned m f ⊎ IsCopiedInto m f)) m.limbo (λ f there. (λ test. forth f there ((stays_where f there).0 test), λ needed. (stays_where f there).1 (back f there needed)))
+  just = all_of (λ (f : RowFile). (stays f ≡ true) ↔ (IsPinned m f ⊎ IsCopiedInto m f)) m.limbo (λ f there. (λ test. forth f there ((stays_where f there).0 test), λ needed. (stays_where f there).1 (back f there needed)))
     where
-      forth : (f : FileState) (there : Contains m.limbo f) → IsNeeded pinned copied (ties.each f there).file.name → IsPinned m f ⊎ IsCopiedInto m f
+      forth : (f : RowFile) (there : Contains m.limbo f) → IsNeeded pinned copied (ties.each f there).file.name → IsPinned m f ⊎ IsCopiedInto m f
       forth f there (inl is) = let own = ties.each f there in inl (pinned_there tells old m sound told pinned pins f own.is.row own.is.here ((limbo_sound f there).partition told) (subst (λ (n : Name). IsPinnedFile pinned n) own.is.named is))
       forth f there (inr is) = let own = ties.each f there in inr ((copied_is f own.is.row there own.is.here).0 (subst (λ (n : Name). Contains copied n) own.is.named is))
 
-      back : (f : FileState) (there : Contains m.limbo f) → IsPinned m f ⊎ IsCopiedInto m f → IsNeeded pinned copied (ties.each f there).file.name
+      back : (f : RowFile) (there : Contains m.limbo f) → IsPinned m f ⊎ IsCopiedInto m f → IsNeeded pinned copied (ties.each f there).file.name
       back f there (inl is) = let own = ties.each f there in inl (subst (λ (n : Name). IsPinnedFile pinned n) (sym own.is.named) (there_pinned tells old m sound told pinned pins f own.is.row own.is.here ((limbo_sound f there).partition told) is))
       back f there (inr is) = let own = ties.each f there in inr (subst (λ (n : Name). Contains copied n) (sym own.is.named) ((copied_is f own.is.row there own.is.here).1 is))
 
@@ -494,7 +494,7 @@ module _ (tells : Bool) (old new : SeenAll) (m : Machine) (sound : IsSound m) (t
   left_stays file there one = named_in new.limbo (name_in m.rows one.f) file there (sym (name_of_one file one))
 
   once : NamesDiffer (name_in m.rows) m.limbo
-  once = names_once m sound told m.limbo sound.each_file (all_of (λ (f : FileState). (row : RowState) × (slice_get m.rows f.row ≡ Some row)) m.limbo (λ f there. ((ties.each f there).is.row, (ties.each f there).is.here))) (sound.places told)
+  once = names_once m sound told m.limbo sound.each_file (all_of (λ (f : RowFile). (row : RowState) × (slice_get m.rows f.row ≡ Some row)) m.limbo (λ f there. ((ties.each f there).is.row, (ties.each f there).is.here))) (sound.places told)
 
   in_retired : (file : Retired) → Contains swept.retired file → Contains old.limbo file × (IsListedName new.stores file.name → ⊥)
   in_retired file there = stay_from (λ r. IsListedName new.stores r.name → ⊥) (λ r. IsListedName new.stores r.name) old.limbo swept.retired file swept.unlisted there
@@ -518,19 +518,19 @@ module _ (tells : Bool) (old new : SeenAll) (m : Machine) (sound : IsSound m) (t
       let high = no_longer named (name_in m.rows) new.limbo (filter stays m.limbo) left_differ (λ file there. (let from = left_is file there in let one = of_machine file from.0 from.2 in (one.f, contains_filter stays m.limbo one.f one.within (left_stays file there one), name_of_one file one))) in
       omega (arith, low, high)
     where
-      still : (f : FileState) (there : Contains m.limbo f) → IsNeeded pinned copied (ties.each f there).file.name → (file : Retired) × Contains new.limbo file × (file.name ≡ name_in m.rows f)
+      still : (f : RowFile) (there : Contains m.limbo f) → IsNeeded pinned copied (ties.each f there).file.name → (file : Retired) × Contains new.limbo file × (file.name ≡ name_in m.rows f)
       still f there needed = elim (stay_cases (λ r. IsNeeded pinned copied r.name) (λ r. IsNeeded pinned copied r.name → ⊥) swept.retired new.limbo (ties.each f there).file swept.needed (retired_there f there)) [
         | inl at ↦ ((ties.each f there).file, at, own_name f there)
         | inr gone ↦ absurd (gone needed)
       ]
 
   -- the number that the stores tell is the machine's
-  pub swept_count : files ≡ length (filter (λ (f : FileState). not (stays f)) m.limbo)
+  pub swept_count : files ≡ length (filter (λ (f : RowFile). not (stays f)) m.limbo)
   swept_count =
       let told_count = swept.count in
       let all = all_count in
       let left = left_count in
-      let both = length-filter_both stays (λ (f : FileState). not (stays f)) (λ f. refl) m.limbo in
+      let both = length-filter_both stays (λ (f : RowFile). not (stays f)) (λ f. refl) m.limbo in
       omega (arith, told_count, all, left, both)
 
   -- and the stores' limbo is the machine's then
@@ -549,7 +549,7 @@ module _ (tells : Bool) (old new : SeenAll) (m : Machine) (sound : IsSound m) (t
         ),
   )
     where
-      still : (f : FileState) (there : Contains m.limbo f) → IsNeeded pinned copied (ties.each f there).file.name → HasRetired tells new m.rows f
+      still : (f : RowFile) (there : Contains m.limbo f) → IsNeeded pinned copied (ties.each f there).file.name → HasRetired tells new m.rows f
       still f there needed = elim (stay_cases (λ r. IsNeeded pinned copied r.name) (λ r. IsNeeded pinned copied r.name → ⊥) swept.retired new.limbo (ties.each f there).file swept.needed (retired_there f there)) [
         | inl at ↦ record { file = (ties.each f there).file; within = at; is = retired_stays tells old new m.rows m.rows f (ties.each f there).file keeps at (ties.each f there).is }
         | inr gone ↦ absurd (gone needed)
@@ -571,7 +571,7 @@ pinned_stay tells old new told rows pins pinned keeps are = record {
   stand = λ n i own file here there. let was = are.stand n i own file here there in record { bytes = was.bytes; len = was.len; shown = keeps file.name was.bytes (pinned_at pinned n i own file here there) was.shown };
 }
   where
-    by_piece : (n : ℕ) (own : PinOf) (i : ℕ) (piece : FileState) → get pinned n ≡ Some own → HasFileOf tells old rows own i piece → HasFileOf tells new rows own i piece
+    by_piece : (n : ℕ) (own : PinOf) (i : ℕ) (piece : RowFile) → get pinned n ≡ Some own → HasFileOf tells old rows own i piece → HasFileOf tells new rows own i piece
     by_piece n own i piece here has =
         let is = has.is in
         record { file = has.file; there = has.there; is = record { row = is.row; here = is.here; named = is.named; head_len = is.head_len; len = is.len; shows = keeps has.file.name (bytes_of piece) (pinned_at pinned n i own has.file here has.there) is.shows } }

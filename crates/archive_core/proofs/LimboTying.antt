@@ -1,7 +1,7 @@
 -- Limbo is tied to the machine's: pins stay while what they name is shown, and files in limbo where partitions are listed or not.
 use Rattle.std.proofs.Common.{◌≡◌, ℕ, ◌+◌, List, [], Bool, true, false, Some, refl, sym, ◌∙◌, ap, ◌⊎◌, inl, inr, ◌∷◌, ◌++◌, subst, arith, ◌≢◌, suc, ◌≤◌, cond, Option, None}
 use Rattle.std.specs.Prelude.{slice_get, ◌==◌, Contains, IsTrue, All, filter, nat_eq, ◌↔◌}
-use Rattle.act_model.specs.Limbo.{FileState, tier_at, IsThere, files_of, unlisted}
+use Rattle.act_model.specs.Limbo.{RowFile, tier_at, IsThere, files_of, unlisted}
 use Rattle.act_model.specs.Machine.{Machine, Change, SetsState, PinState, AddsRow, Renames, Appends, Publishes, Unlists}
 use Rattle.act_model.specs.Rows.{RowState, tier, window, is_empty, fresh_row, renamed_row, Store, Short, Medium, Long}
 use Rattle.tier_store.specs.Pinned.{SeenAll, KeepsShown, beside, Shows}
@@ -74,7 +74,7 @@ pins_stay tells old new told rows later pins pinned keeps names are = record {
   stand = stand_kept tells old new pinned keeps are.stand;
 }
   where
-    by_piece : {own : PinOf} {i : ℕ} {piece : FileState} → HasFileOf tells old rows own i piece → HasFileOf tells new later own i piece
+    by_piece : {own : PinOf} {i : ℕ} {piece : RowFile} → HasFileOf tells old rows own i piece → HasFileOf tells new later own i piece
     by_piece {own} {i} {piece} has =
         let is = has.is in
         let named = names piece.row is.row is.here in
@@ -133,7 +133,7 @@ pub from_filter : {A : Type 0} (test : A → Bool) (xs : List A) (x : A) → Con
 from_filter {A} test xs x there = (All-contains (λ (y : A). Contains xs y) (filter test xs) x (All-filter test (λ (y : A). Contains xs y) xs (All-contains_itself xs)) there, All-contains (λ (y : A). test y ≡ true) (filter test xs) x (filter_passes test xs) there)
 
 module _ (tells : Bool) (at : Seen) (m : Machine) (held : Stores) (has : Has tells at held) (holds : HoldsDurable held m) (gran : m.rule.granularity ≡ granularities at.manifests) (heads : TellsHeaders m.rule) (told : m.told ≡ true) (stands : IsTrue held.stands)
-    (f : FileState) (r : RowState) (here : slice_get m.rows f.row ≡ Some r) (unit : Granularity) (of_store : slice_get (granularities at.manifests) (index_of f.store) ≡ Some unit) (part : IsPart unit f.part) where
+    (f : RowFile) (r : RowState) (here : slice_get m.rows f.row ≡ Some r) (unit : Granularity) (of_store : slice_get (granularities at.manifests) (index_of f.store) ≡ Some unit) (part : IsPart unit f.part) where
   abbrev files : List Filed
   files = of_row f.row (list_at (index_of f.store) held)
 
@@ -213,7 +213,7 @@ pub record KeepsFiles (tells : Bool) (old new : SeenAll) (rows later : List RowS
   pub names : KeepsNames rows later
   pub granularity : granularities new.stores.manifests ≡ granularities old.stores.manifests
 
-pub retired_stays : (tells : Bool) (old new : SeenAll) (rows later : List RowState) (f : FileState) (file : Retired) → KeepsFiles tells old new rows later → Contains new.limbo file → IsRetiredOf tells old rows f file → IsRetiredOf tells new later f file
+pub retired_stays : (tells : Bool) (old new : SeenAll) (rows later : List RowState) (f : RowFile) (file : Retired) → KeepsFiles tells old new rows later → Contains new.limbo file → IsRetiredOf tells old rows f file → IsRetiredOf tells new later f file
 retired_stays tells old new rows later f file keeps there is =
     let now = keeps.names f.row is.row is.here in
     let same : name_of is.row f ≡ name_of now.row f = ap (λ (n : List ℕ). name_of (record is.row { name = n }) f) (sym now.name) in
@@ -229,7 +229,7 @@ retired_stays tells old new rows later f file keeps there is =
       shows = keeps.shown file (bytes_of f) there is.shows;
     }
 
-pub limbo_stays : (tells : Bool) (old new : Seen) (retired : List Retired) (told : Bool) (rows later : List RowState) (limbo : List FileState) → KeepsFiles tells (beside old retired) (beside new retired) rows later → ListsSame old new retired → (told ≡ false → AreBare later)
+pub limbo_stays : (tells : Bool) (old new : Seen) (retired : List Retired) (told : Bool) (rows later : List RowState) (limbo : List RowFile) → KeepsFiles tells (beside old retired) (beside new retired) rows later → ListsSame old new retired → (told ≡ false → AreBare later)
     → IsLimboOf tells (beside old retired) told rows limbo → IsLimboOf tells (beside new retired) told later limbo
 limbo_stays tells old new retired told rows later limbo keeps lists bare tie = record {
   stands = limbo_kept old new retired keeps.variables keeps.granularity tie.stands;
@@ -249,13 +249,13 @@ limbo_stays tells old new retired told rows later limbo keeps lists bare tie = r
   bare = bare;
 }
   where
-    stays : (f : FileState) (file : Retired) → Contains retired file → IsRetiredOf tells (beside old retired) rows f file → IsRetiredOf tells (beside new retired) later f file
+    stays : (f : RowFile) (file : Retired) → Contains retired file → IsRetiredOf tells (beside old retired) rows f file → IsRetiredOf tells (beside new retired) later f file
     stays f file there is = retired_stays tells (beside old retired) (beside new retired) rows later f file keeps there is
 
 -- WHERE THE MACHINE ISN'T TOLD
 
 -- no window has a sample
-none_at : (rows : List RowState) (i : ℕ) (store : Store) (f : FileState) → AreBare rows → is_empty (window f.part (tier_at rows i store)) ≡ true
+none_at : (rows : List RowState) (i : ℕ) (store : Store) (f : RowFile) → AreBare rows → is_empty (window f.part (tier_at rows i store)) ≡ true
 none_at rows i store f bare = by_row (slice_get rows i) refl
   where
     by_row : (o : Option RowState) → slice_get rows i ≡ o → is_empty (window f.part (tier_at rows i store)) ≡ true
@@ -271,7 +271,7 @@ untold_retires m (Appends batch) off bare = refl
 untold_retires m (Publishes k store copied) off bare = refl
 untold_retires m (Unlists k store to) off bare = (tt, record { stays = λ n p here. free p.pieces }, λ on. (let both : true ≡ false = sym on ∙ off in absurd (cc (both))))
   where
-    free : (pieces : List FileState) → AllByRecursion (λ (piece : FileState). piece.row ≡ k → piece.store ≡ store → piece.part.end ≤ to → is_empty (window piece.part (tier_at m.rows k store)) ≡ false → IsThere piece.part (files_of k store [])) pieces
+    free : (pieces : List RowFile) → AllByRecursion (λ (piece : RowFile). piece.row ≡ k → piece.store ≡ store → piece.part.end ≤ to → is_empty (window piece.part (tier_at m.rows k store)) ≡ false → IsThere piece.part (files_of k store [])) pieces
     free [] = tt
     free (piece ∷ pieces) = (λ own of_store ends some. (let none = none_at m.rows k store piece bare in let both : true ≡ false = sym none ∙ some in absurd (cc (both))), free pieces)
 
@@ -285,7 +285,7 @@ set_stays k state i row store = by_test (i == k) store
     by_test false store = refl
 
 -- no change gives a row samples
-tier_stays : (limbo : List FileState) (c : Change) (i : ℕ) (row : RowState) (store : Store) → tier (changed false limbo c i row) store ≡ tier row store
+tier_stays : (limbo : List RowFile) (c : Change) (i : ℕ) (row : RowState) (store : Store) → tier (changed false limbo c i row) store ≡ tier row store
 tier_stays limbo (AddsRow name about) i row store = refl
 tier_stays limbo (SetsState k state) i row store = set_stays k state i row store
 tier_stays limbo (Renames k name) i row store = set_stays k RetiredState i row store
@@ -332,13 +332,13 @@ pub tier_there : (rows : List RowState) (i : ℕ) (row : RowState) (store : Stor
 tier_there rows i row store here = rw here refl
 
 -- whether it isn't listed, by the row's samples
-abbrev is_gone : List RowState → FileState → Bool
+abbrev is_gone : List RowState → RowFile → Bool
 is_gone rows f = is_empty (window f.part (tier_at rows f.row f.store))
 
 -- WHAT IS LISTED
 
 module _ (tells : Bool) (all : SeenAll) (m : Machine) (held : Stores) (has : Has tells all.stores held) (holds : HoldsDurable held m) (gran : m.rule.granularity ≡ granularities all.stores.manifests) (heads : TellsHeaders m.rule) (told : m.told ≡ true) (stands : IsTrue held.stands) where
-  module _ (f : FileState) (file : Retired) (is : IsRetiredOf tells all m.rows f file) (of : IsOfPlace all.stores file) where
+  module _ (f : RowFile) (file : Retired) (is : IsRetiredOf tells all m.rows f file) (of : IsOfPlace all.stores file) where
     number : file.name.0 ≡ index_of f.store + 1
     number = ap (λ (n : Name). n.0) is.named
 
@@ -362,7 +362,7 @@ module _ (tells : Bool) (all : SeenAll) (m : Machine) (held : Stores) (has : Has
         place_listed all.stores held file has.known of (lists_file tells all.stores m held has holds gran heads told stands f is.row is.here is.unit is.of_store part file is.series is.part number starts)
 
   -- of files of the machine those that aren't listed are those without samples in their stores
-  pub unlisted_ties : (files : List FileState) → LimboStands all.stores all.limbo → AreRetired tells all m.rows files → AreRetired tells all m.rows (unlisted m.rows files) × AreUnlisted all m.rows (unlisted m.rows files)
+  pub unlisted_ties : (files : List RowFile) → LimboStands all.stores all.limbo → AreRetired tells all m.rows files → AreRetired tells all m.rows (unlisted m.rows files) × AreUnlisted all m.rows (unlisted m.rows files)
   unlisted_ties files limbo ties = (record { each = λ f there. ties.each f (from_filter (is_gone m.rows) files f there).0; others = others }, none_listed)
     where
       of : (file : Retired) → Contains all.limbo file → IsOfPlace all.stores file
@@ -373,7 +373,7 @@ module _ (tells : Bool) (all : SeenAll) (m : Machine) (held : Stores) (has : Has
           let one = ties.others file there free in
           record { f = one.f; within = contains_filter (is_gone m.rows) files one.f one.within (by_test one.f one.is (is_gone m.rows one.f) refl); is = one.is }
         where
-          by_test : (f : FileState) → IsRetiredOf tells all m.rows f file → (b : Bool) → is_gone m.rows f ≡ b → is_gone m.rows f ≡ true
+          by_test : (f : RowFile) → IsRetiredOf tells all m.rows f file → (b : Bool) → is_gone m.rows f ≡ b → is_gone m.rows f ≡ true
           by_test f is true test = test
           by_test f is false test = absurd (free (some_listed f file is (of file there) test))
 
@@ -390,10 +390,10 @@ module _ (tells : Bool) (all : SeenAll) (m : Machine) (held : Stores) (has : Has
 -- CHANGES
 
 -- What becomes of limbo with a change: what isn't listed stays in it, and of what comes into it these are the files of the machine.
-pub record GoesOn (tells : Bool) (old new : SeenAll) (later : List RowState) (into : List FileState) : Type 0 where
+pub record GoesOn (tells : Bool) (old new : SeenAll) (later : List RowState) (into : List RowFile) : Type 0 where
   pub stay : (file : Retired) → Contains old.limbo file → (IsListedName old.stores file.name → ⊥) → Contains new.limbo file
   pub come : (file : Retired) → Contains new.limbo file → (IsListedName new.stores file.name → ⊥) → (Contains old.limbo file × (IsListedName old.stores file.name → ⊥)) ⊎ IsOneOf tells new later into file
-  pub into_is : (f : FileState) → Contains into f → HasRetired tells new later f
+  pub into_is : (f : RowFile) → Contains into f → HasRetired tells new later f
 
 -- limbo is as it was, and each of its files that was listed is so still
 pub goes_on_same : (tells : Bool) (old new : Seen) (retired : List Retired) (later : List RowState) → ((file : Retired) → Contains retired file → IsListedName old file.name → IsListedName new file.name) → GoesOn tells (beside old retired) (beside new retired) later []
@@ -403,7 +403,7 @@ goes_on_same tells old new retired later lists = record {
   into_is = λ f there. absurd (let low = there.1 in omega (arith, low));
 }
 
-module _ (tells : Bool) (old new : SeenAll) (m : Machine) (into : List FileState) (c : Change) (keeps : KeepsFiles tells old new m.rows (made into c m).rows) (goes : GoesOn tells old new (made into c m).rows into) where
+module _ (tells : Bool) (old new : SeenAll) (m : Machine) (into : List RowFile) (c : Change) (keeps : KeepsFiles tells old new m.rows (made into c m).rows) (goes : GoesOn tells old new (made into c m).rows into) where
   abbrev rows_then : List RowState
   rows_then = (made into c m).rows
 
@@ -420,7 +420,7 @@ module _ (tells : Bool) (old new : SeenAll) (m : Machine) (into : List FileState
     ];
   }
     where
-      was_there : (f : FileState) → Contains m.limbo f → HasRetired tells new rows_then f
+      was_there : (f : RowFile) → Contains m.limbo f → HasRetired tells new rows_then f
       was_there f was =
           let own = ties.each f was in
           let there = goes.stay own.file own.within (λ listed. free f own.is.row was own.is.here (subst (λ (n : Name). IsListedName old.stores n) own.is.named listed)) in
@@ -434,7 +434,7 @@ module _ (tells : Bool) (old new : SeenAll) (m : Machine) (into : List FileState
     differ = differ;
     retired = λ on. (told_ties on).0;
     unlisted = λ on. (told_ties on).1;
-    none = λ off. ap (unlisted rows_then) (ap (λ (files : List FileState). files ++ into) (tie.none off) ∙ none_comes off);
+    none = λ off. ap (unlisted rows_then) (ap (λ (files : List RowFile). files ++ into) (tie.none off) ∙ none_comes off);
     bare = λ off. bare_made m c off (tie.bare off);
   }
     where
@@ -467,7 +467,7 @@ bare_each g rows stays bare = λ i row store here.
     let from = each_get g 0 rows i row here in
     ap (λ (r : RowState). tier r store) from.2 ∙ (tier_kept (g (0 + i) from.0) from.0 store (stays (0 + i) from.0) ∙ bare i from.0 store from.1)
 
-pub limbo_rows : (tells : Bool) (at : Seen) (retired : List Retired) (told : Bool) (rows later : List RowState) (limbo : List FileState) → KeepsNames rows later → (told ≡ false → AreBare later) → IsLimboOf tells (beside at retired) told rows limbo → IsLimboOf tells (beside at retired) told later limbo
+pub limbo_rows : (tells : Bool) (at : Seen) (retired : List Retired) (told : Bool) (rows later : List RowState) (limbo : List RowFile) → KeepsNames rows later → (told ≡ false → AreBare later) → IsLimboOf tells (beside at retired) told rows limbo → IsLimboOf tells (beside at retired) told later limbo
 limbo_rows tells at retired told rows later limbo names bare tie = limbo_stays tells at at retired told rows later limbo keeps (λ file there. (λ listed. listed, λ listed. listed)) bare tie
   where
     keeps : KeepsFiles tells (beside at retired) (beside at retired) rows later
@@ -475,7 +475,7 @@ limbo_rows tells at retired told rows later limbo names bare tie = limbo_stays t
 
 -- THE STORES STAY
 
-pub limbo_beside : (tells : Bool) (old new : Seen) (retired : List Retired) (s : Stores) (told : Bool) (rows : List RowState) (limbo : List FileState) → IsKnown old.catalogue old.manifests s → IsKnown new.catalogue new.manifests s → granularities new.manifests ≡ granularities old.manifests
+pub limbo_beside : (tells : Bool) (old new : Seen) (retired : List Retired) (s : Stores) (told : Bool) (rows : List RowState) (limbo : List RowFile) → IsKnown old.catalogue old.manifests s → IsKnown new.catalogue new.manifests s → granularities new.manifests ≡ granularities old.manifests
     → KeepsShown tells (beside old retired) (beside new retired) → IsLimboOf tells (beside old retired) told rows limbo → IsLimboOf tells (beside new retired) told rows limbo
 limbo_beside tells old new retired s told rows limbo was now same_g shown tie = limbo_stays tells old new retired told rows rows limbo keeps lists tie.bare tie
   where
@@ -488,9 +488,9 @@ limbo_beside tells old new retired s told rows limbo was now same_g shown tie = 
 -- THE STORES GROW
 
 -- of files that are all unlisted none goes
-all_unlisted : (rows : List RowState) (files : List FileState) → AllByRecursion (IsUnlisted rows) files → unlisted rows files ≡ files
+all_unlisted : (rows : List RowState) (files : List RowFile) → AllByRecursion (IsUnlisted rows) files → unlisted rows files ≡ files
 all_unlisted rows [] all = refl
-all_unlisted rows (f ∷ files) all = let own = all.0 in rw own (ap (λ (fs : List FileState). f ∷ fs) (all_unlisted rows files all.1))
+all_unlisted rows (f ∷ files) all = let own = all.0 in rw own (ap (λ (fs : List RowFile). f ∷ fs) (all_unlisted rows files all.1))
 
 module _ (tells : Bool) (old new : Seen) (retired : List Retired) (m : Machine) (before held : Stores) (was : IsKnown old.catalogue old.manifests before) (has : Has tells new held) (grow : StoresGrow m.moves before held) (stands : m.told ≡ true → IsTrue held.stands)
     (same_g : granularities new.manifests ≡ granularities old.manifests) (rule : IsRuleOf old m.rule) (shown : KeepsShown tells (beside old retired) (beside new retired)) (tie : IsLimboOf tells (beside old retired) m.told m.rows m.limbo) where
@@ -525,5 +525,5 @@ module _ (tells : Bool) (old new : Seen) (retired : List Retired) (m : Machine) 
 
       told_ties : m.told ≡ true → AreRetired tells (beside new retired) m.rows m.limbo × AreUnlisted (beside new retired) m.rows m.limbo
       told_ties on =
-          subst (λ (files : List FileState). AreRetired tells (beside new retired) m.rows files × AreUnlisted (beside new retired) m.rows files) (all_unlisted m.rows m.limbo sound.each_unlisted)
+          subst (λ (files : List RowFile). AreRetired tells (beside new retired) m.rows files × AreUnlisted (beside new retired) m.rows files) (all_unlisted m.rows m.limbo sound.each_unlisted)
           (unlisted_ties tells (beside new retired) m held has holds (rule.granularity ∙ sym same_g) rule.headers on (stands on) m.limbo limbo_still (ties_on on))

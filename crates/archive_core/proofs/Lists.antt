@@ -51,7 +51,7 @@ use Rattle.tier_store.proofs.Showing.{known_to, registers_on, renames_on, switch
 use Rattle.act_model.specs.Machine.{MoveState}
 use Rattle.archive_core.specs.Stands.{StoresGrow}
 use Rattle.partition_names.specs.Part.{IsPart}
-use Rattle.etl_mover.specs.Move.{MoveState as Moving}
+use Rattle.etl_mover.specs.Move.{Moving}
 
 -- Lists by their places, and with one element set.
 

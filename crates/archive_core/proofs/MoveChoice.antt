@@ -51,12 +51,12 @@ use Rattle.store_manifest.specs.Entries.{Place, comes_before, without, put as pu
 use Rattle.durable_write.specs.Ahead.{without_all}
 use Rattle.tier_store.specs.Retiring.{oldest, without_oldest}
 use Rattle.act_model.specs.Changes.{added, at, changed, made}
-use Rattle.act_model.specs.Limbo.{files_of, put, FileState, revived}
+use Rattle.act_model.specs.Limbo.{files_of, put, RowFile, revived}
 use Rattle.archive_core.specs.Stands.{IsDurableAt, HoldsDurable}
 use Rattle.act_model.proofs.RowLaws.{before_none}
 use Rattle.act_model.proofs.Copies.{before_all}
 use Rattle.act_model.proofs.Puts.{before-append}
-use Rattle.etl_mover.specs.Move.{MoveState as Moving}
+use Rattle.etl_mover.specs.Move.{Moving}
 
 -- Where what a store lists of a row ends.
 
@@ -680,7 +680,7 @@ before_oldest g rows k (suc n) (f ∷ fs) filed apart low =
     before-append end f.samples (all_in fs) ∙ (λ i. before_all end p.start f.samples own (omega (arith, inside, high)) i ++ before_oldest g rows p.end n fs others apart.1 apart.0 i)
 
 -- a list ends behind what is put into it
-pub end_put : (xs : List Sample) (limbo : List FileState) (listed : List Sample) → end_of (put xs limbo listed) ≡ end_from (end_of listed) xs
+pub end_put : (xs : List Sample) (limbo : List RowFile) (listed : List Sample) → end_of (put xs limbo listed) ≡ end_from (end_of listed) xs
 end_put [] limbo listed = refl
 end_put (s ∷ rest) limbo listed =
     let more = revived limbo listed s in

@@ -16,7 +16,7 @@ use Rattle.tier_store.specs.Revival.{AreWhole, samples_at, FlushesOver, fresh}
 use Rattle.tier_store.specs.Seen.{Seen, granularities}
 use Rattle.tier_store.specs.Stores.{Stores, list_at}
 use Rattle.tier_store.specs.declared.limbo.Retired.{Retired}
-use Rattle.act_model.specs.Limbo.{FileState, files_of, put, revived, Fits}
+use Rattle.act_model.specs.Limbo.{RowFile, files_of, put, revived, Fits}
 use Rattle.act_model.specs.Machine.{Machine, Appends, MoveState}
 use Rattle.act_model.specs.Rows.{RowState, Store, Short, deep, durable, Medium, Long, holds, next_store, tier, is_empty, window}
 use Rattle.archive_core.proofs.Lists.{all_of, contains_head, of_all, contains_cases, contains_tail}
@@ -65,7 +65,7 @@ use Rattle.archive_core.proofs.Opens.{told_tells}
 use Rattle.archive_core.proofs.LimboSwept.{lines_same}
 use Rattle.std.proofs.lemmas.List.Folds.{Any-from_list_any, list_any-from_Any}
 use Rattle.tier_store.proofs.CopyLimbo.{since_low}
-use Rattle.etl_mover.specs.Move.{MoveState as Moving}
+use Rattle.etl_mover.specs.Move.{Moving}
 use Rattle.act_model.specs.OpenPiece.{bytes_of as piece_bytes}
 
 -- A flush that goes on in files of limbo: what the stores make of a row's samples is what the machine makes of them.
@@ -116,13 +116,13 @@ module _ (tells : Bool) (at : Seen) (limbo : List Retired) (m : Machine) (held :
   they_stand = told_stands tells m.told held.stands have.told_is told
 
   -- those of the machine, of this row in store 1
-  abbrev own_files : List FileState
+  abbrev own_files : List RowFile
   own_files = files_of i Short m.limbo
 
   back_is : AreBack 0 limbo files held.short by.back
   back_is = let back = by.in_limbo in record { known = back.known; unlisted = back.unlisted; from = back.from; every = back.every }
 
-  of_own : (f : FileState) → Contains own_files f → Contains m.limbo f × (f.row ≡ i) × (f.store ≡ Short)
+  of_own : (f : RowFile) → Contains own_files f → Contains m.limbo f × (f.row ≡ i) × (f.store ≡ Short)
   of_own f there = own_is tells at limbo m held have told Short first.0 first.1 i r here files whole held.short (λ p none. none) by.back back_is f there
 
   was : r.short ≡ samples_of i held.short
@@ -139,7 +139,7 @@ module _ (tells : Bool) (at : Seen) (limbo : List Retired) (m : Machine) (held :
   row_sound : (end_of (deep r Short) ≤ end_of (durable r)) × (end_of r.short ≤ end_of (durable r))
   row_sound = let row = have.sound.each_row i r here in let end = end_of-over (deep r Short) r.short row.short in (omega (arith, end), omega (arith, end))
 
-  covered : (f : FileState) → Contains own_files f → end_of f.samples ≤ end_of (durable r)
+  covered : (f : RowFile) → Contains own_files f → end_of f.samples ≤ end_of (durable r)
   covered f there =
       let of = of_own f there in
       let is = of_all (LimboSound m.rule m.told m.rows) m.limbo f have.sound.each_file of.0 in
@@ -150,7 +150,7 @@ module _ (tells : Bool) (at : Seen) (limbo : List Retired) (m : Machine) (held :
 
   -- each of the files starts before what is later than all that is durable
   starts : (n : ℕ) → end_of (durable r) ≤ n → StartBy n own_files
-  starts n late = all_of (λ (f : FileState). f.part.start ≤ n) own_files (λ f there.
+  starts n late = all_of (λ (f : RowFile). f.part.start ≤ n) own_files (λ f there.
       let of = of_own f there in
       let is = (have.tie.retired told).each f of.0 in
       let is_filed = is.is.filed in
@@ -215,11 +215,11 @@ any_to : {A : Type 0} (p : A → Bool) (xs : List A) (x : A) → Contains xs x �
 any_to {A} p xs x there is = list_any-from_Any p xs (there.0, x, there.1, there.2, is)
 
 -- what is put is there
-put_keeps : (xs : List Sample) (limbo : List FileState) (listed : List Sample) (s : Sample) → Contains listed s → Contains (put xs limbo listed) s
+put_keeps : (xs : List Sample) (limbo : List RowFile) (listed : List Sample) (s : Sample) → Contains listed s → Contains (put xs limbo listed) s
 put_keeps [] limbo listed s there = there
 put_keeps (x ∷ xs) limbo listed s there = let more = revived limbo listed x ++ x ∷ [] in put_keeps xs limbo (listed ++ more) s (Contains-append_left listed more s there)
 
-put_has : (xs : List Sample) (limbo : List FileState) (listed : List Sample) (s : Sample) → Contains xs s → Contains (put xs limbo listed) s
+put_has : (xs : List Sample) (limbo : List RowFile) (listed : List Sample) (s : Sample) → Contains xs s → Contains (put xs limbo listed) s
 put_has [] limbo listed s there = absurd (let low = there.1 in omega (arith, low))
 put_has (x ∷ xs) limbo listed s there = elim (contains_cases x xs s there) [
   | inl own ↦ subst (λ (y : Sample). Contains (put (x ∷ xs) limbo listed) y) own (put_keeps xs limbo (listed ++ (back ++ x ∷ [])) x (Contains-append_right listed (back ++ x ∷ []) x (Contains-append_right back (x ∷ []) x (contains_head x []))))
@@ -230,15 +230,15 @@ put_has (x ∷ xs) limbo listed s there = elim (contains_cases x xs s there) [
     back = revived limbo listed x
 
 -- a sample that is put is one of those, or of a file of limbo into whose partition one of those comes
-data PutFor (xs : List Sample) (limbo : List FileState) (y : Sample) : Type 0 where
+data PutFor (xs : List Sample) (limbo : List RowFile) (y : Sample) : Type 0 where
   is_put : Contains xs y → PutFor xs limbo y
-  comes_back : (x : Sample) (g : FileState) → Contains xs x → Contains limbo g → holds g.part x.t ≡ true → Contains g.samples y → PutFor xs limbo y
+  comes_back : (x : Sample) (g : RowFile) → Contains xs x → Contains limbo g → holds g.part x.t ≡ true → Contains g.samples y → PutFor xs limbo y
 
-put_more_for : (x : Sample) (xs : List Sample) (limbo : List FileState) (y : Sample) → PutFor xs limbo y → PutFor (x ∷ xs) limbo y
+put_more_for : (x : Sample) (xs : List Sample) (limbo : List RowFile) (y : Sample) → PutFor xs limbo y → PutFor (x ∷ xs) limbo y
 put_more_for x xs limbo y (is_put there) = is_put (contains_tail x xs y there)
 put_more_for x xs limbo y (comes_back z g there among lies has) = comes_back z g (contains_tail x xs z there) among lies has
 
-revived_for : (x : Sample) (xs : List Sample) (limbo : List FileState) (listed : List Sample) (y : Sample) → Contains (revived limbo listed x) y → PutFor (x ∷ xs) limbo y
+revived_for : (x : Sample) (xs : List Sample) (limbo : List RowFile) (listed : List Sample) (y : Sample) → Contains (revived limbo listed x) y → PutFor (x ∷ xs) limbo y
 revived_for x xs limbo listed y there = by_case (revives limbo listed x) there
   where
     never : {ys : List Sample} → ys ≡ [] → Contains ys y → PutFor (x ∷ xs) limbo y
@@ -249,7 +249,7 @@ revived_for x xs limbo listed y there = by_case (revives limbo listed x) there
     by_case {ys} (inl (g, among, lies, inr (some, none))) has = never none has
     by_case {ys} (inr (others, none)) has = never none has
 
-put_from : (xs : List Sample) (limbo : List FileState) (listed : List Sample) (y : Sample) → Contains (put xs limbo listed) y → Contains listed y ⊎ PutFor xs limbo y
+put_from : (xs : List Sample) (limbo : List RowFile) (listed : List Sample) (y : Sample) → Contains (put xs limbo listed) y → Contains listed y ⊎ PutFor xs limbo y
 put_from [] limbo listed y there = inl there
 put_from (x ∷ xs) limbo listed y there = elim (put_from xs limbo (listed ++ (revived limbo listed x ++ x ∷ [])) y there) [
   | inl among ↦ elim (Contains-append_cases listed (revived limbo listed x ++ x ∷ []) y among) [
@@ -319,7 +319,7 @@ module _ (tells : Bool) (at : Seen) (limbo : List Retired) (m : Machine) (held :
   own_tier : tier r to ≡ samples_of move.row listed
   own_tier = (files_held at.catalogue at.manifests held m (have_durable tells at limbo m held have rule) told move.row r here to).samples
 
-  abbrev own : List FileState
+  abbrev own : List RowFile
   own = files_of move.row to m.limbo
 
   tier_rises : (store : Store) → IsRising (tier r store)
@@ -351,7 +351,7 @@ module _ (tells : Bool) (at : Seen) (limbo : List Retired) (m : Machine) (held :
     ahead_end = ap end_of copies ∙ end_put move.copied own (tier r to)
 
     -- and no sooner than a file in limbo into whose partition the move has copied
-    covers : (f : FileState) (g : Filed) → Contains own f → file_at (move.row, f.part.start) ahead ≡ Some g → end_from f.part.start f.samples ≤ end_of (samples_of move.row ahead)
+    covers : (f : RowFile) (g : Filed) → Contains own f → file_at (move.row, f.part.start) ahead ≡ Some g → end_from f.part.start f.samples ≤ end_of (samples_of move.row ahead)
     covers f g there stands_there = by_place (listed_at ahead (move.row, f.part.start))
       where
         by_file : (h : Filed) → Contains files h → filed_at h ≡ (move.row, f.part.start) → end_from f.part.start f.samples ≤ end_of (samples_of move.row ahead)
@@ -367,7 +367,7 @@ module _ (tells : Bool) (at : Seen) (limbo : List Retired) (m : Machine) (held :
             let same : h.entry.part ≡ f.part = one_part n.granularity h.entry.part f.part f.part.start h_part f_part (omega (arith, start), omega (arith, start, mine)) (omega arith, theirs) in
             let lies : holds f.part s.t ≡ true = ap (λ (p : Part). holds p s.t) (sym same) ∙ one.2 in
             let fits : Fits own s = of_all (Fits own) move.copied s right.fits one.1 in
-            let behind = of_all (λ (x : FileState). holds x.part s.t ≡ true → end_from x.part.start x.samples ≤ s.t) own f fits there lies in
+            let behind = of_all (λ (x : RowFile). holds x.part s.t ≡ true → end_from x.part.start x.samples ≤ s.t) own f fits there lies in
             let before_end = (of_all (λ (x : Sample). (end_of (tier r to) ≤ x.t) × (x.t < end_from (end_of (tier r to)) move.copied)) move.copied s (rises_before (end_of (tier r to)) move.copied right.rises) one.1).1 in
             let end = ahead_end in
             omega (arith, behind, before_end, end)
@@ -521,7 +521,7 @@ module _ (tells : Bool) (at : Seen) (limbo : List Retired) (m : Machine) (held :
       more_in = (then.ahead.safe tells_now).left later.files (later_now tells_now) stands
 
       -- a copied sample is later than the file of its partition that comes back
-      behind : (f : FileState) → Contains own f → file_at (move.row, f.part.start) ahead ≡ None → (y : Sample) → Contains (s ∷ xs) y → holds f.part y.t ≡ true → end_of f.samples ≤ y.t
+      behind : (f : RowFile) → Contains own f → file_at (move.row, f.part.start) ahead ≡ None → (y : Sample) → Contains (s ∷ xs) y → holds f.part y.t ≡ true → end_of f.samples ≤ y.t
       behind f there none y has lies =
           let test = (from_filter (λ (x : Sample). nat_le (end_of (samples_at back move.row x.t)) x.t) left y (subst (λ (ys : List Sample). Contains ys y) (sym are_left) (Contains-append_left (s ∷ xs) rest y has))).1 in
           let same = ap end_of (back_at tells at limbo m held have told to n managed move.row r here retired whole ahead leads back in_limbo f there y.t lies none) in
@@ -530,7 +530,7 @@ module _ (tells : Bool) (at : Seen) (limbo : List Retired) (m : Machine) (held :
 
       -- Where a sample comes into the partition of a file in limbo, and nothing is ahead there, the first one of the step does too: what is written
       -- there begins as that file does.
-      never : (f : FileState) → Contains own f → file_at (move.row, f.part.start) ahead ≡ None → (x : Sample) → Contains (s ∷ xs) x → holds f.part x.t ≡ true → holds f.part s.t ≡ false → ⊥
+      never : (f : RowFile) → Contains own f → file_at (move.row, f.part.start) ahead ≡ None → (x : Sample) → Contains (s ∷ xs) x → holds f.part x.t ≡ true → holds f.part s.t ≡ false → ⊥
       never f there none x has lies apart =
           let were = samples_of move.row ahead in
           let came = samples_at back move.row s.t in
@@ -582,7 +582,7 @@ module _ (tells : Bool) (at : Seen) (limbo : List Retired) (m : Machine) (held :
             ]
           ]
         where
-          is_written : (f : FileState) → Contains own f → (h : Filed) → Contains (put_all listed more) h → filed_at h ≡ (move.row, f.part.start) → Contains more h
+          is_written : (f : RowFile) → Contains own f → (h : Filed) → Contains (put_all listed more) h → filed_at h ≡ (move.row, f.part.start) → Contains more h
           is_written f there h inside at_place = elim (from_put more listed h inside) [
             | inl was ↦ absurd (
                 let free = own_free tells at limbo m held have told to n managed move.row r here retired whole ahead leads back in_limbo f there in
@@ -594,9 +594,9 @@ module _ (tells : Bool) (at : Seen) (limbo : List Retired) (m : Machine) (held :
           ]
 
       pub goes_with : AllByRecursion (GoesWith own (samples_of move.row ahead) s) xs
-      goes_with = all_of (GoesWith own (samples_of move.row ahead) s) xs (λ x inside. all_of (λ (f : FileState). holds f.part x.t ≡ true → (holds f.part s.t ≡ true) ⊎ (is_empty (window f.part (samples_of move.row ahead)) ≡ false)) own (λ f there lies. by_cases f there x inside lies (file_at (move.row, f.part.start) ahead) refl (holds f.part s.t) refl))
+      goes_with = all_of (GoesWith own (samples_of move.row ahead) s) xs (λ x inside. all_of (λ (f : RowFile). holds f.part x.t ≡ true → (holds f.part s.t ≡ true) ⊎ (is_empty (window f.part (samples_of move.row ahead)) ≡ false)) own (λ f there lies. by_cases f there x inside lies (file_at (move.row, f.part.start) ahead) refl (holds f.part s.t) refl))
         where
-          by_cases : (f : FileState) → Contains own f → (x : Sample) → Contains xs x → holds f.part x.t ≡ true → (o : Option Filed) → file_at (move.row, f.part.start) ahead ≡ o → (b : Bool) → holds f.part s.t ≡ b → (holds f.part s.t ≡ true) ⊎ (is_empty (window f.part (samples_of move.row ahead)) ≡ false)
+          by_cases : (f : RowFile) → Contains own f → (x : Sample) → Contains xs x → holds f.part x.t ≡ true → (o : Option Filed) → file_at (move.row, f.part.start) ahead ≡ o → (b : Bool) → holds f.part s.t ≡ b → (holds f.part s.t ≡ true) ⊎ (is_empty (window f.part (samples_of move.row ahead)) ≡ false)
           by_cases f there x inside lies (Some g) is b with_it = inr (some_window tells at limbo m held have told to n managed move.row r here retired whole ahead leads back in_limbo filed (rise_put_all listed files rise_listed) f.part (own_part tells at limbo m held have told to n managed move.row r here retired whole ahead leads back in_limbo f there) g is)
           by_cases f there x inside lies None none true with_it = inl with_it
           by_cases f there x inside lies None none false apart = absurd (never f there none x (contains_tail s xs x inside) lies apart)

@@ -6,7 +6,7 @@ use Rattle.std.proofs.lemmas.Bool.Decides.{nat_tests}
 use Rattle.partition_names.specs.declared.part.Part.{Part}
 use Rattle.series_model.specs.declared.sample.Sample.{Sample}
 use Rattle.series_model.specs.Series.{RisesFrom, since, end_from, end_of}
-use Rattle.act_model.specs.Limbo.{FileState, revived, put, files_of}
+use Rattle.act_model.specs.Limbo.{RowFile, revived, put, files_of}
 use Rattle.act_model.specs.Rows.{window, holds, is_empty, RowState, Store, same_store}
 use Rattle.act_model.proofs.Puts.{window-append}
 use Rattle.series_model.proofs.RisingLists.{RisesFrom-lower, end_from-ge}
@@ -92,11 +92,11 @@ seen_last s xs ys = λ part is.
     ∙ some_back (window part xs) (window part ys ++ window part (s ∷ [])) (some_back (window part ys) (window part (s ∷ [])) (ap is_empty (window_own part s is)))
 
 -- none of the files' partitions starts later than n
-abbrev pub StartBy : ℕ → List FileState → Type 0
-StartBy n files = AllByRecursion (λ (f : FileState). f.part.start ≤ n) files
+abbrev pub StartBy : ℕ → List RowFile → Type 0
+StartBy n files = AllByRecursion (λ (f : RowFile). f.part.start ≤ n) files
 
 -- nothing comes back before a later sample
-none_later : (files : List FileState) (listed : List Sample) (s x : Sample) → StartBy s.t files → s.t ≤ x.t → IsSeen s listed → revived files listed x ≡ []
+none_later : (files : List RowFile) (listed : List Sample) (s x : Sample) → StartBy s.t files → s.t ≤ x.t → IsSeen s listed → revived files listed x ≡ []
 none_later [] listed s x starts late seen = refl
 none_later (f ∷ files) listed s x starts late seen = by_test (holds f.part x.t) refl (none_later files listed s x starts.1 late seen)
   where
@@ -107,7 +107,7 @@ none_later (f ∷ files) listed s x starts late seen = by_test (holds f.part x.t
         ap (λ (b : Bool). cond b f.samples []) (seen f.part (holds_at f.part s.t low (omega (arith, late, end))))
     by_test false is rest = rest
 
-put_after : (xs : List Sample) (files : List FileState) (listed : List Sample) (s : Sample) → StartBy s.t files → RisesFrom (s.t + 1) xs → IsSeen s listed → put xs files listed ≡ listed ++ xs
+put_after : (xs : List Sample) (files : List RowFile) (listed : List Sample) (s : Sample) → StartBy s.t files → RisesFrom (s.t + 1) xs → IsSeen s listed → put xs files listed ≡ listed ++ xs
 put_after [] files listed s starts rises seen = sym (append-nil listed)
 put_after (x ∷ xs) files listed s starts rises seen =
     let low = rises.0 in
@@ -115,7 +115,7 @@ put_after (x ∷ xs) files listed s starts rises seen =
     ap (λ (ys : List Sample). put xs files (listed ++ (ys ++ x ∷ []))) none
     ∙ (put_after xs files (listed ++ x ∷ []) s starts (RisesFrom-lower (s.t + 1) (x.t + 1) xs rises.1 (omega (arith, low))) (seen_more s listed (x ∷ []) seen) ∙ append_assoc listed (x ∷ []) xs)
 
-pub put_first : (s : Sample) (xs : List Sample) (files : List FileState) (listed : List Sample) → StartBy s.t files → RisesFrom (s.t + 1) xs → put (s ∷ xs) files listed ≡ listed ++ (revived files listed s ++ s ∷ xs)
+pub put_first : (s : Sample) (xs : List Sample) (files : List RowFile) (listed : List Sample) → StartBy s.t files → RisesFrom (s.t + 1) xs → put (s ∷ xs) files listed ≡ listed ++ (revived files listed s ++ s ∷ xs)
 put_first s xs files listed starts rises =
     let back = revived files listed s in
     put_after xs files (listed ++ (back ++ s ∷ [])) s starts rises (seen_last s listed back)
@@ -153,10 +153,10 @@ rises_before n (x ∷ xs) rises = let first = rises.0 in let end = end_from-ge (
 -- LATER THAN THE FILES OF LIMBO
 
 -- a sample that is later than the file of its partition
-abbrev pub IsBehind : Sample → FileState → Type 0
+abbrev pub IsBehind : Sample → RowFile → Type 0
 IsBehind s f = holds f.part s.t ≡ true → end_from f.part.start f.samples ≤ s.t
 
-pub later_true : (files : List FileState) (s : Sample) → AllByRecursion (IsBehind s) files → is_later files s ≡ true
+pub later_true : (files : List RowFile) (s : Sample) → AllByRecursion (IsBehind s) files → is_later files s ≡ true
 later_true [] s all = refl
 later_true (f ∷ files) s all = by_test (holds f.part s.t) refl (later_true files s all.1)
   where
@@ -164,7 +164,7 @@ later_true (f ∷ files) s all = by_test (holds f.part s.t) refl (later_true fil
     by_test true is rest = let low : end_from f.part.start f.samples ≤ s.t = all.0 is in let own : nat_le (end_from f.part.start f.samples) s.t ≡ true = grind (arith, nat_tests, low) in rw (own, rest) refl
     by_test false is rest = rest
 
-pub later_each : (files : List FileState) (s : Sample) → is_later files s ≡ true → AllByRecursion (IsBehind s) files
+pub later_each : (files : List RowFile) (s : Sample) → is_later files s ≡ true → AllByRecursion (IsBehind s) files
 later_each [] s is = tt
 later_each (f ∷ files) s is = by_test (holds f.part s.t) refl (later_each files s)
   where
@@ -175,10 +175,10 @@ later_each (f ∷ files) s is = by_test (holds f.part s.t) refl (later_each file
 -- WHAT COMES BACK
 
 -- What comes back is the file in whose partition the sample lies, where that isn't listed, and nothing where it is or there is none.
-abbrev pub RevivesAs : List FileState → List Sample → Sample → List Sample → Type 0
-RevivesAs files listed s xs = ((f : FileState) × Contains files f × (holds f.part s.t ≡ true) × (((is_empty (window f.part listed) ≡ true) × (xs ≡ f.samples)) ⊎ ((is_empty (window f.part listed) ≡ false) × (xs ≡ [])))) ⊎ (((f : FileState) → Contains files f → holds f.part s.t ≡ true → ⊥) × (xs ≡ []))
+abbrev pub RevivesAs : List RowFile → List Sample → Sample → List Sample → Type 0
+RevivesAs files listed s xs = ((f : RowFile) × Contains files f × (holds f.part s.t ≡ true) × (((is_empty (window f.part listed) ≡ true) × (xs ≡ f.samples)) ⊎ ((is_empty (window f.part listed) ≡ false) × (xs ≡ [])))) ⊎ (((f : RowFile) → Contains files f → holds f.part s.t ≡ true → ⊥) × (xs ≡ []))
 
-pub revives : (files : List FileState) (listed : List Sample) (s : Sample) → RevivesAs files listed s (revived files listed s)
+pub revives : (files : List RowFile) (listed : List Sample) (s : Sample) → RevivesAs files listed s (revived files listed s)
 revives [] listed s = inr ((λ f there is. absurd (let low = there.1 in omega (arith, low))), refl)
 revives (f ∷ files) listed s = by_test (holds f.part s.t) refl (is_empty (window f.part listed)) refl (revives files listed s)
   where
@@ -188,7 +188,7 @@ revives (f ∷ files) listed s = by_test (holds f.part s.t) refl (is_empty (wind
     by_test false is c empty (inl (g, there, lies, as_it_is)) = inl (g, contains_tail f files g there, lies, as_it_is)
     by_test false is c empty (inr (none, same)) = inr (
       (λ g there lies. elim (contains_cases f files g there) [
-        | inl own ↦ (let yes : holds f.part s.t ≡ true = ap (λ (x : FileState). holds x.part s.t) own ∙ lies in let both : true ≡ false = sym yes ∙ is in cc (both))
+        | inl own ↦ (let yes : holds f.part s.t ≡ true = ap (λ (x : RowFile). holds x.part s.t) own ∙ lies in let both : true ≡ false = sym yes ∙ is in cc (both))
         | inr later ↦ none g later lies
       ]),
       same,
@@ -196,7 +196,7 @@ revives (f ∷ files) listed s = by_test (holds f.part s.t) refl (is_empty (wind
 
 -- WHAT IS PUT
 
-pub put_append : (xs ys : List Sample) (files : List FileState) (listed : List Sample) → put (xs ++ ys) files listed ≡ put ys files (put xs files listed)
+pub put_append : (xs ys : List Sample) (files : List RowFile) (listed : List Sample) → put (xs ++ ys) files listed ≡ put ys files (put xs files listed)
 put_append [] ys files listed = refl
 put_append (x ∷ xs) ys files listed = put_append xs ys files (listed ++ (revived files listed x ++ x ∷ []))
 
@@ -219,10 +219,10 @@ window_has part (x ∷ xs) s there is = elim (contains_cases x xs s there) [
 ]
 
 -- a file into whose partition a sample comes has samples in the list already
-abbrev AreListed : List FileState → List Sample → Sample → Type 0
-AreListed files listed x = AllByRecursion (λ (f : FileState). holds f.part x.t ≡ true → is_empty (window f.part listed) ≡ false) files
+abbrev AreListed : List RowFile → List Sample → Sample → Type 0
+AreListed files listed x = AllByRecursion (λ (f : RowFile). holds f.part x.t ≡ true → is_empty (window f.part listed) ≡ false) files
 
-none_listed : (files : List FileState) (listed : List Sample) (x : Sample) → AreListed files listed x → revived files listed x ≡ []
+none_listed : (files : List RowFile) (listed : List Sample) (x : Sample) → AreListed files listed x → revived files listed x ≡ []
 none_listed [] listed x are = refl
 none_listed (f ∷ files) listed x are = by_test (holds f.part x.t) refl (none_listed files listed x are.1)
   where
@@ -230,25 +230,25 @@ none_listed (f ∷ files) listed x are = by_test (holds f.part x.t) refl (none_l
     by_test true is rest = ap (λ (b : Bool). cond b f.samples []) (are.0 is)
     by_test false is rest = rest
 
-listed_more : (files : List FileState) (listed ys : List Sample) (x : Sample) → AreListed files listed x → AreListed files (listed ++ ys) x
+listed_more : (files : List RowFile) (listed ys : List Sample) (x : Sample) → AreListed files listed x → AreListed files (listed ++ ys) x
 listed_more [] listed ys x are = tt
 listed_more (f ∷ files) listed ys x are = ((λ is. window_more f.part listed ys (are.0 is)), listed_more files listed ys x are.1)
 
-all_more : (xs : List Sample) (files : List FileState) (listed ys : List Sample) → AllByRecursion (AreListed files listed) xs → AllByRecursion (AreListed files (listed ++ ys)) xs
+all_more : (xs : List Sample) (files : List RowFile) (listed ys : List Sample) → AllByRecursion (AreListed files listed) xs → AllByRecursion (AreListed files (listed ++ ys)) xs
 all_more [] files listed ys are = tt
 all_more (x ∷ xs) files listed ys are = (listed_more files listed ys x are.0, all_more xs files listed ys are.1)
 
-put_behind : (xs : List Sample) (files : List FileState) (listed : List Sample) → AllByRecursion (AreListed files listed) xs → put xs files listed ≡ listed ++ xs
+put_behind : (xs : List Sample) (files : List RowFile) (listed : List Sample) → AllByRecursion (AreListed files listed) xs → put xs files listed ≡ listed ++ xs
 put_behind [] files listed are = sym (append-nil listed)
 put_behind (x ∷ xs) files listed are =
     ap (λ (ys : List Sample). put xs files (listed ++ (ys ++ x ∷ []))) (none_listed files listed x are.0)
     ∙ (put_behind xs files (listed ++ x ∷ []) (all_more xs files listed (x ∷ []) are.1) ∙ append_assoc listed (x ∷ []) xs)
 
 -- A file that has the one sample in its partition has the other there too, or has samples in the list.
-abbrev pub GoesWith : List FileState → List Sample → Sample → Sample → Type 0
-GoesWith files listed s x = AllByRecursion (λ (f : FileState). holds f.part x.t ≡ true → (holds f.part s.t ≡ true) ⊎ (is_empty (window f.part listed) ≡ false)) files
+abbrev pub GoesWith : List RowFile → List Sample → Sample → Sample → Type 0
+GoesWith files listed s x = AllByRecursion (λ (f : RowFile). holds f.part x.t ≡ true → (holds f.part s.t ≡ true) ⊎ (is_empty (window f.part listed) ≡ false)) files
 
-with_listed : (files : List FileState) (listed back : List Sample) (s x : Sample) → GoesWith files listed s x → AreListed files (listed ++ (back ++ s ∷ [])) x
+with_listed : (files : List RowFile) (listed back : List Sample) (s x : Sample) → GoesWith files listed s x → AreListed files (listed ++ (back ++ s ∷ [])) x
 with_listed [] listed back s x alike = tt
 with_listed (f ∷ files) listed back s x alike = (
   (λ is. elim (alike.0 is) [
@@ -259,12 +259,12 @@ with_listed (f ∷ files) listed back s x alike = (
 )
 
 -- all samples but the first go with it
-abbrev pub GoTogether : List FileState → List Sample → List Sample → Type 0
+abbrev pub GoTogether : List RowFile → List Sample → List Sample → Type 0
 GoTogether files listed [] = Unit {0}
 GoTogether files listed (s ∷ xs) = AllByRecursion (GoesWith files listed s) xs
 
 -- they go behind what comes back before the first of them
-pub put_together : (s : Sample) (xs : List Sample) (files : List FileState) (listed : List Sample) → AllByRecursion (GoesWith files listed s) xs → put (s ∷ xs) files listed ≡ listed ++ (revived files listed s ++ s ∷ xs)
+pub put_together : (s : Sample) (xs : List Sample) (files : List RowFile) (listed : List Sample) → AllByRecursion (GoesWith files listed s) xs → put (s ∷ xs) files listed ≡ listed ++ (revived files listed s ++ s ∷ xs)
 put_together s xs files listed alike =
     let back = revived files listed s in
     put_behind xs files (listed ++ (back ++ s ∷ [])) (all_listed xs alike)
@@ -345,13 +345,13 @@ module _ (tells : Bool) (at : Seen) (limbo : List Retired) (m : Machine) (held :
 
   -- THOSE OF THE MACHINE
 
-  abbrev own : List FileState
+  abbrev own : List RowFile
   own = files_of row store m.limbo
 
-  abbrev is_own : FileState → Bool
+  abbrev is_own : RowFile → Bool
   is_own f = f.row == row && same_store f.store store
 
-  pub own_is : (f : FileState) → Contains own f → Contains m.limbo f × (f.row ≡ row) × (f.store ≡ store)
+  pub own_is : (f : RowFile) → Contains own f → Contains m.limbo f × (f.row ≡ row) × (f.store ≡ store)
   own_is f there = let from = from_filter is_own m.limbo f there in let both = by_test (f.row == row) refl (same_store f.store store) refl from.1 in (from.0, both.0, both.1)
     where
       by_test : (a : Bool) → (f.row == row) ≡ a → (b : Bool) → same_store f.store store ≡ b → (a && b) ≡ true → (f.row ≡ row) × (f.store ≡ store)
@@ -416,7 +416,7 @@ module _ (tells : Bool) (at : Seen) (limbo : List Retired) (m : Machine) (held :
   -- THE ONES AND THE OTHERS
 
   -- one that is whole has the samples that the machine has
-  one_image : (f : FileState) (file : Retired) (h : Filed) → Contains limbo file → file.name.0 ≡ i + 1 → IsRetiredOf tells (beside at limbo) m.rows f file → Contains retired h → file.entry ≡ h.entry → h.samples ≡ f.samples
+  one_image : (f : RowFile) (file : Retired) (h : Filed) → Contains limbo file → file.name.0 ≡ i + 1 → IsRetiredOf tells (beside at limbo) m.rows f file → Contains retired h → file.entry ≡ h.entry → h.samples ≡ f.samples
   one_image f file h there number is inside same =
       let h_is : IsFiled unit at.catalogue.rows h = All-contains (IsFiled unit at.catalogue.rows) retired h filed inside in
       let h_in : Begins (held_files.bytes_of h) (at.files (file_of (i + 1, at.catalogue.rows) h.entry)) = All-contains (IsIn (i + 1, at.catalogue.rows) at.files) retired h are_in inside in
@@ -432,14 +432,14 @@ module _ (tells : Bool) (at : Seen) (limbo : List Retired) (m : Machine) (held :
   in_retired h inside = All-contains (Contains retired) back h in_limbo.known inside
 
   -- the retired file of one of the machine's, and where it stands
-  pub record HasFile (f : FileState) : Type 0 where
+  pub record HasFile (f : RowFile) : Type 0 where
     pub file : Retired
     pub inside : Contains limbo file
     pub is : IsRetiredOf tells (beside at limbo) m.rows f file
     pub number : file.name.0 ≡ i + 1
     pub at_place : place file.entry ≡ (row, f.part.start)
 
-  pub has_file : (f : FileState) → Contains own f → HasFile f
+  pub has_file : (f : RowFile) → Contains own f → HasFile f
   has_file f there =
       let of = own_is f there in
       let is = (have.tie.retired told).each f of.0 in
@@ -454,15 +454,15 @@ module _ (tells : Bool) (at : Seen) (limbo : List Retired) (m : Machine) (held :
       }
 
   -- a file of limbo is of a partition of the store
-  pub own_part : (f : FileState) → Contains own f → IsPart unit f.part
+  pub own_part : (f : RowFile) → Contains own f → IsPart unit f.part
   own_part f there = let has = has_file f there in subst (λ (p : Part). IsPart unit p) has.is.part (as_listed has.file has.inside has.number).part
 
   -- what may be listed in its place has its name
-  pub own_named : (f : FileState) (there : Contains own f) (h : Filed) → IsListed unit held.rows h → filed_at h ≡ (row, f.part.start) → file_of (i + 1, held.rows) h.entry ≡ (has_file f there).file.name
+  pub own_named : (f : RowFile) (there : Contains own f) (h : Filed) → IsListed unit held.rows h → filed_at h ≡ (row, f.part.start) → file_of (i + 1, held.rows) h.entry ≡ (has_file f there).file.name
   own_named f there h h_is same = let has = has_file f there in placed_named has.file has.inside has.number h h_is (same ∙ sym has.at_place)
 
   -- nothing is listed in the place of one of the machine's
-  pub own_free : (f : FileState) → Contains own f → file_at (row, f.part.start) (list_at (index_of store) held) ≡ None
+  pub own_free : (f : RowFile) → Contains own f → file_at (row, f.part.start) (list_at (index_of store) held) ≡ None
   own_free f there =
       let of = own_is f there in
       let has = has_file f there in
@@ -470,14 +470,14 @@ module _ (tells : Bool) (at : Seen) (limbo : List Retired) (m : Machine) (held :
       ap (λ (p : Place). file_at p (list_at (index_of store) held)) (sym has.at_place) ∙ no_place has.file has.inside has.number free
 
   -- each of the machine's in whose place nothing is ahead has its file among those that come back
-  pub record HasBack (f : FileState) : Type 0 where
+  pub record HasBack (f : RowFile) : Type 0 where
     pub h : Filed
     pub within : Contains back h
     pub series : h.entry.series ≡ row
     pub part : h.entry.part ≡ f.part
     pub samples : h.samples ≡ f.samples
 
-  has_back : (f : FileState) → Contains own f → file_at (row, f.part.start) ahead ≡ None → HasBack f
+  has_back : (f : RowFile) → Contains own f → file_at (row, f.part.start) ahead ≡ None → HasBack f
   has_back f there none =
       let has = has_file f there in
       let entry = in_limbo.every has.file has.inside has.number (ap (λ (p : Place). file_at p ahead) has.at_place ∙ none) in
@@ -492,7 +492,7 @@ module _ (tells : Bool) (at : Seen) (limbo : List Retired) (m : Machine) (held :
 
   -- and the other way round
   pub record IsOwn (h : Filed) : Type 0 where
-    pub f : FileState
+    pub f : RowFile
     pub there : Contains own f
     pub part : h.entry.part ≡ f.part
     pub samples : h.samples ≡ f.samples
@@ -513,7 +513,7 @@ module _ (tells : Bool) (at : Seen) (limbo : List Retired) (m : Machine) (held :
         samples = one_image one.f of.file h of.within of.store one.is (in_retired h inside) of.is;
       }
     where
-      own_test : (f : FileState) → f.row ≡ row → f.store ≡ store → is_own f ≡ true
+      own_test : (f : RowFile) → f.row ≡ row → f.store ≡ store → is_own f ≡ true
       own_test f own_row own_store =
           let rows : (f.row == row) ≡ true = grind (arith, nat_tests, own_row) in
           ap (λ (b : Bool). b && same_store f.store store) rows ∙ (ap (λ (s : Store). same_store s store) own_store ∙ store_itself store)
@@ -557,7 +557,7 @@ module _ (tells : Bool) (at : Seen) (limbo : List Retired) (m : Machine) (held :
       one_of_list retired g h whole.rise g_in h_in same
 
   -- the samples of one that comes back at a moment are those of the machine's
-  pub back_at : (f : FileState) → Contains own f → (t : ℕ) → holds f.part t ≡ true → file_at (row, f.part.start) ahead ≡ None → samples_at back row t ≡ f.samples
+  pub back_at : (f : RowFile) → Contains own f → (t : ℕ) → holds f.part t ≡ true → file_at (row, f.part.start) ahead ≡ None → samples_at back row t ≡ f.samples
   back_at f there t is none = by_case (stands_at back t)
     where
       b : HasBack f
@@ -573,7 +573,7 @@ module _ (tells : Bool) (at : Seen) (limbo : List Retired) (m : Machine) (held :
       by_case {xs} (inr (none_at, are)) = absurd (none_at b.h b.within b.series b_lies)
 
   -- in the partition of one in whose place a file is ahead nothing comes back
-  pub ahead_at : (f : FileState) → Contains own f → (t : ℕ) → holds f.part t ≡ true → (g : Filed) → file_at (row, f.part.start) ahead ≡ Some g → samples_at back row t ≡ []
+  pub ahead_at : (f : RowFile) → Contains own f → (t : ℕ) → holds f.part t ≡ true → (g : Filed) → file_at (row, f.part.start) ahead ≡ Some g → samples_at back row t ≡ []
   ahead_at f there t is g stands_there = by_case (stands_at back t)
     where
       by_case : {xs : List Sample} → StandsAt back row t xs → xs ≡ []
@@ -588,7 +588,7 @@ module _ (tells : Bool) (at : Seen) (limbo : List Retired) (m : Machine) (held :
       by_case {xs} (inr (none, are)) = are
 
   -- where no file of the machine has the moment in its partition nothing comes back
-  pub none_at : (t : ℕ) → ((f : FileState) → Contains own f → holds f.part t ≡ true → ⊥) → samples_at back row t ≡ []
+  pub none_at : (t : ℕ) → ((f : RowFile) → Contains own f → holds f.part t ≡ true → ⊥) → samples_at back row t ≡ []
   none_at t none = by_case (stands_at back t)
     where
       by_case : {xs : List Sample} → StandsAt back row t xs → xs ≡ []
@@ -598,7 +598,7 @@ module _ (tells : Bool) (at : Seen) (limbo : List Retired) (m : Machine) (held :
       by_case {xs} (inr (none_too, are)) = are
 
   -- what comes back at a moment is of the machine
-  some_at : (t : ℕ) → ((f : FileState) → Contains own f → holds f.part t ≡ true → end_of f.samples ≤ t) → end_of (samples_at back row t) ≤ t
+  some_at : (t : ℕ) → ((f : RowFile) → Contains own f → holds f.part t ≡ true → end_of f.samples ≤ t) → end_of (samples_at back row t) ≤ t
   some_at t ends = by_case (stands_at back t)
     where
       by_case : {xs : List Sample} → StandsAt back row t xs → end_of xs ≤ t
@@ -610,7 +610,7 @@ module _ (tells : Bool) (at : Seen) (limbo : List Retired) (m : Machine) (held :
       by_case {xs} (inr (none, are)) = let same = ap end_of are in omega (arith, same)
 
   -- a sample that comes back at a moment lies in a partition with it
-  pub back_inside : (t : ℕ) (y : Sample) → Contains (samples_at back row t) y → (f : FileState) → Contains own f → holds f.part y.t ≡ true → holds f.part t ≡ true
+  pub back_inside : (t : ℕ) (y : Sample) → Contains (samples_at back row t) y → (f : RowFile) → Contains own f → holds f.part y.t ≡ true → holds f.part t ≡ true
   back_inside t y has f there is = by_case (stands_at back t) has
     where
       by_case : {xs : List Sample} → StandsAt back row t xs → Contains xs y → holds f.part t ≡ true
@@ -624,10 +624,10 @@ module _ (tells : Bool) (at : Seen) (limbo : List Retired) (m : Machine) (held :
   -- WHAT IS LATER THAN THE FILES
 
   -- the same samples are held back, where what is ahead ends no sooner than a file in whose place it has one
-  pub later_same : (end : ℕ) → ((f : FileState) (g : Filed) → Contains own f → file_at (row, f.part.start) ahead ≡ Some g → end_from f.part.start f.samples ≤ end) → (s : Sample) → end ≤ s.t → nat_le (end_of (samples_at back row s.t)) s.t ≡ is_later own s
+  pub later_same : (end : ℕ) → ((f : RowFile) (g : Filed) → Contains own f → file_at (row, f.part.start) ahead ≡ Some g → end_from f.part.start f.samples ≤ end) → (s : Sample) → end ≤ s.t → nat_le (end_of (samples_at back row s.t)) s.t ≡ is_later own s
   later_same end covers s late = same_test (nat_le (end_of (samples_at back row s.t)) s.t) (is_later own s) to from
     where
-      one : (f : FileState) → Contains own f → end_of (samples_at back row s.t) ≤ s.t → (o : Option Filed) → file_at (row, f.part.start) ahead ≡ o → IsBehind s f
+      one : (f : RowFile) → Contains own f → end_of (samples_at back row s.t) ≤ s.t → (o : Option Filed) → file_at (row, f.part.start) ahead ≡ o → IsBehind s f
       one f there low None none = λ is.
           let start : f.part.start ≤ s.t = (lies_in f.part s.t is).0 in
           let same = ap end_of (back_at f there s.t is none) in
@@ -684,11 +684,11 @@ module _ (tells : Bool) (at : Seen) (limbo : List Retired) (m : Machine) (held :
     pub same_back : (s : Sample) → samples_at back row s.t ≡ revived own (all_in (of_row row ahead)) s
     same_back s = by_case (revives own (all_in (of_row row ahead)) s)
       where
-        some_there : (f : FileState) → Contains own f → is_empty (window f.part (all_in (of_row row ahead))) ≡ true → (o : Option Filed) → file_at (row, f.part.start) ahead ≡ o → file_at (row, f.part.start) ahead ≡ None
+        some_there : (f : RowFile) → Contains own f → is_empty (window f.part (all_in (of_row row ahead))) ≡ true → (o : Option Filed) → file_at (row, f.part.start) ahead ≡ o → file_at (row, f.part.start) ahead ≡ None
         some_there f there bare None none = none
         some_there f there bare (Some g) is = absurd (let some = some_window f.part (own_part f there) g is in let both : true ≡ false = sym bare ∙ some in cc (both))
 
-        in_place : (f : FileState) → Contains own f → is_empty (window f.part (all_in (of_row row ahead))) ≡ false → (o : Option Filed) → file_at (row, f.part.start) ahead ≡ o → (g : Filed) × (file_at (row, f.part.start) ahead ≡ Some g)
+        in_place : (f : RowFile) → Contains own f → is_empty (window f.part (all_in (of_row row ahead))) ≡ false → (o : Option Filed) → file_at (row, f.part.start) ahead ≡ o → (g : Filed) × (file_at (row, f.part.start) ahead ≡ Some g)
         in_place f there some None none = absurd (let bare = none_window f.part (own_part f there) none in let both : true ≡ false = sym bare ∙ some in cc (both))
         in_place f there some (Some g) is = (g, is)
 

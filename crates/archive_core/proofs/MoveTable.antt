@@ -8,7 +8,7 @@ use Rattle.moves.specs.Table.{at, IsOf}
 use Rattle.moves.specs.declared.table.Running.{Running}
 use Rattle.tier_store.specs.Pinned.{SeenAll, beside}
 use Rattle.tier_store.specs.Stores.{Stores, list_at, tier as tier_at}
-use Rattle.act_model.specs.Limbo.{FileState, files_of, put, revived}
+use Rattle.act_model.specs.Limbo.{RowFile, files_of, put, revived}
 use Rattle.act_model.specs.Machine.{Machine, MoveState, Change}
 use Rattle.act_model.specs.Rows.{RowState, Store, next_store, Long, Short, Medium, holds, same_store, tier}
 use Rattle.archive_core.specs.MoveTies.{IsMoveOf, AreMovesOf, HasMoveOf, ends_from, GetsOne}
@@ -21,7 +21,7 @@ use Rattle.act_model.specs.Rule.{index_of, Rule, IsPartition}
 use Rattle.archive_core.proofs.MoveChoice.{next_place, goes_on, next_high, source_low}
 use Rattle.std.specs.Ordering.{nat_cmp, eq_by_cmp}
 use Rattle.std.proofs.lemmas.Cmp.{nat_cmp_total}
-use Rattle.etl_mover.specs.Move.{HasBegun, MoveState as Moving}
+use Rattle.etl_mover.specs.Move.{HasBegun, Moving}
 use Rattle.archive_core.specs.Growing.{HasRunning}
 use Rattle.archive_core.specs.MoveChoice.{AreNumbers, HaveDurable, move_end, GoesOnBy, move_rule}
 use Rattle.archive_core.proofs.Lists.{same_or_not, element, of_all}
@@ -57,8 +57,8 @@ use Rattle.tier_store.specs.Opening.{answer_of}
 use Rattle.act_model.specs.declared.acts.Answer.{Answer}
 use Rattle.moves.specs.declared.series.ToMove.TheVariants as chosen
 use Rattle.moves.specs.Table as table
-use Rattle.tier_store.specs.declared.moving.MoveBegun as begun_move
-use Rattle.tier_store.specs.declared.moving.MoveBegun.TheVariants as kind
+use Rattle.tier_store.specs.declared.moving.StoreMove as begun_move
+use Rattle.tier_store.specs.declared.moving.StoreMove.TheVariants as kind
 use Rattle.act_model.specs.declared.acts.Answer.TheVariants as answer
 use Rattle.std.specs.List.{AllByRecursion, list_any}
 use Rattle.std.proofs.lemmas.List.Elements.{All-contains}
@@ -180,7 +180,7 @@ module _ (tells : Bool) (all : SeenAll) (m : Machine) (before : Stores) (slots :
 
 -- ANOTHER TABLE
 
-module _ (tells : Bool) (all : SeenAll) (told : Bool) (rows : List RowState) (limbo : List FileState) (before : Stores) where
+module _ (tells : Bool) (all : SeenAll) (told : Bool) (rows : List RowState) (limbo : List RowFile) (before : Stores) where
   -- a move of the machine and one of the table, or neither
   abbrev pub IsBoth : Option MoveState → Option (Running Moving) → Type 0
   IsBoth None None = Unit {0}
@@ -212,7 +212,7 @@ module _ (tells : Bool) (all : SeenAll) (told : Bool) (rows : List RowState) (li
   moves_without moves slots later n left are = moves_set moves (remove moves n) slots later n None None (get_removed moves n) left tt are
 
 -- the table's moves may be told in another way
-pub moves_told : (tells : Bool) (all : SeenAll) (told : Bool) (rows : List RowState) (limbo : List FileState) (before : Stores) (m : Machine) (slots later : List (Option (Running Moving))) → ((k : ℕ) → at later k ≡ at slots k) → AreMovesOf tells all told rows limbo before m.moves slots → AreMovesOf tells all told rows limbo before m.moves later
+pub moves_told : (tells : Bool) (all : SeenAll) (told : Bool) (rows : List RowState) (limbo : List RowFile) (before : Stores) (m : Machine) (slots later : List (Option (Running Moving))) → ((k : ℕ) → at later k ≡ at slots k) → AreMovesOf tells all told rows limbo before m.moves slots → AreMovesOf tells all told rows limbo before m.moves later
 moves_told tells all told rows limbo before m slots later same are = record {
   none = λ n none. same n ∙ are.none n none;
   each = λ n move here. let has = are.each n move here in record { running = has.running; there = same n ∙ has.there; is = has.is };
@@ -371,7 +371,7 @@ module _ (tells : Bool) (p : Parts) (m : Machine) (r : Rests tells p m) (number 
   have = record { known = has.known; holds = r.stands.store.holds; rule = r.stands.rule.granularity; stands = told_stands tells m.told held.stands r.stands.store.told }
 
   -- what is said of the place that was told
-  said : (given : begun_move.MoveBegun) → SaysBegun tells (told - 1) rule by p.at.manifests given held → SaysBegun tells (index_of store) rule by p.at.manifests given held
+  said : (given : begun_move.StoreMove) → SaysBegun tells (told - 1) rule by p.at.manifests given held → SaysBegun tells (index_of store) rule by p.at.manifests given held
   said given says = subst (λ (k : ℕ). SaysBegun tells k rule by p.at.manifests given held) (let is = place_is number first last in omega (arith, is_told, is)) says
 
   goes : (choice : ToMove) → IsChoice rule (index_of store) by held choice → GoesOnBy m held store now choice
@@ -419,24 +419,24 @@ module _ (tells : Bool) (store : Store) (now : ℕ) (q new : Parts) (R : Type 0)
 
 -- WHAT THE MACHINE MAKES OF COPIES
 
-filter_both : (p q : FileState → Bool) (xs : List FileState) → filter p (filter q xs) ≡ filter q (filter p xs)
+filter_both : (p q : RowFile → Bool) (xs : List RowFile) → filter p (filter q xs) ≡ filter q (filter p xs)
 filter_both p q [] = refl
 filter_both p q (x ∷ xs) = by_tests (p x) refl (q x) refl (filter_both p q xs)
   where
     by_tests : (a : Bool) → p x ≡ a → (b : Bool) → q x ≡ b → filter p (filter q xs) ≡ filter q (filter p xs) → filter p (cond b (x ∷ filter q xs) (filter q xs)) ≡ filter q (cond a (x ∷ filter p xs) (filter p xs))
-    by_tests true is true other rest = rw (is, other) (ap (λ (l : List FileState). x ∷ l) rest)
+    by_tests true is true other rest = rw (is, other) (ap (λ (l : List RowFile). x ∷ l) rest)
     by_tests true is false other rest = rw other rest
     by_tests false is true other rest = rw is rest
     by_tests false is false other rest = rest
 
 -- of no copied sample is a file that doesn't stay
-abbrev LetsGo : (FileState → Bool) → List Sample → FileState → Type 0
+abbrev LetsGo : (RowFile → Bool) → List Sample → RowFile → Type 0
 LetsGo stays copied f = stays f ≡ false → list_any (λ (s : Sample). holds f.part s.t) copied ≡ false
 
-abbrev Spares : (FileState → Bool) → Sample → FileState → Type 0
+abbrev Spares : (RowFile → Bool) → Sample → RowFile → Type 0
 Spares stays s f = stays f ≡ false → holds f.part s.t ≡ false
 
-revived_kept : (stays : FileState → Bool) (limbo : List FileState) (listed : List Sample) (s : Sample) → AllByRecursion (Spares stays s) limbo → revived (filter stays limbo) listed s ≡ revived limbo listed s
+revived_kept : (stays : RowFile → Bool) (limbo : List RowFile) (listed : List Sample) (s : Sample) → AllByRecursion (Spares stays s) limbo → revived (filter stays limbo) listed s ≡ revived limbo listed s
 revived_kept stays [] listed s all = refl
 revived_kept stays (f ∷ limbo) listed s all = by_test (stays f) refl (holds f.part s.t) refl (revived_kept stays limbo listed s all.1)
   where
@@ -460,22 +460,22 @@ any_head p s xs none = by_test (p s) refl none
             let any = list_any-from_Any p (s ∷ xs) (suc some.0, some.1, (let low = some.2 in omega (arith, low)), some.3, some.4) in
             absurd (cc (any, off))
 
-put_kept : (stays : FileState → Bool) (limbo : List FileState) (copied listed : List Sample) → AllByRecursion (LetsGo stays copied) limbo → put copied (filter stays limbo) listed ≡ put copied limbo listed
+put_kept : (stays : RowFile → Bool) (limbo : List RowFile) (copied listed : List Sample) → AllByRecursion (LetsGo stays copied) limbo → put copied (filter stays limbo) listed ≡ put copied limbo listed
 put_kept stays limbo [] listed all = refl
 put_kept stays limbo (s ∷ rest) listed all =
     let same = revived_kept stays limbo listed s (first limbo all) in
     ap (λ (r : List Sample). put rest (filter stays limbo) (listed ++ (r ++ s ∷ []))) same ∙ put_kept stays limbo rest (listed ++ (revived limbo listed s ++ s ∷ [])) (others limbo all)
   where
-    first : (fs : List FileState) → AllByRecursion (LetsGo stays (s ∷ rest)) fs → AllByRecursion (Spares stays s) fs
+    first : (fs : List RowFile) → AllByRecursion (LetsGo stays (s ∷ rest)) fs → AllByRecursion (Spares stays s) fs
     first [] each = tt
     first (f ∷ fs) each = ((λ off. (any_head (λ (x : Sample). holds f.part x.t) s rest (each.0 off)).0), first fs each.1)
 
-    others : (fs : List FileState) → AllByRecursion (LetsGo stays (s ∷ rest)) fs → AllByRecursion (LetsGo stays rest) fs
+    others : (fs : List RowFile) → AllByRecursion (LetsGo stays (s ∷ rest)) fs → AllByRecursion (LetsGo stays rest) fs
     others [] each = tt
     others (f ∷ fs) each = ((λ off. (any_head (λ (x : Sample). holds f.part x.t) s rest (each.0 off)).1), others fs each.1)
 
-module _ (m : Machine) (stays : FileState → Bool) (n : ℕ) (move : MoveState) (here : get m.moves n ≡ Some move) where
-  free : (limbo : List FileState) → IsSwept m stays limbo → AllByRecursion (LetsGo stays move.copied) (files_of move.row (next_store move.store) limbo)
+module _ (m : Machine) (stays : RowFile → Bool) (n : ℕ) (move : MoveState) (here : get m.moves n ≡ Some move) where
+  free : (limbo : List RowFile) → IsSwept m stays limbo → AllByRecursion (LetsGo stays move.copied) (files_of move.row (next_store move.store) limbo)
   free [] each = tt
   free (f ∷ limbo) each = by_test (f.row == move.row) refl (same_store f.store (next_store move.store)) refl (free limbo each.1)
     where
@@ -498,7 +498,7 @@ module _ (m : Machine) (stays : FileState → Bool) (n : ℕ) (move : MoveState)
     row,
     at_row,
     sym (put_kept stays (files_of move.row (next_store move.store) m.limbo) move.copied (tier row (next_store move.store)) (free m.limbo swept))
-        ∙ ap (λ (l : List FileState). put move.copied l (tier row (next_store move.store))) (sym (filter_both (λ (f : FileState). f.row == move.row && same_store f.store (next_store move.store)) stays m.limbo)),
+        ∙ ap (λ (l : List RowFile). put move.copied l (tier row (next_store move.store))) (sym (filter_both (λ (f : RowFile). f.row == move.row && same_store f.store (next_store move.store)) stays m.limbo)),
   )
 
 -- WHAT THE STORES ARE TOLD
@@ -557,7 +557,7 @@ module _ (tells : Bool) (p : Parts) (m : Machine) (r : Rests tells p m) (names :
     row = element m.rows move.row (r.stands.sound.each_move n move here).here
 
     -- a written file as one of the machine's
-    abbrev as_file : Filed → FileState
+    abbrev as_file : Filed → RowFile
     as_file g = record { row = move.row; store = next_store move.store; part = g.entry.part; head = g.head; samples = g.samples }
 
     part_of : (g : Filed) → Contains is.files g → IsPart running.moving.granularity g.entry.part × (g.entry.series ≡ running.moving.series)
@@ -610,7 +610,7 @@ module _ (tells : Bool) (p : Parts) (m : Machine) (r : Rests tells p m) (names :
         number = let next = next_place move.store is.moves in let place = is.store in omega (arith, next, place)
 
     -- where a file of limbo has the name of a written one, the move has copied into its partition
-    module _ (f : FileState) (own_row : RowState) (at_row : slice_get m.rows f.row ≡ Some own_row) (limbo_part : IsPartition m.rule f.store f.part) where
+    module _ (f : RowFile) (own_row : RowState) (at_row : slice_get m.rows f.row ≡ Some own_row) (limbo_part : IsPartition m.rule f.store f.part) where
       -- the store lists nothing there
       not_there : Contains m.limbo f → (g : Filed) → Contains is.files g → written_name p.at.catalogue.rows running g.entry ≡ name_of own_row f → file_at (filed_at g) (list_at (index_of (next_store move.store)) before) ≡ None
       not_there of_limbo g within same = elim (listed_at (list_at (index_of (next_store move.store)) before) (filed_at g)) [
@@ -640,7 +640,7 @@ module _ (tells : Bool) (p : Parts) (m : Machine) (r : Rests tells p m) (names :
           (g, within, named g within ∙ named_place m r.stands.sound f (as_file g) own_row row.0 at_row row.1 limbo_part unit (record { row = place.0; store = place.1; part = part }))
 
   -- they are just the names of the files that running moves have copied into
-  pub copied_named : (f : FileState) (own_row : RowState) → Contains m.limbo f → slice_get m.rows f.row ≡ Some own_row → Contains names (name_of own_row f) ↔ IsCopiedInto m f
+  pub copied_named : (f : RowFile) (own_row : RowState) → Contains m.limbo f → slice_get m.rows f.row ≡ Some own_row → Contains names (name_of own_row f) ↔ IsCopiedInto m f
   copied_named f own_row there at_row = (forth, back)
     where
       told : m.told ≡ true
@@ -648,7 +648,7 @@ module _ (tells : Bool) (p : Parts) (m : Machine) (r : Rests tells p m) (names :
         where
           by_told : (b : Bool) → m.told ≡ b → m.told ≡ true
           by_told true on = on
-          by_told false off = let none = r.stands.limbo.none off in absurd (let low = (subst (λ (l : List FileState). Contains l f) none there).1 in omega (arith, low))
+          by_told false off = let none = r.stands.limbo.none off in absurd (let low = (subst (λ (l : List RowFile). Contains l f) none there).1 in omega (arith, low))
 
       part : IsPartition m.rule f.store f.part
       part = (of_all (LimboSound m.rule m.told m.rows) m.limbo f r.stands.sound.each_file there).partition told

@@ -38,7 +38,7 @@ use Rattle.act_model.proofs.Puts.{before-append}
 use Rattle.archive_core.proofs.Batches.{lines_size}
 use Rattle.tier_store.proofs.Places.{rises_inside, ends_inside, manifest_at, own_series}
 use Rattle.std.proofs.lemmas.Bool.{cases_lt}
-use Rattle.etl_mover.specs.Move.{StillLists, of_series, MoveState as Moving}
+use Rattle.etl_mover.specs.Move.{StillLists, of_series, Moving}
 use Rattle.tier_store.specs.Copying.{IsAllLater, KnowsCopied, samples_ahead, IsDamaged}
 use Rattle.tier_store.specs.Finding.{BeginsAt}
 use Rattle.tier_store.specs.Pinned.{SeenAll, beside}

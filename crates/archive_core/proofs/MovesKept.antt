@@ -16,7 +16,7 @@ use Rattle.store_manifest.specs.declared.entry.Entry.{Entry}
 use Rattle.tier_store.specs.Retiring.{oldest}
 use Rattle.tier_store.specs.Seen.{granularities, Seen}
 use Rattle.std.specs.FinMap.{get, FinMap}
-use Rattle.act_model.specs.Limbo.{FileState, files_of, put, tier_at, IsThere, IsElsewhere, PlacesDiffer}
+use Rattle.act_model.specs.Limbo.{RowFile, files_of, put, tier_at, IsThere, IsElsewhere, PlacesDiffer}
 use Rattle.act_model.specs.Sound.{IsSound, is_copying, RowSound, PieceSound}
 use Rattle.std.proofs.lemmas.List.Elements.{All-head, All-tail, All-take}
 use Rattle.partition_names.specs.declared.granularity.Granularity.{Granularity}
@@ -26,7 +26,7 @@ use Rattle.pv_catalog.specs.declared.row.Row.{Row}
 use Rattle.archive_core.proofs.MoveChoice.{from_zero, ahead_own, put_rows, into_same, next_low, next_place, own_entries, end_put, starts_from}
 use Rattle.std.proofs.lemmas.List.{length-append, length-map, take-append-le, take-map}
 use Rattle.std.proofs.lemmas.List.Concat.{flat_map-append}
-use Rattle.etl_mover.specs.Move.{StillLists, MoveState as Moving}
+use Rattle.etl_mover.specs.Move.{StillLists, Moving}
 use Rattle.pb_lines.specs.File.{lines_of}
 use Rattle.series_model.specs.Series.{end_from, end_of, over}
 use Rattle.series_model.proofs.RisingLists.{RisesFrom-append, RisesFrom-lower, end_from-append}
@@ -219,21 +219,21 @@ module _ (tells : Bool) (old new : SeenAll) (told : Bool) (from to : ℕ) (movin
 -- WHAT A MOVE'S DESTINATION HAS OF ITS ROW
 
 -- What a move has copied makes of its row in the next store what it made.
-abbrev pub SamePut : List RowState → List RowState → List FileState → List FileState → MoveState → Type 0
+abbrev pub SamePut : List RowState → List RowState → List RowFile → List RowFile → MoveState → Type 0
 SamePut rows after limbo left move =
     (row : RowState) → slice_get after move.row ≡ Some row
     → (was : RowState) × (slice_get rows move.row ≡ Some was)
     × (put move.copied (files_of move.row (next_store move.store) limbo) (tier was (next_store move.store)) ≡ put move.copied (files_of move.row (next_store move.store) left) (tier row (next_store move.store)))
 
 -- rows and limbo of which no store but the first has others, of these rows
-pub record SameLater (Of : ℕ → Type 0) (rows after : List RowState) (limbo left : List FileState) : Type 0 where
+pub record SameLater (Of : ℕ → Type 0) (rows after : List RowState) (limbo left : List RowFile) : Type 0 where
   pub rows_there : (i : ℕ) (store : Store) (row : RowState) → Of i → i < length rows → slice_get after i ≡ Some row → (was : RowState) × (slice_get rows i ≡ Some was) × (tier row (next_store store) ≡ tier was (next_store store))
   pub limbo_there : (i : ℕ) (store : Store) → Of i → files_of i (next_store store) left ≡ files_of i (next_store store) limbo
 
-pub same_later : (Of : ℕ → Type 0) (rows : List RowState) (limbo : List FileState) → SameLater Of rows rows limbo limbo
+pub same_later : (Of : ℕ → Type 0) (rows : List RowState) (limbo : List RowFile) → SameLater Of rows rows limbo limbo
 same_later Of rows limbo = record { rows_there = λ i store row of low here. (row, here, refl); limbo_there = λ i store of. refl }
 
-pub same_put : (Of : ℕ → Type 0) (rows after : List RowState) (limbo left : List FileState) → SameLater Of rows after limbo left → (move : MoveState) → Of move.row → move.row < length rows → SamePut rows after limbo left move
+pub same_put : (Of : ℕ → Type 0) (rows after : List RowState) (limbo left : List RowFile) → SameLater Of rows after limbo left → (move : MoveState) → Of move.row → move.row < length rows → SamePut rows after limbo left move
 same_put Of rows after limbo left same move of low row here =
     let was = same.rows_there move.row move.store row of low here in
     (was.0, was.1, λ k. put move.copied (sym (same.limbo_there move.row move.store of) k) (sym was.2 k))
@@ -243,19 +243,19 @@ pub leaves_ahead : (tells : Bool) (old new : SeenAll) (before : Stores) (store :
 leaves_ahead tells old new before store files leaves = let place = index_of (next_store store) in leaves (names_of (place + 1, before.rows) files) (later_names place (place + 1, before.rows) files refl (next_low store))
 
 -- a move's row is one of those that are there
-pub move_low : (tells : Bool) (all : SeenAll) (told : Bool) (rows : List RowState) (limbo : List FileState) (before : Stores) (move : MoveState) (running : Running Moving) → length rows ≡ length before.rows → IsMoveOf tells all told rows limbo before move running → move.row < length rows
+pub move_low : (tells : Bool) (all : SeenAll) (told : Bool) (rows : List RowState) (limbo : List RowFile) (before : Stores) (move : MoveState) (running : Running Moving) → length rows ≡ length before.rows → IsMoveOf tells all told rows limbo before move running → move.row < length rows
 move_low tells all told rows limbo before move running count is = let within = slice_get_within before.rows running.moving.series is.beside.row is.beside.stands in let own = is.own in omega (arith, within, own, count)
 
 -- ONE MOVE
 
 -- What a move wants of an act beside it: its destination's list stays, its source's goes on behind what it has copied, and what it has written stays.
-pub record GoesOn (tells : Bool) (old new : SeenAll) (told : Bool) (rows after : List RowState) (limbo left : List FileState) (before made : Stores) (move : MoveState) (running : Running Moving) (files : List Filed) : Type 0 where
+pub record GoesOn (tells : Bool) (old new : SeenAll) (told : Bool) (rows after : List RowState) (limbo left : List RowFile) (before made : Stores) (move : MoveState) (running : Running Moving) (files : List Filed) : Type 0 where
   pub goes : GoesBeside (index_of (next_store move.store)) move.row before made
   pub on : SourceGoesOn told before.stands (reach (index_of (next_store move.store)) files before running.moving move.stage) (end_of (samples_in move.row before)) (of_row move.row (list_at (index_of move.store) before)) (of_row move.row (list_at (index_of move.store) made))
   pub puts : told ≡ true → is_copying move.stage ≡ true → SamePut rows after limbo left move
   pub leaves : LeavesNames (names_of (index_of (next_store move.store) + 1, before.rows) files) tells old new
 
-module _ (tells : Bool) (old new : SeenAll) (told : Bool) (rows after : List RowState) (limbo left : List FileState) (before made : Stores) (same_g : granularities new.stores.manifests ≡ granularities old.stores.manifests) (stand : told ≡ true → IsTrue before.stands) where
+module _ (tells : Bool) (old new : SeenAll) (told : Bool) (rows after : List RowState) (limbo left : List RowFile) (before made : Stores) (same_g : granularities new.stores.manifests ≡ granularities old.stores.manifests) (stand : told ≡ true → IsTrue before.stands) where
   pub move_stays : (move : MoveState) (running : Running Moving) (is : IsMoveOf tells old told rows limbo before move running) → GoesOn tells old new told rows after limbo left before made move running is.files → IsMoveOf tells new told after left made move running
   move_stays move running is by =
       let place = index_of (next_store move.store) in
@@ -292,7 +292,7 @@ module _ (tells : Bool) (old new : SeenAll) (told : Bool) (rows after : List Row
 
 -- WHERE THE STORES STAY
 
-module _ (tells : Bool) (old new : SeenAll) (told : Bool) (rows after : List RowState) (limbo left : List FileState) (before : Stores) (same_g : granularities new.stores.manifests ≡ granularities old.stores.manifests) (stand : told ≡ true → IsTrue before.stands) where
+module _ (tells : Bool) (old new : SeenAll) (told : Bool) (rows after : List RowState) (limbo left : List RowFile) (before : Stores) (same_g : granularities new.stores.manifests ≡ granularities old.stores.manifests) (stand : told ≡ true → IsTrue before.stands) where
   -- a move wants then that its files stay, and what it makes of its row
   pub goes_still : (move : MoveState) (running : Running Moving) (files : List Filed) → (told ≡ true → is_copying move.stage ≡ true → SamePut rows after limbo left move) → LeavesNames (names_of (index_of (next_store move.store) + 1, before.rows) files) tells old new
       → GoesOn tells old new told rows after limbo left before before move running files
@@ -318,7 +318,7 @@ stage_beside tells old new told from to before moving files stay HasCopied is = 
 stage_beside tells old new told from to before moving files stay HasPublished is = is
 
 -- so they do where each runs beside the stores still
-pub moves_beside : (tells : Bool) (old new : SeenAll) (told : Bool) (rows : List RowState) (limbo : List FileState) (before : Stores) (moves : FinMap nat_cmp MoveState) (slots : List (Option (Running Moving)))
+pub moves_beside : (tells : Bool) (old new : SeenAll) (told : Bool) (rows : List RowState) (limbo : List RowFile) (before : Stores) (moves : FinMap nat_cmp MoveState) (slots : List (Option (Running Moving)))
     → ((i : ℕ) (move : Moving) (files : List Filed) → RunsBeside i tells old move files before → RunsBeside i tells new move files before) → AreMovesOf tells old told rows limbo before moves slots → AreMovesOf tells new told rows limbo before moves slots
 moves_beside tells old new told rows limbo before moves slots stay are = record {
   none = are.none;
@@ -479,10 +479,10 @@ ends_early g rows m (suc n) (x ∷ fs) (suc k) h filed apart low here end =
 
 -- THE MACHINE'S LIMBO
 
-there_at : (p : Part) (limbo : List FileState) (f : FileState) → Contains limbo f → f.part ≡ p → IsThere p limbo
+there_at : (p : Part) (limbo : List RowFile) (f : RowFile) → Contains limbo f → f.part ≡ p → IsThere p limbo
 there_at p [] f (k, low, is) same = absurd (omega (arith, low))
 there_at p (g ∷ limbo) f there same = elim (contains_cases g limbo f there) [
-  | inl is ↦ inl (ap (λ (x : FileState). x.part) is ∙ same)
+  | inl is ↦ inl (ap (λ (x : RowFile). x.part) is ∙ same)
   | inr later ↦ inr (there_at p limbo f later same)
 ]
 
@@ -490,7 +490,7 @@ there_at p (g ∷ limbo) f there same = elim (contains_cases g limbo f there) [
 
 module _ (i : ℕ) (store : Store) where
   -- a file of the row as one of the machine
-  abbrev pub own : Filed → FileState
+  abbrev pub own : Filed → RowFile
   own h = row_file i store h
 
   places_apart : (g : Granularity) (rows : List Row) (fs : List Filed) → All (IsFiled g rows) fs → AreApart fs → PlacesDiffer (map own fs)
@@ -526,7 +526,7 @@ module _ (catalogue : CatalogueState) (ms : List ManifestState) (held : Stores) 
   parts = oldest (index_of store) i n held
 
   -- the files that leave, as the machine's
-  abbrev pub owns : List FileState
+  abbrev pub owns : List RowFile
   owns = map (own i store) (oldest (index_of store) i n held)
 
   is : RowFiles m.rule held store i r
@@ -574,12 +574,12 @@ module _ (catalogue : CatalogueState) (ms : List ManifestState) (held : Stores) 
   -- THE PIECES OF PINS
 
   -- a piece of the store that ends no later than the move, and of which something is listed, is one of them
-  record IsPartOf (piece : FileState) : Type 0 where
+  record IsPartOf (piece : RowFile) : Type 0 where
     h : Filed
     there : Contains parts h
     part : h.entry.part ≡ piece.part
 
-  piece_is : (piece : FileState) → IsPartition m.rule piece.store piece.part → piece.store ≡ store → piece.part.end ≤ to → is_empty (window piece.part (tier_at m.rows i store)) ≡ false → IsPartOf piece
+  piece_is : (piece : RowFile) → IsPartition m.rule piece.store piece.part → piece.store ≡ store → piece.part.end ≤ to → is_empty (window piece.part (tier_at m.rows i store)) ≡ false → IsPartOf piece
   piece_is piece partition same end some =
       let unit : partition.unit ≡ is.unit = same_Some partition.unit is.unit (sym partition.of_store ∙ (ap (λ (s : Store). slice_get m.rule.granularity (index_of s)) same ∙ is.of_store)) in
       let part : IsPart is.unit piece.part = subst (λ (g : Granularity). IsPart g piece.part) unit partition.is in
@@ -595,10 +595,10 @@ module _ (catalogue : CatalogueState) (ms : List ManifestState) (held : Stores) 
       record { h = one.1; there = ends_early is.unit held.rows 0 n all one.0 one.1 is.filed is.apart (from_zero all) one.2 (omega (arith, high, end, last)); part = one_is }
 
   -- files that have each of them that a pin names keep each listed piece of a pin
-  pub stays_with : (into : List FileState) → ((h : Filed) → Contains parts h → IsPinned m (own i store h) → Contains into (own i store h)) → StaysPinned m i store to into
-  stays_with into has = record { stays = λ k p there. all_of (λ (piece : FileState). piece.row ≡ i → piece.store ≡ store → piece.part.end ≤ to → is_empty (window piece.part (tier_at m.rows i store)) ≡ false → IsThere piece.part (files_of i store into)) p.pieces (λ piece among row at end some. one k p there piece among row at end some) }
+  pub stays_with : (into : List RowFile) → ((h : Filed) → Contains parts h → IsPinned m (own i store h) → Contains into (own i store h)) → StaysPinned m i store to into
+  stays_with into has = record { stays = λ k p there. all_of (λ (piece : RowFile). piece.row ≡ i → piece.store ≡ store → piece.part.end ≤ to → is_empty (window piece.part (tier_at m.rows i store)) ≡ false → IsThere piece.part (files_of i store into)) p.pieces (λ piece among row at end some. one k p there piece among row at end some) }
     where
-      one : (k : ℕ) (p : PinState) → get m.pins k ≡ Some p → (piece : FileState) → Contains p.pieces piece → piece.row ≡ i → piece.store ≡ store → piece.part.end ≤ to → is_empty (window piece.part (tier_at m.rows i store)) ≡ false → IsThere piece.part (files_of i store into)
+      one : (k : ℕ) (p : PinState) → get m.pins k ≡ Some p → (piece : RowFile) → Contains p.pieces piece → piece.row ≡ i → piece.store ≡ store → piece.part.end ≤ to → is_empty (window piece.part (tier_at m.rows i store)) ≡ false → IsThere piece.part (files_of i store into)
       one k p there piece among row at end some =
           let piece_sound = of_all (PieceSound m.rule m.rows m.limbo) p.pieces piece (sound.pinned told k p there) among in
           let found = piece_is piece piece_sound.partition at end some in
@@ -609,10 +609,10 @@ module _ (catalogue : CatalogueState) (ms : List ManifestState) (held : Stores) 
           let within_it = has found.h found.there pinned in
           let rows : (i == i) ≡ true = grind (arith, nat_tests) in
           let own_test : (i == i && same_store store store) ≡ true = rw (rows, store_itself store) refl in
-          there_at piece.part (files_of i store into) f (contains_filter (λ (x : FileState). x.row == i && same_store x.store store) into f within_it own_test) found.part
+          there_at piece.part (files_of i store into) f (contains_filter (λ (x : RowFile). x.row == i && same_store x.store store) into f within_it own_test) found.part
 
   -- so may all of these go together
-  pub retires_with : (into : List FileState) → ((f : FileState) → Contains into f → (h : Filed) × Contains parts h × (own i store h ≡ f)) → ((h : Filed) → Contains parts h → IsPinned m (own i store h) → Contains into (own i store h)) → PlacesDiffer into → Retires m (Unlists i store to) into
+  pub retires_with : (into : List RowFile) → ((f : RowFile) → Contains into f → (h : Filed) × Contains parts h × (own i store h ≡ f)) → ((h : Filed) → Contains parts h → IsPinned m (own i store h) → Contains into (own i store h)) → PlacesDiffer into → Retires m (Unlists i store to) into
   retires_with into from has differ = (
     all_of (IsRetired m i store to) into (λ f there. (let one = from f there in subst (IsRetired m i store to) one.2 (part_retired one.0 one.1))),
     stays_with into has,

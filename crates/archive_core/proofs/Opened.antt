@@ -74,7 +74,7 @@ use Rattle.tier_store.proofs.Frames.{fronts_on, fronts_read, nothing_fronts}
 use Rattle.archive_core.specs.Acting.{Settling}
 use Rattle.archive_core.specs.Leaving.{ReadsAlone, files_of}
 use Rattle.act_model.proofs.NextLife.{opened_follow}
-use Rattle.etl_mover.specs.Move.{MoveState as Moving}
+use Rattle.etl_mover.specs.Move.{Moving}
 use Rattle.act_model.specs.declared.acts.Act.TheVariants.{Details as DetailsAct}
 
 -- The machine of an archive that was just opened.

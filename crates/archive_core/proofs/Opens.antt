@@ -23,7 +23,7 @@ use Rattle.tier_store.specs.Opening.{IsOpened, IsReaderOf, end_of_answer, refusa
 use Rattle.tier_store.specs.Seen.{Seen, IsSettled, granularities}
 use Rattle.tier_store.specs.Stores.{Stores, list_at, whole_in}
 use Rattle.act_model.specs.declared.acts.Answer.{Answer}
-use Rattle.act_model.specs.Limbo.{FileState}
+use Rattle.act_model.specs.Limbo.{RowFile}
 use Rattle.pins.specs.declared.table.PinErr.TheVariants as err
 use Rattle.act_model.specs.declared.acts.Answer.TheVariants as answer
 use Rattle.std.proofs.lemmas.Cmp.{nat_cmp_total}
@@ -57,7 +57,7 @@ use Rattle.series_model.proofs.RisingLists.{RisesFrom-lower}
 use Rattle.tier_store.specs.Pinning.{files_in, files_of_line, state_of, listed_of, piece_of, has_bytes, IsPinned, AreEnough, SaysPinned, none_has, is_pinned, Placed, placed, placed_at}
 use Rattle.tier_store.specs.Telling.{SaysOf}
 use Rattle.act_model.specs.Details.{details_refused}
-use Rattle.act_model.specs.Pin.{Pins, pins as pins_it, IsPieceOf as IsOpenedPiece, InOrder, over_pieces}
+use Rattle.act_model.specs.Pin.{MakesPin, pins as pins_it, IsPieceOf as IsOpenedPiece, InOrder, over_pieces}
 use Rattle.act_model.specs.Whole.{whole}
 use Rattle.archive_core.proofs.Registered.{end_kind, details_never_want, find_some}
 use Rattle.archive_core.proofs.Batches.{told_stands}
@@ -198,7 +198,7 @@ module _ (R : Type 0) (tells reader_tells : Bool) (bytes : R → List ℕ) (faul
   more_faults : (m : Machine) → Stands tells p m → m.faults ≤ new.faults
   more_faults m s = let was : m.faults ≡ p.at.faults = s.faults in omega (arith, was, more)
 
-  module _ (m : Machine) (s : Stands tells p m) (state : PinState) (there : get m.pins pin ≡ Some state) (owner : state.owner ≡ who) (has : HasPinOf tells (beside p.at p.limbo) m.told m.rows p.pinned pin state) (f : FileState) (at : slice_get state.pieces i ≡ Some f) (file : PinnedFile) (file_at : slice_get has.own.pieces i ≡ Some file) where
+  module _ (m : Machine) (s : Stands tells p m) (state : PinState) (there : get m.pins pin ≡ Some state) (owner : state.owner ≡ who) (has : HasPinOf tells (beside p.at p.limbo) m.told m.rows p.pinned pin state) (f : RowFile) (at : slice_get state.pieces i ≡ Some f) (file : PinnedFile) (file_at : slice_get has.own.pieces i ≡ Some file) where
     -- what is known of the piece where the machine is told
     own_piece : m.told ≡ true → HasFileOf tells (beside p.at p.limbo) m.rows has.own i f
     own_piece told = has.is.pieces told i f at
@@ -250,7 +250,7 @@ module _ (R : Type 0) (tells reader_tells : Bool) (bytes : R → List ℕ) (faul
           let lacking : slice_get state.pieces i ≡ None = by_place (slice_get state.pieces i) refl in
           subst (λ (given : Answer R). EndsAs given m) (sym (told.0 ∙ ap (λ (n : ℕ). answer.NoPiece n) number)) (m, (no_piece state there owner lacking, λ told. absurd (cc (told))), unread_stands m told.1 s)
         where
-          by_place : (o : Option FileState) → slice_get state.pieces i ≡ o → slice_get state.pieces i ≡ None
+          by_place : (o : Option RowFile) → slice_get state.pieces i ≡ o → slice_get state.pieces i ≡ None
           by_place None is = is
           by_place (Some f) is = absurd (
               let low = slice_get_within state.pieces i f is in
@@ -308,7 +308,7 @@ filter_few test (x ∷ xs) = by_test (test x) (filter_few test xs)
     by_test false low = omega (arith, low)
 
 -- a piece of a machine that isn't told
-unknown : ℕ → PinnedFile → FileState
+unknown : ℕ → PinnedFile → RowFile
 unknown i file = record { row = i; store = Short; part = record { start = 0; end = 0; name = [] }; head = []; samples = [] }
 
 module _ (R : Type 0) (tells reader_tells : Bool) (bytes : R → List ℕ) (faults : R → ℕ) (p : Parts) (m : Machine) (r : Rests tells p m) (who i : ℕ) (name : List ℕ) (query : Query) (named : HasName p.at.catalogue.rows i name) (result : Answer R) (pinned : FinMap nat_cmp PinOf)
@@ -318,7 +318,7 @@ module _ (R : Type 0) (tells reader_tells : Bool) (bytes : R → List ℕ) (faul
   held = r.stands.store.before
 
   abbrev Ends : Answer R → Type 0
-  Ends given = AskEnds tells (Pins who name query) p m (record p { pinned = pinned }) (reply_of reader_tells bytes faults given)
+  Ends given = AskEnds tells (MakesPin who name query) p m (record p { pinned = pinned }) (reply_of reader_tells bytes faults given)
 
   has : Has tells p.at held
   has = rests_has tells p m r
@@ -351,18 +351,18 @@ module _ (R : Type 0) (tells reader_tells : Bool) (bytes : R → List ℕ) (faul
         (at.0, at.1, at.4.name ∙ (ap (λ (x : Row). x.name) one ∙ sym q.name_is), at.4.about ∙ (ap (λ (x : Row). x.about) one ∙ sym q.about_is), tail)
 
     -- with these pieces the machine makes the pin
-    with_pieces : (pieces : List FileState) → length pieces ≡ count → length pieces < 2 ^ 32 → (m.told ≡ true → AllByRecursion (IsOpenedPiece m.rule m.rows k row.0) pieces) → (m.told ≡ true → InOrder pieces) → (m.told ≡ true → answer_to (over (over_pieces [] pieces) row.0.tail) query ≡ answer_to (whole accepted m.rows k) query)
+    with_pieces : (pieces : List RowFile) → length pieces ≡ count → length pieces < 2 ^ 32 → (m.told ≡ true → AllByRecursion (IsOpenedPiece m.rule m.rows k row.0) pieces) → (m.told ≡ true → InOrder pieces) → (m.told ≡ true → answer_to (over (over_pieces [] pieces) row.0.tail) query ≡ answer_to (whole accepted m.rows k) query)
         → IsPinOf tells (beside p.at p.limbo) m.told m.rows (record { owner = who; pieces = pieces }) own → Ends (answer.Pinned pin told about count rest)
     with_pieces pieces number few listed ordered answers is =
         let state : PinState = record { owner = who; pieces = pieces } in
         let n : Machine = record m { pins = insert m.pins pin state; faults = p.at.faults } in
         let free : get m.pins pin ≡ None = by_pin (get m.pins pin) refl in
-        let made : Pins who name query m (answer.Pinned pin row.0.name row.0.about (length pieces) row.0.tail) n = pins_it k row.0 pin pieces found row.1 free (λ lower low none. absurd (let some = q.least lower low in let lacks = r.stands.pins.none lower none in let both : false ≡ true = subst (λ (o : Option PinOf). IsSome o) lacks some in cc (both))) listed ordered answers few refl in
+        let made : MakesPin who name query m (answer.Pinned pin row.0.name row.0.about (length pieces) row.0.tail) n = pins_it k row.0 pin pieces found row.1 free (λ lower low none. absurd (let some = q.least lower low in let lacks = r.stands.pins.none lower none in let both : false ≡ true = subst (λ (o : Option PinOf). IsSome o) lacks some in cc (both))) listed ordered answers few refl in
         let same : answer.Pinned pin row.0.name row.0.about (length pieces) row.0.tail ≡ reply_of reader_tells bytes faults (answer.Pinned pin told about count rest) = let a = row.2 in let b = row.3 in let c = row.4 in cc (a, b, c, number) in
         let stand_now = subst (λ (x : FinMap nat_cmp PinOf). PinsStand tells (beside p.at p.limbo) x) q.made (stand r.stands.pins.stand) in
         let are = more_pins tells (beside p.at p.limbo) m.told m.rows m.pins p.pinned pin state own r.stands.pins is stand_now in
         let stands = pins_stand tells p (record m { faults = p.at.faults }) (insert m.pins pin state) (insert p.pinned pin own) are (pins_sound r.stands.sound made) read in
-        is_answered n (subst (λ (reply : Reply). Pins who name query m reply n) same made) (subst (λ (x : FinMap nat_cmp PinOf). Stands tells (record p { pinned = x }) n) (sym q.made) stands)
+        is_answered n (subst (λ (reply : Reply). MakesPin who name query m reply n) same made) (subst (λ (x : FinMap nat_cmp PinOf). Stands tells (record p { pinned = x }) n) (sym q.made) stands)
       where
         by_pin : (o : Option PinState) → get m.pins pin ≡ o → get m.pins pin ≡ None
         by_pin None is = is
@@ -428,14 +428,14 @@ module _ (R : Type 0) (tells reader_tells : Bool) (bytes : R → List ℕ) (faul
   ]
 
 -- the count of faults is nothing to a pin
-pub pins_goes : (who : ℕ) (name : List ℕ) (query : Query) (m : Machine) (f : ℕ) (given : Reply) (new : Machine) → Pins who name query (record m { faults = f }) given new → Pins who name query m given new
+pub pins_goes : (who : ℕ) (name : List ℕ) (query : Query) (m : Machine) (f : ℕ) (given : Reply) (new : Machine) → MakesPin who name query (record m { faults = f }) given new → MakesPin who name query m given new
 pins_goes who name query m f _ new (pins_it i row pin pieces found here free least listed ordered answers few same) = pins_it i row pin pieces found here free least listed ordered answers few same
 
 -- it isn't told as want of memory
-pub pins_tell : (who : ℕ) (name : List ℕ) (query : Query) (m : Machine) (given : Reply) (new : Machine) → Pins who name query m given new → given ≡ answer.Memory → ⊥
+pub pins_tell : (who : ℕ) (name : List ℕ) (query : Query) (m : Machine) (given : Reply) (new : Machine) → MakesPin who name query m given new → given ≡ answer.Memory → ⊥
 pins_tell who name query m _ new (pins_it i row pin pieces found here free least listed ordered answers few same) told = cc (told)
 
-abbrev pub pins_act : (who : ℕ) (name : List ℕ) (query : Query) → IsAct who (Pin name query) (Pins who name query)
+abbrev pub pins_act : (who : ℕ) (name : List ℕ) (query : Query) → IsAct who (Pin name query) (MakesPin who name query)
 pins_act who name query = record { refuse = λ old. details_refused name; passes = λ old m is. is; counts = λ old m f. refl; refuses = λ m f. refl; changes = λ m f. refl; goes = pins_goes who name query; never = λ old. details_never_want name; tells_more = pins_tell who name query; steps = λ m given new acts. acts; wants = λ m n none. none }
 
 -- THE FILES OF A PIN THAT IS MADE

@@ -29,7 +29,7 @@ use Rattle.act_model.specs.Reply.{Reply}
 use Rattle.act_model.specs.declared.acts.Answer.TheVariants as answer
 use Rattle.std.proofs.lemmas.Bool.Decides.{nat_tests}
 use Rattle.disk_model.proofs.Passing.{passes_weaker, passes_then}
-use Rattle.etl_mover.specs.Move.{FewPending, IsCopied, MoveState as Moving}
+use Rattle.etl_mover.specs.Move.{FewPending, IsCopied, Moving}
 use Rattle.etl_mover.specs.declared.moving.Stage.TheVariants.{Published}
 use Rattle.pv_catalog.specs.Rows.{KeepsRows}
 use Rattle.pv_catalog.specs.declared.row.Row.{Row}
@@ -73,7 +73,7 @@ use Rattle.archive_core.specs.declared.memory.Doubt.TheVariants as kind
 use Rattle.std.specs.Option.{is_some}
 use Rattle.partition_names.specs.declared.granularity.Granularity.{Granularity}
 use Rattle.act_model.specs.Crash.{settled_there, with_change}
-use Rattle.act_model.specs.Limbo.{FileState}
+use Rattle.act_model.specs.Limbo.{RowFile}
 use Rattle.act_model.specs.Sweep.{IsPinned}
 use Rattle.archive_core.specs.Ends.{LeavesByAct, LeavesWithin, SettlesTo, StandsStill}
 use Rattle.archive_core.specs.declared.memory.RowMemory.{RowMemory}
@@ -396,14 +396,14 @@ module _ (n : ℕ) (m : Machine) (f : ℕ) where
   abbrev counted : Machine
   counted = record m { faults = f }
 
-  retired_goes : (i to : ℕ) (store : _) (x : FileState) → IsRetired counted i store to x → IsRetired m i store to x
+  retired_goes : (i to : ℕ) (store : _) (x : RowFile) → IsRetired counted i store to x → IsRetired m i store to x
   retired_goes i to store x is = record { row = is.row; here = is.here; own_store = is.own_store; moves = is.moves; whole = is.whole; before = is.before; partition = is.partition; samples = is.samples; some = is.some }
 
-  all_retired : (i to : ℕ) (store : _) (into : List FileState) → AllByRecursion (IsRetired counted i store to) into → AllByRecursion (IsRetired m i store to) into
+  all_retired : (i to : ℕ) (store : _) (into : List RowFile) → AllByRecursion (IsRetired counted i store to) into → AllByRecursion (IsRetired m i store to) into
   all_retired i to store [] all = tt
   all_retired i to store (x ∷ into) all = (retired_goes i to store x all.0, all_retired i to store into all.1)
 
-  pinned_goes : (into : List FileState) → AllByRecursion (IsPinned counted) into → AllByRecursion (IsPinned m) into
+  pinned_goes : (into : List RowFile) → AllByRecursion (IsPinned counted) into → AllByRecursion (IsPinned m) into
   pinned_goes [] all = tt
   pinned_goes (x ∷ into) all = (record { number = all.0.number; pin = all.0.pin; here = all.0.here; names = all.0.names }, pinned_goes into all.1)
 

@@ -26,7 +26,7 @@ use Rattle.tier_store.proofs.Showing.{same_entries}
 use Rattle.tier_store.proofs.Retirements.{name_left}
 use Rattle.tier_store.proofs.Removals.{among_is, is_among, limbo_kept, stay_cases, stay_from}
 use Rattle.act_model.specs.Changes.{made, Retires}
-use Rattle.act_model.specs.Limbo.{FileState}
+use Rattle.act_model.specs.Limbo.{RowFile}
 use Rattle.act_model.specs.Machine.{Machine, Change, Unlists}
 use Rattle.act_model.specs.OpenPiece.{name_of}
 use Rattle.act_model.specs.Rows.{RowState, Store, Long}
@@ -61,7 +61,7 @@ oldest_are at place i n low s known files are =
 -- THE SAME IS LISTED
 
 -- after an error limbo is still the machine's: it is as it was, but for files that are listed
-module _ (tells : Bool) (old new : Seen) (limbo left : List Retired) (told : Bool) (rows : List RowState) (files : List FileState) (s : Stores) (was : IsKnown old.catalogue old.manifests s) (now : IsKnown new.catalogue new.manifests s) (same_g : granularities new.manifests ≡ granularities old.manifests)
+module _ (tells : Bool) (old new : Seen) (limbo left : List Retired) (told : Bool) (rows : List RowState) (files : List RowFile) (s : Stores) (was : IsKnown old.catalogue old.manifests s) (now : IsKnown new.catalogue new.manifests s) (same_g : granularities new.manifests ≡ granularities old.manifests)
     (pinned : FinMap nat_cmp PinOf) (shown : ShowsKept tells pinned (beside old limbo) (beside new left)) (still : LimboStands new left) (tie : IsLimboOf tells (beside old limbo) told rows files) where
   listed_on : (name : Name) → IsListedName old name → IsListedName new name
   listed_on name listed = stays_listed old new s s name was now (same_grow no_moves s) listed
@@ -219,7 +219,7 @@ module _ (tells : Bool) (old new : Seen) (limbo : List Retired) (m : Machine) (s
     have : HaveDurable old.catalogue old.manifests before m
     have = record { known = was; holds = holds; rule = rule.granularity; stands = stands }
 
-    abbrev into : List FileState
+    abbrev into : List RowFile
     into = map (own i store) parts
 
     told_retires : Retires m change into
@@ -257,7 +257,7 @@ module _ (tells : Bool) (old new : Seen) (limbo : List Retired) (m : Machine) (s
       into_is = λ f there. (
           let one = map_out (own i store) parts f there in
           let handed = doubted.handed told one.0 one.1 in
-          subst (λ (x : FileState). HasRetired tells new_all (made [] change m).rows x) one.2 (record { file = handed.file; within = handed.within; is = retired_stays tells old_all new_all m.rows (made [] change m).rows (own i store one.0) handed.file keeps_all handed.within handed.is })
+          subst (λ (x : RowFile). HasRetired tells new_all (made [] change m).rows x) one.2 (record { file = handed.file; within = handed.within; is = retired_stays tells old_all new_all m.rows (made [] change m).rows (own i store one.0) handed.file keeps_all handed.within handed.is })
           );
     }
 

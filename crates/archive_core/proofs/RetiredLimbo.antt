@@ -20,7 +20,7 @@ use Rattle.tier_store.proofs.Showing.{from_oldest, stays_or}
 use Rattle.tier_store.proofs.Places.{list_other, list_set, manifest_at, within_three, granularity_at, own_series}
 use Rattle.archive_core.specs.LimboTies.{NamesDiffer, IsRetiredOf, HasRetired, IsOneOf, IsLimboOf}
 use Rattle.act_model.specs.Changes.{made, Retires, at, changed, published, retired, each, IsRetired, added, without_held}
-use Rattle.act_model.specs.Limbo.{FileState, unlisted, files_of, put, tier_at}
+use Rattle.act_model.specs.Limbo.{RowFile, unlisted, files_of, put, tier_at}
 use Rattle.act_model.specs.Machine.{Machine, Unlists, Change, Publishes, AddsRow, SetsState, Renames, Appends, MoveState}
 use Rattle.act_model.specs.Rows.{RowState, Store, Long, Short, Medium, next_store, tier, with_tier, period_of, same_store, window, is_empty}
 use Rattle.act_model.specs.Sound.{IsSound, IsUnlisted, LimboSound}
@@ -71,7 +71,7 @@ use Rattle.archive_core.proofs.LimboTying.{contains_filter, from_filter, GoesOn,
 use Rattle.archive_core.proofs.MovedParts.{ends_move}
 use Rattle.act_model.proofs.Places.{places_filter}
 use Rattle.pb_messages.specs.declared.about.State.TheVariants.{Retired as RetiredState}
-use Rattle.etl_mover.specs.Move.{MoveState as Moving}
+use Rattle.etl_mover.specs.Move.{Moving}
 
 -- The oldest files of a row that leave a store's list, as files of limbo: which names are listed before and after, and that theirs differ.
 
@@ -242,7 +242,7 @@ with_same r Short xs = record { name = refl; about = refl; state = refl; base = 
 with_same r Medium xs = record { name = refl; about = refl; state = refl; base = refl; next = refl; tail = refl; cell = refl }
 with_same r Long xs = record { name = refl; about = refl; state = refl; base = refl; next = refl; tail = refl; cell = refl }
 
-published_same : (told : Bool) (limbo : List FileState) (store : Store) (xs : List Sample) (r : RowState) → SameRow (published told limbo store xs r) r
+published_same : (told : Bool) (limbo : List RowFile) (store : Store) (xs : List Sample) (r : RowState) → SameRow (published told limbo store xs r) r
 published_same true limbo store xs r = with_same r store (put xs limbo (tier r store))
 published_same false limbo store xs r = same_row r
 
@@ -303,7 +303,7 @@ rows_unlisted rows kept tails m k store to are = record {
 }
 
 -- what goes to limbo is of the row
-pub of_retired : (m : Machine) (k : ℕ) (store : Store) (to : ℕ) (into : List FileState) → AllByRecursion (IsRetired m k store to) into → AllByRecursion (λ (f : FileState). f.row ≡ k) into
+pub of_retired : (m : Machine) (k : ℕ) (store : Store) (to : ℕ) (into : List RowFile) → AllByRecursion (IsRetired m k store to) into → AllByRecursion (λ (f : RowFile). f.row ≡ k) into
 of_retired m k store to [] all = tt
 of_retired m k store to (f ∷ into) all = (all.0.row, of_retired m k store to into all.1)
 
@@ -329,7 +329,7 @@ set_there k state i r store = by_test (i == k) refl store
 other_row : (k : ℕ) (f : RowState → RowState) (i : ℕ) (r : RowState) → i ≢ k → at k f i r ≡ r
 other_row k f i r apart = let test : (i == k) ≡ false = grind (arith, nat_tests, apart) in rw test refl
 
-tier_there : (Of : ℕ → Type 0) (told : Bool) (limbo : List FileState) (c : Change) → IsEarly Of c → (i : ℕ) → Of i → (r : RowState) (store : Store) → tier (changed told limbo c i r) (next_store store) ≡ tier r (next_store store)
+tier_there : (Of : ℕ → Type 0) (told : Bool) (limbo : List RowFile) (c : Change) → IsEarly Of c → (i : ℕ) → Of i → (r : RowState) (store : Store) → tier (changed told limbo c i r) (next_store store) ≡ tier r (next_store store)
 tier_there Of told limbo (AddsRow name about) early i of r store = refl
 tier_there Of told limbo (SetsState k state) early i of r store = set_there k state i r store
 tier_there Of told limbo (Renames k name) early i of r store = set_there k RetiredState i r store
@@ -340,13 +340,13 @@ tier_there Of told limbo (Publishes k store copied) early i of r s = ap (λ (x :
 tier_there Of told limbo (Unlists k store to) early i of r s = ap (λ (x : RowState). tier x (next_store s)) (other_row k (retired told store to) i r (λ same. early (subst Of same of)))
 
 -- of limbo at a place where nothing comes to be listed nothing goes
-unlisted_at : (after : List RowState) (i : ℕ) (store : Store) (limbo : List FileState) → AllByRecursion (λ (f : FileState). f.row ≡ i → f.store ≡ store → IsUnlisted after f) limbo → files_of i store (unlisted after limbo) ≡ files_of i store limbo
+unlisted_at : (after : List RowState) (i : ℕ) (store : Store) (limbo : List RowFile) → AllByRecursion (λ (f : RowFile). f.row ≡ i → f.store ≡ store → IsUnlisted after f) limbo → files_of i store (unlisted after limbo) ≡ files_of i store limbo
 unlisted_at after i store [] all = refl
 unlisted_at after i store (f ∷ limbo) all = by_tests (is_empty (window f.part (tier_at after f.row f.store))) (f.row == i) (same_store f.store store) refl refl refl (unlisted_at after i store limbo all.1)
   where
     by_tests : (a b c : Bool) → is_empty (window f.part (tier_at after f.row f.store)) ≡ a → (f.row == i) ≡ b → same_store f.store store ≡ c → files_of i store (unlisted after limbo) ≡ files_of i store limbo
         → files_of i store (cond a (f ∷ unlisted after limbo) (unlisted after limbo)) ≡ cond (b && c) (f ∷ files_of i store limbo) (files_of i store limbo)
-    by_tests true true true is row place rest = rw (row, place) (ap (λ (fs : List FileState). f ∷ fs) rest)
+    by_tests true true true is row place rest = rw (row, place) (ap (λ (fs : List RowFile). f ∷ fs) rest)
     by_tests true true false is row place rest = rw (row, place) rest
     by_tests true false c is row place rest = rw row rest
     by_tests false true true is row place rest = absurd (let same : f.row ≡ i = grind (arith, nat_tests, row) in let free : IsUnlisted after f = all.0 same (same_store_is f.store store place) in cc (is, free))
@@ -354,20 +354,20 @@ unlisted_at after i store (f ∷ limbo) all = by_tests (is_empty (window f.part 
     by_tests false false c is row place rest = rest
 
 -- files of other rows count for nothing
-files_front : (i : ℕ) (store : Store) (xs ys : List FileState) → AllByRecursion (λ (f : FileState). f.row ≢ i) ys → files_of i store (xs ++ ys) ≡ files_of i store xs
+files_front : (i : ℕ) (store : Store) (xs ys : List RowFile) → AllByRecursion (λ (f : RowFile). f.row ≢ i) ys → files_of i store (xs ++ ys) ≡ files_of i store xs
 files_front i store [] [] apart = refl
 files_front i store [] (f ∷ ys) apart = let test : (f.row == i) ≡ false = (let other = apart.0 in grind (arith, nat_tests, other)) in rw test (files_front i store [] ys apart.1)
-files_front i store (f ∷ xs) ys apart = ap (λ (fs : List FileState). cond (f.row == i && same_store f.store store) (f ∷ fs) fs) (files_front i store xs ys apart)
+files_front i store (f ∷ xs) ys apart = ap (λ (fs : List RowFile). cond (f.row == i && same_store f.store store) (f ∷ fs) fs) (files_front i store xs ys apart)
 
 -- also with files of other rows in limbo
-pub same_into : (Of : ℕ → Type 0) (m : Machine) (into : List FileState) (c : Change) → IsSound m → IsEarly Of c → ((i : ℕ) → Of i → AllByRecursion (λ (f : FileState). f.row ≢ i) into) → SameLater Of m.rows (made into c m).rows m.limbo (made into c m).limbo
+pub same_into : (Of : ℕ → Type 0) (m : Machine) (into : List RowFile) (c : Change) → IsSound m → IsEarly Of c → ((i : ℕ) → Of i → AllByRecursion (λ (f : RowFile). f.row ≢ i) into) → SameLater Of m.rows (made into c m).rows m.limbo (made into c m).limbo
 same_into Of m into c sound early apart = record {
   rows_there = λ i store row of low here. by_row i store row of low (came m.told m.limbo c m.rows i row here);
   limbo_there = λ i store of.
-      let P : FileState → Type 0 = λ f. f.row ≡ i → f.store ≡ next_store store → IsUnlisted (made into c m).rows f in
+      let P : RowFile → Type 0 = λ f. f.row ≡ i → f.store ≡ next_store store → IsUnlisted (made into c m).rows f in
       unlisted_at (made into c m).rows i (next_store store) (m.limbo ++ into) (all_of P (m.limbo ++ into) (λ f there row place. elim (Contains-append_cases m.limbo into f there) [
         | inl was ↦ still i store of f was row place
-        | inr comes ↦ absurd (of_all (λ (g : FileState). g.row ≢ i) into f (apart i of) comes row)
+        | inr comes ↦ absurd (of_all (λ (g : RowFile). g.row ≢ i) into f (apart i of) comes row)
       ]))
       ∙ files_front i (next_store store) m.limbo into (apart i of);
 }
@@ -384,7 +384,7 @@ same_into Of m into c sound early apart = record {
         let plain : 0 + i ≡ i = omega arith in
         rw (now, own) (tier_there Of m.told m.limbo c early (0 + i) (subst Of (sym plain) of) was.0 store)
 
-    still : (i : ℕ) (store : Store) → Of i → (f : FileState) → Contains m.limbo f → f.row ≡ i → f.store ≡ next_store store → IsUnlisted (made into c m).rows f
+    still : (i : ℕ) (store : Store) → Of i → (f : RowFile) → Contains m.limbo f → f.row ≡ i → f.store ≡ next_store store → IsUnlisted (made into c m).rows f
     still i store of f there row place =
         let is = of_all (LimboSound m.rule m.told m.rows) m.limbo f sound.each_file there in
         let same : tier_at (made into c m).rows f.row f.store ≡ tier_at m.rows f.row f.store = ap (tier_at (made into c m).rows f.row) place ∙ (lists_same f.row store (subst Of (sym row) of) is.here ∙ ap (tier_at m.rows f.row) (sym place)) in
@@ -474,7 +474,7 @@ module _ (tells : Bool) (old new : SeenAll) (m : Machine) (i n : ℕ) (store : S
     moves_same = record { none = are.none; each = λ k move here. let has = are.each k move here in record { running = has.running; there = has.there; is = move_same move has.running (inl (apart k move here)) has.is } }
 
     -- also where the files leave
-    pub moves_retired : IsSound m → (to : ℕ) (into : List FileState) → AllByRecursion (λ (f : FileState). f.row ≡ i) into
+    pub moves_retired : IsSound m → (to : ℕ) (into : List RowFile) → AllByRecursion (λ (f : RowFile). f.row ≡ i) into
         → AreMovesOf tells new m.told (made into (Unlists i store to) m).rows (made into (Unlists i store to) m).limbo (without_oldest (index_of store) i n held) left slots
     moves_retired sound to into from =
         moves_stay tells old new m.told m.rows (made into (Unlists i store to) m).rows m.limbo (made into (Unlists i store to) m).limbo held (without_oldest (index_of store) i n held) same_g stand left slots
@@ -495,13 +495,13 @@ module _ (tells : Bool) (old new : SeenAll) (m : Machine) (i n : ℕ) (store : S
         are
       where
         later : SameLater (λ (j : ℕ). j ≢ i) m.rows (made into (Unlists i store to) m).rows m.limbo (made into (Unlists i store to) m).limbo
-        later = same_into (λ (j : ℕ). j ≢ i) m into (Unlists i store to) sound (λ same. same refl) (λ j away. all_of (λ (f : FileState). f.row ≢ j) into (λ f there same. away (sym same ∙ of_all (λ (g : FileState). g.row ≡ i) into f from there)))
+        later = same_into (λ (j : ℕ). j ≢ i) m into (Unlists i store to) sound (λ same. same refl) (λ j away. all_of (λ (f : RowFile). f.row ≢ j) into (λ f there same. away (sym same ∙ of_all (λ (g : RowFile). g.row ≡ i) into f from there)))
 
 -- THE DOUBT IS SETTLED
 
 -- once a doubted retirement is settled as made, the moves that run are the machine's still
 pub moves_settled : (tells : Bool) (old new : Seen) (limbo : List Retired) (m : Machine) → IsSound m → (before after : Stores) → (m.told ≡ true → IsTrue before.stands) → IsKnown old.catalogue old.manifests before → granularities new.manifests ≡ granularities old.manifests → LeavesLater tells (beside old limbo) (beside new limbo)
-    → (i : ℕ) (store : Store) (to : ℕ) → IsRetiring tells (beside old limbo) m.told m.rows before after i store to → (into : List FileState) → Retires m (Unlists i store to) into → AreOfOthers i m.moves → (slots : List (Option (Running Moving)))
+    → (i : ℕ) (store : Store) (to : ℕ) → IsRetiring tells (beside old limbo) m.told m.rows before after i store to → (into : List RowFile) → Retires m (Unlists i store to) into → AreOfOthers i m.moves → (slots : List (Option (Running Moving)))
     → AreMovesOf tells (beside old limbo) m.told m.rows m.limbo before m.moves slots → AreMovesOf tells (beside new limbo) m.told (made into (Unlists i store to) m).rows (made into (Unlists i store to) m).limbo after m.moves slots
 moves_settled tells old new limbo m sound before after stand known same_g leaves i store to doubted into retires others slots are =
     subst (λ (s : Stores). AreMovesOf tells (beside new limbo) m.told (made into (Unlists i store to) m).rows (made into (Unlists i store to) m).limbo s m.moves slots) (sym doubted.same)
@@ -523,7 +523,7 @@ untold_limbo tells all m c off stands differ was tie = record {
   differ = differ;
   retired = λ on. absurd (let both : true ≡ false = sym on ∙ off in cc (both));
   unlisted = λ on. absurd (let both : true ≡ false = sym on ∙ off in cc (both));
-  none = λ off. ap (λ (files : List FileState). unlisted (made [] c m).rows (files ++ [])) (tie.none off);
+  none = λ off. ap (λ (files : List RowFile). unlisted (made [] c m).rows (files ++ [])) (tie.none off);
   bare = λ off. bare_made m c off (tie.bare off);
 }
 
@@ -630,7 +630,7 @@ module _ (tells : Bool) (old new : Seen) (limbo left : List Retired) (m : Machin
     have : HaveDurable old.catalogue old.manifests held m
     have = record { known = has.known; holds = holds; rule = rule.granularity; stands = stands }
 
-    abbrev all_owns : List FileState
+    abbrev all_owns : List RowFile
     all_owns = map (own i store) leaving_parts
 
     partition : (h : Filed) → Contains leaving_parts h → IsPartition m.rule store h.entry.part
@@ -652,7 +652,7 @@ module _ (tells : Bool) (old new : Seen) (limbo left : List Retired) (m : Machin
     own_pinned h there is = subst (λ (name : Name). IsPinnedFile pinned name) (sym (name_is h there)) (there_pinned tells old_all m sound told pinned pins (own i store h) r here (partition h there) is)
 
     -- a file stays where limbo has its name
-    abbrev stays : FileState → Bool
+    abbrev stays : RowFile → Bool
     stays f = list_any (λ (other : Name). is_same other (name_of r f)) (names_in left)
 
     pinned_stays : (h : Filed) → Contains leaving_parts h → IsPinnedFile pinned (file_at h).name → stays (own i store h) ≡ true
@@ -667,10 +667,10 @@ module _ (tells : Bool) (old new : Seen) (limbo left : List Retired) (m : Machin
           | inr leaves ↦ subst (λ (name : Name). IsPinnedFile pinned name) same leaves.1
         ]
 
-    abbrev into : List FileState
+    abbrev into : List RowFile
     into = filter stays all_owns
 
-    into_from : (f : FileState) → Contains into f → (h : Filed) × Contains leaving_parts h × (own i store h ≡ f) × (stays f ≡ true)
+    into_from : (f : RowFile) → Contains into f → (h : Filed) × Contains leaving_parts h × (own i store h ≡ f) × (stays f ≡ true)
     into_from f there =
         let from = from_filter stays all_owns f there in
         let one = map_out (own i store) leaving_parts f from.0 in
@@ -685,7 +685,7 @@ module _ (tells : Bool) (old new : Seen) (limbo left : List Retired) (m : Machin
         (places_filter stays all_owns (owns_differ old.catalogue old.manifests held m have sound told i r here store moves n to (ends told)))
 
     told_pinned : AllByRecursion (IsPinned m) into
-    told_pinned = all_of (IsPinned m) into (λ f there. (let one = into_from f there in subst (λ (x : FileState). IsPinned m x) one.2 (pinned_own one.0 one.1 (stays_pinned one.0 one.1 (subst (λ (x : FileState). stays x ≡ true) (sym one.2) one.3)))))
+    told_pinned = all_of (IsPinned m) into (λ f there. (let one = into_from f there in subst (λ (x : RowFile). IsPinned m x) one.2 (pinned_own one.0 one.1 (stays_pinned one.0 one.1 (subst (λ (x : RowFile). stays x ≡ true) (sym one.2) one.3)))))
 
     -- a file that stays is the machine's
     stays_one : (h : Filed) → Contains leaving_parts h → Contains left (file_at h) → IsRetiredOf tells new_all (made [] change m).rows (own i store h) (file_at h)
@@ -711,11 +711,11 @@ module _ (tells : Bool) (old new : Seen) (limbo left : List Retired) (m : Machin
               is = subst (λ (x : Retired). IsRetiredOf tells new_all (made [] change m).rows (own i store one.0) x) one.2 (stays_one one.0 one.1 (subst (λ (x : Retired). Contains left x) (sym one.2) there));
             }
 
-        comes : (f : FileState) → (h : Filed) × Contains leaving_parts h × (own i store h ≡ f) × (stays f ≡ true) → HasRetired tells new_all (made [] change m).rows f
+        comes : (f : RowFile) → (h : Filed) × Contains leaving_parts h × (own i store h ≡ f) × (stays f ≡ true) → HasRetired tells new_all (made [] change m).rows f
         comes f (h, there, same, test) =
-            let is = stays_pinned h there (subst (λ (x : FileState). stays x ≡ true) (sym same) test) in
+            let is = stays_pinned h there (subst (λ (x : RowFile). stays x ≡ true) (sym same) test) in
             let in_left = pinned_left (file_at h) (part_leaves place i n low held h there) is in
-            subst (λ (x : FileState). HasRetired tells new_all (made [] change m).rows x) same (record { file = file_at h; within = in_left; is = stays_one h there in_left })
+            subst (λ (x : RowFile). HasRetired tells new_all (made [] change m).rows x) same (record { file = file_at h; within = in_left; is = stays_one h there in_left })
 
     told_limbo : LimboRetires tells new_all m i store to
     told_limbo = record {

@@ -6,7 +6,7 @@ use Rattle.std.proofs.lemmas.List.{length-map, length-take-le}
 use Rattle.disk_model.specs.Files.{Files, Name, Rose}
 use Rattle.store_manifest.specs.declared.entry.Entry.{Entry}
 use Rattle.durable_write.specs.Held.{entry_of, Filed, samples_of}
-use Rattle.tier_store.specs.Change.{EndsFrom, Has, Doubts, Call, HoldsBy, Changes, IsKnown}
+use Rattle.tier_store.specs.Change.{EndsFrom, Has, Doubts, StoreCall, HoldsBy, Changes, IsKnown}
 use Rattle.tier_store.specs.Retiring.{oldest, without_oldest, HasGrown, HasNotGrown, Retires as StoresRetire, AreApart, FailsRetired, HandedOver, Remain, ShowsKept, StayOrEnter, retiring}
 use Rattle.tier_store.specs.Stores.{Stores, list_at}
 use Rattle.act_model.specs.Changes.{made, no_doubt}
@@ -28,7 +28,7 @@ use Rattle.disk_model.specs.Past.{MayLeave, Passes}
 use Rattle.disk_model.specs.declared.disk.DiskErr.{DiskErr}
 use Rattle.disk_model.specs.declared.disk.DiskErr.TheVariants.{Fault, Memory}
 use Rattle.disk_model.proofs.Passing.{passes_weaker, passes_none}
-use Rattle.etl_mover.specs.Move.{MoveState as Moving}
+use Rattle.etl_mover.specs.Move.{Moving}
 use Rattle.pins.specs.Pieces.{PinOf}
 use Rattle.pv_catalog.specs.declared.row.Row.{Row}
 use Rattle.moves.specs.declared.table.Running.{Running}
@@ -265,7 +265,7 @@ module _ (tells : Bool) (q : Parts) (n : ℕ) (running : Running Moving) (slots 
     s = subst (λ (ls : List ℕ). StoresRetired tells from move.row ls q new limbo result) are
         (subst (λ (i : ℕ). StoresRetired tells from i lengths q new limbo result) out.1.is.series (subst (λ (k : ℕ). StoresRetired tells k running.series lengths q new limbo result) (place_is number store_is) says))
 
-    abbrev by_call : Call RetireEnd ⊥
+    abbrev by_call : StoreCall RetireEnd ⊥
     by_call = retiring from move.row published (Remain tells new q.pinned q.limbo limbo)
 
     ends_so : (given : Result RetireEnd DiskErr) → result ≡ given → EndsFrom tells by_call new held (end_of_disk given)

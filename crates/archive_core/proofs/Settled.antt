@@ -47,7 +47,7 @@ use Rattle.moves.specs.declared.table.Running.{Running}
 use Rattle.durable_write.specs.Held.{Filed}
 use Rattle.act_model.specs.Changes.{added, each, at, changed, made, of_row, Retires, Settles, no_doubt, as_not_made, as_made, without_held}
 use Rattle.act_model.specs.Crash.{kept_of, kept}
-use Rattle.act_model.specs.Limbo.{FileState}
+use Rattle.act_model.specs.Limbo.{RowFile}
 use Rattle.act_model.proofs.Rows.{Came, from_row, is_new, came, each_forward, more_rows}
 use Rattle.act_model.proofs.StepLaws.{settled_sound, settled_none}
 use Rattle.archive_core.specs.declared.memory.RowEnd.{RowEnd}
@@ -65,7 +65,7 @@ use Rattle.archive_core.specs.Retiring.{IsRetiring, SettlesRetired}
 use Rattle.durable_write.proofs.Staying.{get_set_other}
 use Rattle.archive_core.specs.declared.memory.Doubt.TheVariants as kind
 use Rattle.pb_messages.specs.declared.about.State.TheVariants.{Retired as RetiredState}
-use Rattle.etl_mover.specs.Move.{MoveState as Moving}
+use Rattle.etl_mover.specs.Move.{Moving}
 use Rattle.durable_write.specs.Plan.{of_row as files_in}
 
 -- What is known of a doubted change stays so while the doubt stands.
@@ -332,13 +332,13 @@ set_same (Some kind.Published) (Some c) (row, store, copied, is) = ap (λ (x : C
 -- THE SETTLED ARCHIVE
 
 -- the stores grew from what the memory lists, limbo is whole beside them, and moves go on beside them
-pub record GrewFrom (tells : Bool) (at new : Seen) (retired : List Retired) (slots : List (Option (Running Moving))) (told : Bool) (rows : List RowState) (limbo : List FileState) (running : FinMap nat_cmp MoveState) (after : Stores) : Type 0 where
+pub record GrewFrom (tells : Bool) (at new : Seen) (retired : List Retired) (slots : List (Option (Running Moving))) (told : Bool) (rows : List RowState) (limbo : List RowFile) (running : FinMap nat_cmp MoveState) (after : Stores) : Type 0 where
   pub from : Stores
   pub known : IsKnown at.catalogue at.manifests from
   pub disk : IsTrue after.stands → IsTrue tells
   pub grow : StoresGrow running from after
   pub whole : (i : ℕ) → i < 3 → (files : List Filed) × AreWhole i tells new retired after.stands files
-  pub moves : (then : List RowState) (left : List FileState) → SameLater (HasRunning running) rows then limbo left → AreMovesOf tells (beside new retired) told then left after running slots
+  pub moves : (then : List RowState) (left : List RowFile) → SameLater (HasRunning running) rows then limbo left → AreMovesOf tells (beside new retired) told then left after running slots
 
 -- the memory lists what was before a doubt
 pub open_known : {limbo : List Retired} (tells : Bool) (at : Seen) (before : Stores) (m : Machine) → Has tells at before ⊎ InDoubt tells at limbo before m → IsKnown at.catalogue at.manifests before
@@ -571,7 +571,7 @@ module _ (tells : Bool) (p : Parts) (m : Machine) (s : Stands tells p m) (new : 
   grown after stand grow = grew tells p m s new same_g shown after stand grow
 
   -- the machine with its doubted change made and these files in limbo
-  abbrev with_files : List FileState → Change → Machine
+  abbrev with_files : List RowFile → Change → Machine
   with_files into c = record (made into c m) { doubt = None }
 
   -- the doubted parts have left, and all of them are in limbo

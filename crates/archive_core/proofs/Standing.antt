@@ -55,16 +55,16 @@ use Rattle.act_model.specs.Outcome.{Outcome, Ends}
 use Rattle.act_model.specs.Reply.{Reply}
 use Rattle.act_model.proofs.RowActs.{offer_sound, tick_sound}
 use Rattle.act_model.specs.Asks.{offered_reply, ticked_reply}
-use Rattle.archive_core.specs.declared.trying.Refusal.{Refusal}
+use Rattle.archive_core.specs.declared.trying.NotKept.{NotKept}
 use Rattle.archive_core.specs.Trying.{IsTried, IsOffered, IsTickedDue, moved_on}
 use Rattle.archive_core.specs.Wanting.{WithWants, WouldKeep, WouldTick}
 use Rattle.act_model.specs.Tick.{TickStep, ticked, ticked_due}
 use Rattle.intake.specs.Tails as tails
 use Rattle.act_model.specs.declared.answers.Offered.TheVariants as offer
-use Rattle.archive_core.specs.declared.trying.Refusal.TheVariants as refusal
+use Rattle.archive_core.specs.declared.trying.NotKept.TheVariants as refusal
 use Rattle.act_model.specs.Tick as tick
 use Rattle.act_model.specs.declared.answers.Ticked.TheVariants as answer
-use Rattle.etl_mover.specs.Move.{MoveState as Moving}
+use Rattle.etl_mover.specs.Move.{Moving}
 use Rattle.act_model.specs.declared.answers.Offered.{Offered as OfferAnswer}
 use Rattle.act_model.specs.declared.answers.Ticked.{Ticked as TickAnswer}
 
@@ -230,13 +230,13 @@ found_step : (m n : Machine) (name : List ℕ) (i : ℕ) (r : RowState) (ty : Pa
 found_step m n name i r ty s now answer found here ends = rw (found, here) ends
 
 -- what comes of a sample that is tried
-abbrev pub TriedAs : Machine → RowState → Sample → ℕ → Outcome → Result (Unit {0}) Refusal → Type 0
+abbrev pub TriedAs : Machine → RowState → Sample → ℕ → Outcome → Result (Unit {0}) NotKept → Type 0
 TriedAs m r s now kept (Ok a) = tried m r s now kept ≡ kept
 TriedAs m r s now kept (Err refusal.Memory) = tried m r s now kept ≡ kept
 TriedAs m r s now kept (Err (refusal.Dropped reason)) = tried m r s now kept ≡ record { answer = Dropped reason; after = m }
 TriedAs m r s now kept (Err (refusal.IntakeFull held)) = tried m r s now kept ≡ record { answer = IntakeFull held; after = m }
 
-pub tried_as : (m : Machine) (r : RowState) (s : Sample) (now next held : ℕ) (kept : Outcome) (result : Result (Unit {0}) Refusal) → r.next ≡ next → held_bytes m.rows ≡ held → IsTried next held s.t (length s.line) now result → TriedAs m r s now kept result
+pub tried_as : (m : Machine) (r : RowState) (s : Sample) (now next held : ℕ) (kept : Outcome) (result : Result (Unit {0}) NotKept) → r.next ≡ next → held_bytes m.rows ≡ held → IsTried next held s.t (length s.line) now result → TriedAs m r s now kept result
 tried_as m r s now next held kept (Ok a) next_is held_is is =
     let late : refused_by_time r.next s.t now ≡ None = ap (λ n. refused_by_time n s.t now) next_is ∙ is.0 in
     let fits : nat_lt intake_room (held_bytes m.rows + (length s.line + 1)) ≡ false = let low = is.1 in grind (arith, nat_tests) in
@@ -301,7 +301,7 @@ module _ (tells : Bool) (p : Parts) (m : Machine) (s : Stands tells p m) (name :
       let method : r.about.method ≡ Monitor = monitored r.about.method (ap period_in (sym scan) ∙ is.period) in
       rw (first, method) is_o
 
-  trial : (result : Result (Unit {0}) Refusal) → IsTried memory.next (tails.held_bytes p.tails) x.t (length x.line) now result → TriedAs m r x now (record { answer = Kept; after = with_rows m (at i (gains x)) }) result
+  trial : (result : Result (Unit {0}) NotKept) → IsTried memory.next (tails.held_bytes p.tails) x.t (length x.line) now result → TriedAs m r x now (record { answer = Kept; after = with_rows m (at i (gains x)) }) result
   trial result tried = tried_as m r x now memory.next (tails.held_bytes p.tails) (record { answer = Kept; after = with_rows m (at i (gains x)) }) result is.next (held_is p.at.catalogue.rows p.kept p.tails m.rows s.rows) tried
 
   -- the machine stays

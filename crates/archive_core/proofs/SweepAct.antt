@@ -23,10 +23,10 @@ use Rattle.tier_store.specs.Seen.{granularities}
 use Rattle.tier_store.specs.Stored.{HoldsAll}
 use Rattle.tier_store.specs.Stores.{Stores}
 use Rattle.tier_store.specs.declared.limbo.Retired.{Retired}
-use Rattle.tier_store.specs.declared.removing.Swept.{Swept}
+use Rattle.tier_store.specs.declared.removing.StoreSwept.{StoreSwept}
 use Rattle.act_model.specs.Changes.{Settles, no_doubt}
 use Rattle.act_model.specs.Crash.{settled_there}
-use Rattle.act_model.specs.Limbo.{FileState}
+use Rattle.act_model.specs.Limbo.{RowFile}
 use Rattle.act_model.specs.Machine.{Machine}
 use Rattle.act_model.specs.OpenPiece.{name_of}
 use Rattle.act_model.specs.Outcome.{runs, faults_between, faults_removing, wants_memory_settled}
@@ -64,22 +64,22 @@ use Rattle.archive_core.specs.Leaving.{KeepsListed, files_of}
 -- WHAT THE STORES' SWEEP COMES TO
 
 -- What the stores say of a sweep, with these files copied into. Where it fails, limbo and all that was shown are as before.
-pub record StoresSwept (tells : Bool) (copied : List Name) (q new : Parts) (result : Result Swept DiskErr) : Type 0 where
+pub record StoresSwept (tells : Bool) (copied : List Name) (q new : Parts) (result : Result StoreSwept DiskErr) : Type 0 where
   pub changes : Changes tells staying q.at new.at (end_of_disk result)
-  pub swept : IfOk result (λ (s : Swept). IsSweptOf new.at q.pinned copied q.limbo new.limbo s.files)
+  pub swept : IfOk result (λ (s : StoreSwept). IsSweptOf new.at q.pinned copied q.limbo new.limbo s.files)
   pub failed : OnErr result ((new.limbo ≡ q.limbo) × KeepsShown tells (beside q.at q.limbo) (beside new.at q.limbo) × LeavesLater tells (beside q.at q.limbo) (beside new.at q.limbo))
   pub leaves : LeavesKept tells q.pinned copied (beside q.at q.limbo) (beside new.at new.limbo)
   pub left : LeavesNames copied tells (beside q.at q.limbo) (beside new.at new.limbo)
   pub whole : KeepsWhole tells (beside q.at q.limbo) (beside new.at new.limbo)
   pub stands : LimboStands new.at new.limbo
   pub same : (new.at.catalogue ≡ q.at.catalogue) × (new.at.manifests ≡ q.at.manifests) × (new.pinned ≡ q.pinned)
-  pub cause : IfOk result (λ (s : Swept). IsErr s.removed → Rose q.at.faults new.at.faults)
+  pub cause : IfOk result (λ (s : StoreSwept). IsErr s.removed → Rose q.at.faults new.at.faults)
 
 -- these are just the files that running moves have copied into
 abbrev pub AreCopied : List Name → Machine → Type 0
-AreCopied copied m = (f : FileState) (row : RowState) → Contains m.limbo f → slice_get m.rows f.row ≡ Some row → Contains copied (name_of row f) ↔ IsCopiedInto m f
+AreCopied copied m = (f : RowFile) (row : RowState) → Contains m.limbo f → slice_get m.rows f.row ≡ Some row → Contains copied (name_of row f) ↔ IsCopiedInto m f
 
-module _ (tells : Bool) (copied : List Name) (q new : Parts) (result : Result Swept DiskErr) (s : StoresSwept tells copied q new result) (same : new ≡ record q { at = new.at; limbo = new.limbo; pinned = new.pinned }) (m : Machine) (r : Rests tells q m) where
+module _ (tells : Bool) (copied : List Name) (q new : Parts) (result : Result StoreSwept DiskErr) (s : StoresSwept tells copied q new result) (same : new ≡ record q { at = new.at; limbo = new.limbo; pinned = new.pinned }) (m : Machine) (r : Rests tells q m) where
   abbrev held : Stores
   held = r.stands.store.before
 
@@ -87,7 +87,7 @@ module _ (tells : Bool) (copied : List Name) (q new : Parts) (result : Result Sw
   has = rests_has tells q m r
 
   -- the stores have what they had
-  has_by : (given : Result Swept DiskErr) → EndsFrom {A = Swept} tells staying new.at held (end_of_disk given) → Has tells new.at held
+  has_by : (given : Result StoreSwept DiskErr) → EndsFrom {A = StoreSwept} tells staying new.at held (end_of_disk given) → Has tells new.at held
   has_by (Ok said) (made, is, says, now) = subst (λ (x : Stores). Has tells new.at x) is now
   has_by (Err Fault) (inl now) = now
   has_by (Err Fault) (inr (made, is, doubts)) = absurd (undoubted tells q.at new.at held made has.settled s.same.0 s.same.1 doubts)
@@ -109,12 +109,12 @@ module _ (tells : Bool) (copied : List Name) (q new : Parts) (result : Result Sw
 
   -- at each moment the disk has what is durable
   pub sweep_passes : IsTrue tells → Passes (λ a image. HoldsMachine (granularities q.at.manifests) image m) q.at.past new.at.past
-  sweep_passes told = passes_weaker (HoldsBy (granularities q.at.manifests) (staying {A = Swept}).by held) (λ a image. HoldsMachine (granularities q.at.manifests) image m) q.at.past new.at.past (s.changes.any_moment told held has) (λ a image left holds. elim holds [
+  sweep_passes told = passes_weaker (HoldsBy (granularities q.at.manifests) (staying {A = StoreSwept}).by held) (λ a image. HoldsMachine (granularities q.at.manifests) image m) q.at.past new.at.past (s.changes.any_moment told held has) (λ a image left holds. elim holds [
     | inl one ↦ record { stores = held; holds = one; durable = r.stands.store.holds; stands = stands_now }
     | inr made ↦ record { stores = held; holds = subst (λ (x : Stores). HoldsAll (granularities q.at.manifests) image x) made.1 made.2; durable = r.stands.store.holds; stands = stands_now }
   ])
 
-module _ (tells : Bool) (copied : List Name) (q new : Parts) (said : Swept) (s : StoresSwept tells copied q new (Ok said)) (same : new ≡ record q { at = new.at; limbo = new.limbo; pinned = new.pinned }) (m : Machine) (r : Rests tells q m) (written : AreWritten q.at.catalogue.rows q.slots copied) where
+module _ (tells : Bool) (copied : List Name) (q new : Parts) (said : StoreSwept) (s : StoresSwept tells copied q new (Ok said)) (same : new ≡ record q { at = new.at; limbo = new.limbo; pinned = new.pinned }) (m : Machine) (r : Rests tells q m) (written : AreWritten q.at.catalogue.rows q.slots copied) where
   copied_is : AreCopied copied m
   copied_is = copied_named tells q m r copied written
 
@@ -157,9 +157,9 @@ module _ (tells : Bool) (copied : List Name) (q new : Parts) (said : Swept) (s :
 
   -- the files that stay in the machine's limbo, and limbo then
   pub record Left : Type 0 where
-    pub stays : FileState → Bool
+    pub stays : RowFile → Bool
     pub just : IsSwept m stays m.limbo
-    pub number : m.told ≡ true → files ≡ length (filter (λ (f : FileState). not (stays f)) m.limbo)
+    pub number : m.told ≡ true → files ≡ length (filter (λ (f : RowFile). not (stays f)) m.limbo)
     pub tie : IsLimboOf tells new_all m.told m.rows (filter stays m.limbo)
 
   told_left : m.told ≡ true → Left
@@ -199,14 +199,14 @@ module _ (tells : Bool) (copied : List Name) (q new : Parts) (said : Swept) (s :
   untold_left : m.told ≡ false → Left
   untold_left off = record {
     stays = λ f. true;
-    just = subst (λ (l : List FileState). IsSwept m (λ f. true) l) (sym none) tt;
+    just = subst (λ (l : List RowFile). IsSwept m (λ f. true) l) (sym none) tt;
     number = λ told. absurd (let both : true ≡ false = sym told ∙ off in cc (both));
     tie = record {
       stands = s.stands;
       differ = left_apart;
       retired = λ told. absurd (let both : true ≡ false = sym told ∙ off in cc (both));
       unlisted = λ told. absurd (let both : true ≡ false = sym told ∙ off in cc (both));
-      none = λ off. ap (λ (l : List FileState). filter (λ f. true) l) none;
+      none = λ off. ap (λ (l : List RowFile). filter (λ f. true) l) none;
       bare = r.stands.limbo.bare;
     };
   }
@@ -248,7 +248,7 @@ module _ (tells : Bool) (copied : List Name) (q new : Parts) (said : Swept) (s :
 -- THE ACT
 
 -- the count of faults is nothing to what is needed
-swept_goes : (m : Machine) (k : ℕ) (stays : FileState → Bool) (limbo : List FileState) → IsSwept (record m { faults = k }) stays limbo → IsSwept m stays limbo
+swept_goes : (m : Machine) (k : ℕ) (stays : RowFile → Bool) (limbo : List RowFile) → IsSwept (record m { faults = k }) stays limbo → IsSwept m stays limbo
 swept_goes m k stays [] each = tt
 swept_goes m k stays (f ∷ limbo) each = ((λ test. forth (each.0.0 test), λ needed. each.0.1 (back needed)), swept_goes m k stays limbo each.1)
   where
@@ -283,11 +283,11 @@ fronts_kept : (tells : Bool) (p q : Parts) → LeavesFronts tells (files_of p) (
 fronts_kept tells p q fronts name bytes kept was = fronts_shown tells (files_of p) (files_of q) fronts name bytes was
 
 -- as the machine's act goes
-pub swept_so : (tells : Bool) (who : ℕ) (p q : Parts) (r : Result Swept DiskErr) → Went tells who Sweep p (sweep_reply r) q → Acted tells who Sweep p (sweep_reply r) q
+pub swept_so : (tells : Bool) (who : ℕ) (p q : Parts) (r : Result StoreSwept DiskErr) → Went tells who Sweep p (sweep_reply r) q → Acted tells who Sweep p (sweep_reply r) q
 swept_so tells who p q r went = acted tells who Sweep p (sweep_reply r) q went (fronts_kept tells p q went.fronts) tt tt
 
 module _ (tells : Bool) (p q : Parts) (settles : SettlesTo tells p q) (more : p.at.faults ≤ q.at.faults) (new : Parts) (copied : List Name) (same : new ≡ record q { at = new.at; limbo = new.limbo; pinned = new.pinned }) (written : AreWritten q.at.catalogue.rows q.slots copied) where
-  sweep_ends : (result : Result Swept DiskErr) → StoresSwept tells copied q new result → Steps tells SweepStep p (sweep_reply result) new
+  sweep_ends : (result : Result StoreSwept DiskErr) → StoresSwept tells copied q new result → Steps tells SweepStep p (sweep_reply result) new
   sweep_ends (Ok said) swept = λ m s.
       let mid = settles m s in
       let n : Machine = record mid.0 { faults = q.at.faults } in
@@ -319,7 +319,7 @@ module _ (tells : Bool) (p q : Parts) (settles : SettlesTo tells p q) (more : p.
       (record mid.0 { faults = new.at.faults }, wants_memory_settled refl mid.1 refl (omega (arith, was, more, later)), stands_still tells copied q new (Err Memory) swept same n mid.2 swept.failed)
 
   -- at each moment a crash leaves what was there, or what is settled
-  crash_sweep : (result : Result Swept DiskErr) → StoresSwept tells copied q new result → HoldsDoubted tells p q → granularities q.at.manifests ≡ granularities p.at.manifests → LeavesByAct tells (λ m. None) (λ m. None) p new
+  crash_sweep : (result : Result StoreSwept DiskErr) → StoresSwept tells copied q new result → HoldsDoubted tells p q → granularities q.at.manifests ≡ granularities p.at.manifests → LeavesByAct tells (λ m. None) (λ m. None) p new
   crash_sweep result swept reads same_g = λ m told s.
       let mid = settles m s in
       let n : Machine = record mid.0 { faults = q.at.faults } in
@@ -328,7 +328,7 @@ module _ (tells : Bool) (p q : Parts) (settles : SettlesTo tells p q) (more : p.
       passes_then (λ a image. LeavesWithin (λ m. None) (λ m. None) (granularities p.at.manifests) m image) (λ a image. HoldsMachine (granularities p.at.manifests) image n) p.at.past q.at.past new.at.past first second (λ a b image was within left holds. (mid.0, settled_there mid.1, holds))
 
   -- what is listed then or pinned is shown still
-  kept_files : (result : Result Swept DiskErr) → StoresSwept tells copied q new result → LeavesFronts tells (files_of p) (files_of q) → q.pinned ≡ p.pinned → KeepsListed tells p new
+  kept_files : (result : Result StoreSwept DiskErr) → StoresSwept tells copied q new result → LeavesFronts tells (files_of p) (files_of q) → q.pinned ≡ p.pinned → KeepsListed tells p new
   kept_files result swept fronts pins name bytes kept was = swept.leaves.shown name bytes (by_kind kept) (fronts_shown tells (files_of p) (files_of q) fronts name bytes was)
     where
       by_kind : IsKeptName new.at p.pinned [] name → IsKeptName new.at q.pinned copied name
@@ -337,7 +337,7 @@ module _ (tells : Bool) (p q : Parts) (settles : SettlesTo tells p q) (more : p.
       by_kind (inr (inr (k, lt, is))) = absurd (omega (arith, lt))
 
   -- the act, where a doubt was settled
-  pub sweep_acts : (who : ℕ) (done : Result (Unit {0}) DiskErr) → Settling tells p q (end_of_disk done) → (result : Result Swept DiskErr) → StoresSwept tells copied q new result → ActsTidily tells p (sweep_reply result) new → Acted tells who Sweep p (sweep_reply result) new
+  pub sweep_acts : (who : ℕ) (done : Result (Unit {0}) DiskErr) → Settling tells p q (end_of_disk done) → (result : Result StoreSwept DiskErr) → StoresSwept tells copied q new result → ActsTidily tells p (sweep_reply result) new → Acted tells who Sweep p (sweep_reply result) new
   sweep_acts who done settling result swept tidy = record {
     step = λ m s. (let one = sweep_ends result swept m s in (one.0, (one.1, λ told. tt), one.2));
     crash = crash_sweep result swept settling.settles.any_moment settling.granularity;

@@ -5,7 +5,7 @@ use Rattle.std.proofs.lemmas.List.{map-append, length-map}
 use Rattle.series_model.specs.declared.sample.Sample.{Sample}
 use Rattle.series_model.specs.Series.{over, since, RisesFrom, end_of, end_from, before, IsRising}
 use Rattle.act_model.specs.Rows.{RowState, durable, Store, Short, Medium, Long, next_store, fresh_row, renamed_row, window, tier, is_empty, accepted}
-use Rattle.act_model.specs.Limbo.{FileState, files_of, put}
+use Rattle.act_model.specs.Limbo.{RowFile, files_of, put}
 use Rattle.act_model.specs.Machine.{Machine, Change, AddsRow, SetsState, Renames, Appends, Publishes, Unlists}
 use Rattle.act_model.specs.Crash.{kept_of, DurableRow, kept}
 use Rattle.std.proofs.lemmas.Option.{same_Some, slice_get_within}
@@ -63,7 +63,7 @@ use Rattle.act_model.proofs.Wholes.{past_stays, whole_is}
 
 -- What the stores make of a change is what the machine makes of it.
 
-published_same : (told : Bool) (limbo : List FileState) (store : Store) (xs : List Sample) (a b : RowState) → kept_of a ≡ kept_of b → kept_of (published told limbo store xs a) ≡ kept_of (published told limbo store xs b)
+published_same : (told : Bool) (limbo : List RowFile) (store : Store) (xs : List Sample) (a b : RowState) → kept_of a ≡ kept_of b → kept_of (published told limbo store xs a) ≡ kept_of (published told limbo store xs b)
 published_same true limbo Short xs a b same = ap (λ (d : DurableRow). record d { short = put xs limbo d.short }) same
 published_same true limbo Medium xs a b same = ap (λ (d : DurableRow). record d { medium = put xs limbo d.medium }) same
 published_same true limbo Long xs a b same = ap (λ (d : DurableRow). record d { long = put xs limbo d.long }) same
@@ -83,7 +83,7 @@ at_same k f i a b same there = by_test (i == k) refl
     by_test false is = rw is same
 
 -- a change makes the same of what is durable of two rows of which the same is durable
-pub changed_same : (told : Bool) (limbo : List FileState) (c : Change) (i : ℕ) (a b : RowState) → kept_of a ≡ kept_of b → kept_of (changed told limbo c i a) ≡ kept_of (changed told limbo c i b)
+pub changed_same : (told : Bool) (limbo : List RowFile) (c : Change) (i : ℕ) (a b : RowState) → kept_of a ≡ kept_of b → kept_of (changed told limbo c i a) ≡ kept_of (changed told limbo c i b)
 changed_same told limbo (AddsRow name about) i a b same = same
 changed_same told limbo (SetsState k state) i a b same = at_same k (without_held state) i a b same (ap (λ (d : DurableRow). record d { state = state }) same)
 changed_same told limbo (Renames k name) i a b same = at_same k (without_held Retired) i a b same (ap (λ (d : DurableRow). record d { state = Retired }) same)
@@ -96,7 +96,7 @@ changed_same told limbo (Publishes k store copied) i a b same = at_same k (publi
 changed_same told limbo (Unlists k store to) i a b same = at_same k (retired told store to) i a b same (retired_same told store to a b same)
 
 -- so it is of all rows, where a change in memory leaves what is durable
-rows_same : (told : Bool) (limbo : List FileState) (c : Change) (g : ℕ → RowState → RowState) (k : ℕ) (rows : List RowState) → ((i : ℕ) (r : RowState) → kept_of (g i r) ≡ kept_of r)
+rows_same : (told : Bool) (limbo : List RowFile) (c : Change) (g : ℕ → RowState → RowState) (k : ℕ) (rows : List RowState) → ((i : ℕ) (r : RowState) → kept_of (g i r) ≡ kept_of r)
     → map kept_of (each (changed told limbo c) k (each g k rows)) ≡ map kept_of (each (changed told limbo c) k rows)
 rows_same told limbo c g k [] stays = refl
 rows_same told limbo c g k (r ∷ rows) stays =
@@ -480,23 +480,23 @@ window_apart g rows f p is part apart = by_side (cases_lt f.entry.part.start p.s
 
 -- LISTS
 
-pub all_rest : (P : FileState → Type 0) (xs ys : List FileState) → AllByRecursion P (xs ++ ys) → AllByRecursion P ys
+pub all_rest : (P : RowFile → Type 0) (xs ys : List RowFile) → AllByRecursion P (xs ++ ys) → AllByRecursion P ys
 all_rest P [] ys all = all
 all_rest P (x ∷ xs) ys all = all_rest P xs ys all.1
 
-pub all_first : (P : FileState → Type 0) (xs ys : List FileState) → AllByRecursion P (xs ++ ys) → AllByRecursion P xs
+pub all_first : (P : RowFile → Type 0) (xs ys : List RowFile) → AllByRecursion P (xs ++ ys) → AllByRecursion P xs
 all_first P [] ys all = tt
 all_first P (x ∷ xs) ys all = (all.0, all_first P xs ys all.1)
 
-pub order_rest : (xs ys : List FileState) → InOrder (xs ++ ys) → InOrder ys
+pub order_rest : (xs ys : List RowFile) → InOrder (xs ++ ys) → InOrder ys
 order_rest [] ys order = order
 order_rest (x ∷ xs) ys order = order_rest xs ys order.1
 
-pub order_first : (xs ys : List FileState) → InOrder (xs ++ ys) → InOrder xs
+pub order_first : (xs ys : List RowFile) → InOrder (xs ++ ys) → InOrder xs
 order_first [] ys order = tt
 order_first (x ∷ xs) ys order = (all_first (ComesBefore x) xs ys order.0, order_first xs ys order.1)
 
-pub order_both : (xs ys : List FileState) → InOrder xs → InOrder ys → AllByRecursion (λ (x : FileState). AllByRecursion (ComesBefore x) ys) xs → InOrder (xs ++ ys)
+pub order_both : (xs ys : List RowFile) → InOrder xs → InOrder ys → AllByRecursion (λ (x : RowFile). AllByRecursion (ComesBefore x) ys) xs → InOrder (xs ++ ys)
 order_both [] ys one two across = two
 order_both (x ∷ xs) ys one two across = (of_append (ComesBefore x) xs ys one.0 across.0, order_both xs ys one.1 two across.1)
 
@@ -542,7 +542,7 @@ store_order i store (f ∷ fs) apart = (behind fs apart.0, store_order i store f
     behind (h ∷ hs) all = (inr (refl, inr (refl, all.0)), behind hs all.1)
 
 -- those of a deeper store come first
-deeper_first : (i : ℕ) (deep other : Store) (fs hs : List Filed) → index_of other < index_of deep → AllByRecursion (λ (x : FileState). AllByRecursion (ComesBefore x) (map (row_file i other) hs)) (map (row_file i deep) fs)
+deeper_first : (i : ℕ) (deep other : Store) (fs hs : List Filed) → index_of other < index_of deep → AllByRecursion (λ (x : RowFile). AllByRecursion (ComesBefore x) (map (row_file i other) hs)) (map (row_file i deep) fs)
 deeper_first i deep other [] hs low = tt
 deeper_first i deep other (f ∷ fs) hs low = (one hs, deeper_first i deep other fs hs low)
   where
@@ -624,13 +624,13 @@ module _ (tells : Bool) (at : Seen) (m : Machine) (held : Stores) (has : Has tel
 
   -- ALL FILES OF THE ROW
 
-  abbrev long : List FileState
+  abbrev long : List RowFile
   long = map (row_file i Long) (row_files held Long i)
 
-  abbrev medium : List FileState
+  abbrev medium : List RowFile
   medium = map (row_file i Medium) (row_files held Medium i)
 
-  abbrev short : List FileState
+  abbrev short : List RowFile
   short = map (row_file i Short) (row_files held Short i)
 
   all_states : map state_of (files_in i held) ≡ (long ++ medium) ++ short
@@ -639,20 +639,20 @@ module _ (tells : Bool) (at : Seen) (m : Machine) (held : Stores) (has : Has tel
       let two = own_states i Medium (row_files held Medium i) (own_series i held.medium) in
       let three = own_states i Short (row_files held Short i) (own_series i held.short) in
       map-append state_of (placed Long i held.long ++ placed Medium i held.medium) (placed Short i held.short)
-      ∙ (ap (λ (xs : List FileState). xs ++ map state_of (placed Short i held.short)) (map-append state_of (placed Long i held.long) (placed Medium i held.medium)) ∙ (λ k. (one k ++ two k) ++ three k))
+      ∙ (ap (λ (xs : List RowFile). xs ++ map state_of (placed Short i held.short)) (map-append state_of (placed Long i held.long) (placed Medium i held.medium)) ∙ (λ k. (one k ++ two k) ++ three k))
 
   -- they are listed pieces, in order
   pub row_listed : AllByRecursion (IsListedPiece m.rule i r) (map state_of (files_in i held))
   row_listed =
       let P = IsListedPiece m.rule i r in
-      subst (λ (xs : List FileState). AllByRecursion P xs) (sym all_states) (of_append P (long ++ medium) short (of_append P long medium (store_pieces Long) (store_pieces Medium)) (store_pieces Short))
+      subst (λ (xs : List RowFile). AllByRecursion P xs) (sym all_states) (of_append P (long ++ medium) short (of_append P long medium (store_pieces Long) (store_pieces Medium)) (store_pieces Short))
 
   pub row_ordered : InOrder (map state_of (files_in i held))
   row_ordered =
       let deep = order_both long medium (store_order i Long (row_files held Long i) (own_files Long).apart) (store_order i Medium (row_files held Medium i) (own_files Medium).apart) (deeper_first i Long Medium (row_files held Long i) (row_files held Medium i) (omega arith)) in
-      let Q = λ (x : FileState). AllByRecursion (ComesBefore x) short in
+      let Q = λ (x : RowFile). AllByRecursion (ComesBefore x) short in
       let across = of_append Q long medium (deeper_first i Long Short (row_files held Long i) (row_files held Short i) (omega arith)) (deeper_first i Medium Short (row_files held Medium i) (row_files held Short i) (omega arith)) in
-      subst (λ (xs : List FileState). InOrder xs) (sym all_states) (order_both (long ++ medium) short deep (store_order i Short (row_files held Short i) (own_files Short).apart) across)
+      subst (λ (xs : List RowFile). InOrder xs) (sym all_states) (order_both (long ++ medium) short deep (store_order i Short (row_files held Short i) (own_files Short).apart) across)
 
 -- The whole of a row of the machine by what the stores hold of its line, and its tail over that; and the files of the line.
 
@@ -712,7 +712,7 @@ module _ (m : Machine) (sound : IsSound m) where
 -- THE FILES OF A LINE
 
 -- what is earlier by its row comes before
-earlier_rows : (i : ℕ) (xs ys : List FileState) → AllByRecursion (λ (f : FileState). f.row < i) xs → AllByRecursion (λ (g : FileState). g.row ≡ i) ys → AllByRecursion (λ (f : FileState). AllByRecursion (ComesBefore f) ys) xs
+earlier_rows : (i : ℕ) (xs ys : List RowFile) → AllByRecursion (λ (f : RowFile). f.row < i) xs → AllByRecursion (λ (g : RowFile). g.row ≡ i) ys → AllByRecursion (λ (f : RowFile). AllByRecursion (ComesBefore f) ys) xs
 earlier_rows i xs ys low own = of_all (λ f. f.row < i) (λ f. AllByRecursion (ComesBefore f) ys) xs (λ f below. of_all (λ g. g.row ≡ i) (ComesBefore f) ys (λ g is. inl (omega arith)) own) low
 
 module _ (m : Machine) (sound : IsSound m) where
@@ -725,7 +725,7 @@ module _ (m : Machine) (sound : IsSound m) where
       omega arith
 
   -- a listed file of the row is a piece of it
-  own_piece : (i : ℕ) (r : RowState) → slice_get m.rows i ≡ Some r → (f : FileState) → IsListedPiece m.rule i r f → IsPieceOf m.rule m.rows i r f
+  own_piece : (i : ℕ) (r : RowState) → slice_get m.rows i ≡ Some r → (f : RowFile) → IsListedPiece m.rule i r f → IsPieceOf m.rule m.rows i r f
   own_piece i r here f is = record {
     among = subst (λ n. IsPartOf m.rows n i) (sym is.own) itself;
     own = r;
@@ -735,10 +735,10 @@ module _ (m : Machine) (sound : IsSound m) where
   }
 
   module _ (tells : Bool) (at : Seen) (held : Stores) (has : Has tells at held) (holds : HoldsDurable held m) (gran : m.rule.granularity ≡ granularities at.manifests) (heads : TellsHeaders m.rule) (told : m.told ≡ true) (stands : IsTrue held.stands) where
-    abbrev AreInLine : ℕ → RowState → List FileState → Type 0
+    abbrev AreInLine : ℕ → RowState → List RowFile → Type 0
     AreInLine i r files = AllByRecursion (IsPieceOf m.rule m.rows i r) files × InOrder files
 
-    abbrev files_before : Option ℕ → List FileState
+    abbrev files_before : Option ℕ → List RowFile
     files_before o = map state_of (flat_map (λ (k : ℕ). files_in k held) (line_known (lines [] held.rows) o))
 
     -- those of the base come first
@@ -754,16 +754,16 @@ module _ (m : Machine) (sound : IsSound m) where
     line_below zero i r low here = absurd (omega arith)
     line_below (suc n) i r low here = subst (AreInLine i r) (sym (states_over i r here)) (by_base r.base refl (λ b base lower there. line_below n b base lower there))
       where
-        own : List FileState
+        own : List RowFile
         own = map state_of (files_in i held)
 
         own_listed : AllByRecursion (IsListedPiece m.rule i r) own
         own_listed = row_listed tells at m held has holds gran heads told stands i r here
 
-        own_rows : AllByRecursion (λ (f : FileState). f.row ≡ i) own
+        own_rows : AllByRecursion (λ (f : RowFile). f.row ≡ i) own
         own_rows = of_all (IsListedPiece m.rule i r) (λ f. f.row ≡ i) own (λ f is. is.own) own_listed
 
-        joined : (files : List FileState) → AllByRecursion (IsPieceOf m.rule m.rows i r) files → AllByRecursion (λ (f : FileState). f.row < i) files → InOrder files → AreInLine i r (files ++ own)
+        joined : (files : List RowFile) → AllByRecursion (IsPieceOf m.rule m.rows i r) files → AllByRecursion (λ (f : RowFile). f.row < i) files → InOrder files → AreInLine i r (files ++ own)
         joined files pieces rows order = (
           of_append (IsPieceOf m.rule m.rows i r) files own pieces (of_all (IsListedPiece m.rule i r) (IsPieceOf m.rule m.rows i r) own (own_piece i r here) own_listed),
           order_both files own order (row_ordered tells at m held has holds gran heads told stands i r here) (earlier_rows i files own rows own_rows),
@@ -787,7 +787,7 @@ module _ (m : Machine) (sound : IsSound m) where
         let P = IsPieceOf m.rule m.rows i r in
         let all = line_below (suc i) i r (omega arith) here in
         let parts : map state_of (files_of_line i held) ≡ map state_of closed ++ (map state_of files ++ map state_of behind) =
-        ap (map state_of) split ∙ (map-append state_of closed (files ++ behind) ∙ ap (λ (xs : List FileState). map state_of closed ++ xs) (map-append state_of files behind)) in (
-          all_first P (map state_of files) (map state_of behind) (all_rest P (map state_of closed) (map state_of files ++ map state_of behind) (subst (λ (xs : List FileState). AllByRecursion P xs) parts all.0)),
-          order_first (map state_of files) (map state_of behind) (order_rest (map state_of closed) (map state_of files ++ map state_of behind) (subst (λ (xs : List FileState). InOrder xs) parts all.1)),
+        ap (map state_of) split ∙ (map-append state_of closed (files ++ behind) ∙ ap (λ (xs : List RowFile). map state_of closed ++ xs) (map-append state_of files behind)) in (
+          all_first P (map state_of files) (map state_of behind) (all_rest P (map state_of closed) (map state_of files ++ map state_of behind) (subst (λ (xs : List RowFile). AllByRecursion P xs) parts all.0)),
+          order_first (map state_of files) (map state_of behind) (order_rest (map state_of closed) (map state_of files ++ map state_of behind) (subst (λ (xs : List RowFile). InOrder xs) parts all.1)),
         )

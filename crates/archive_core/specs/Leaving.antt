@@ -4,7 +4,7 @@ use Rattle.std.specs.FinMap.{get}
 use Rattle.std.specs.Prelude.{◌≡◌, ◌≤◌, ℕ, ◌+◌, ◌-◌, Bool, List, [], All, Contains, length, take, IsTrue, Some, slice_get}
 use Rattle.disk_model.specs.Files.{Name, HasFile}
 use Rattle.disk_model.specs.Past.{Passes}
-use Rattle.etl_mover.specs.Move.{MoveState as Moving}
+use Rattle.etl_mover.specs.Move.{Moving}
 use Rattle.pins.specs.Pieces.{PinOf}
 use Rattle.pins.specs.declared.piece.PinnedFile.{PinnedFile}
 use Rattle.pv_catalog.specs.Lines.{line}
@@ -20,7 +20,7 @@ use Rattle.tier_store.specs.Pinning.{piece_of}
 use Rattle.tier_store.specs.Seen.{Seen, IsSettled}
 use Rattle.act_model.specs.History.{Entry}
 use Rattle.act_model.specs.Machine.{Machine}
-use Rattle.act_model.specs.Reply.{Reply, Opened}
+use Rattle.act_model.specs.Reply.{Reply, OpenedFile}
 use Rattle.act_model.specs.Step.{refuse_by, change_by}
 use Rattle.act_model.specs.declared.acts.Act.{Act}
 use Rattle.act_model.specs.declared.acts.Act.TheVariants.{Register, Pause, Resume, Rename, Flush, MoveStep, Sweep, Pin, OpenPiece}
@@ -82,7 +82,7 @@ pub record PinsFiles (p : Parts) (name : List ℕ) (pin : ℕ) (q : Parts) : Typ
   pub same_lists : IsSettled p.at → (q.at.catalogue ≡ p.at.catalogue) × (q.at.manifests ≡ p.at.manifests)
 
 -- A piece of a pin was opened: it has the name and the length that were pinned, and its reader tells just so many first bytes of the file.
-pub record OpensFile (tells : Bool) (p : Parts) (pin i : ℕ) (reader : Opened) (name : Name) (len : ℕ) : Type 0 where
+pub record OpensFile (tells : Bool) (p : Parts) (pin i : ℕ) (reader : OpenedFile) (name : Name) (len : ℕ) : Type 0 where
   pub own : PinOf
   pub there : get p.pinned pin ≡ Some own
   pub piece : PinnedFile

@@ -15,22 +15,22 @@ use Rattle.tier_store.specs.Limbo.{LimboStands, IsListedName}
 use Rattle.tier_store.specs.Pinned.{SeenAll, Shows}
 use Rattle.tier_store.specs.Seen.{granularities}
 use Rattle.tier_store.specs.declared.limbo.Retired.{Retired}
-use Rattle.act_model.specs.Limbo.{FileState}
+use Rattle.act_model.specs.Limbo.{RowFile}
 use Rattle.act_model.specs.OpenPiece.{bytes_of, name_of}
 use Rattle.act_model.specs.Rows.{RowState, Store, tier}
 use Rattle.act_model.specs.Rule.{index_of}
 
 -- a file of the machine as a store lists it
-abbrev pub filed_of : Entry → FileState → Filed
+abbrev pub filed_of : Entry → RowFile → Filed
 filed_of e f = record { entry = e; head = f.head; samples = f.samples }
 
 -- a file that a store lists of a row, as one of the machine
-abbrev pub row_file : ℕ → Store → Filed → FileState
+abbrev pub row_file : ℕ → Store → Filed → RowFile
 row_file i store f = record { row = i; store = store; part = f.entry.part; head = f.head; samples = f.samples }
 
 -- A retired file is a file of the machine: it has the name and the partition of that, it was listed with just its header and its samples, and
 -- it shows these.
-pub record IsRetiredOf (tells : Bool) (all : SeenAll) (rows : List RowState) (f : FileState) (file : Retired) : Type 0 where
+pub record IsRetiredOf (tells : Bool) (all : SeenAll) (rows : List RowState) (f : RowFile) (file : Retired) : Type 0 where
   pub row : RowState
   pub here : slice_get rows f.row ≡ Some row
   pub named : file.name ≡ name_of row f
@@ -42,25 +42,25 @@ pub record IsRetiredOf (tells : Bool) (all : SeenAll) (rows : List RowState) (f 
   pub shows : Shows tells all file.name (bytes_of f)
 
 -- a file of the machine has its retired file
-pub record HasRetired (tells : Bool) (all : SeenAll) (rows : List RowState) (f : FileState) : Type 0 where
+pub record HasRetired (tells : Bool) (all : SeenAll) (rows : List RowState) (f : RowFile) : Type 0 where
   pub file : Retired
   pub within : Contains all.limbo file
   pub is : IsRetiredOf tells all rows f file
 
 -- a retired file is one of these files of the machine
-pub record IsOneOf (tells : Bool) (all : SeenAll) (rows : List RowState) (files : List FileState) (file : Retired) : Type 0 where
-  pub f : FileState
+pub record IsOneOf (tells : Bool) (all : SeenAll) (rows : List RowState) (files : List RowFile) (file : Retired) : Type 0 where
+  pub f : RowFile
   pub within : Contains files f
   pub is : IsRetiredOf tells all rows f file
 
 -- each of these files of the machine has its retired file, and each retired file that no store lists is one of them
-pub record AreRetired (tells : Bool) (all : SeenAll) (rows : List RowState) (files : List FileState) : Type 0 where
-  pub each : (f : FileState) → Contains files f → HasRetired tells all rows f
+pub record AreRetired (tells : Bool) (all : SeenAll) (rows : List RowState) (files : List RowFile) : Type 0 where
+  pub each : (f : RowFile) → Contains files f → HasRetired tells all rows f
   pub others : (file : Retired) → Contains all.limbo file → (IsListedName all.stores file.name → ⊥) → IsOneOf tells all rows files file
 
 -- the stores list none of these files
-abbrev pub AreUnlisted : SeenAll → List RowState → List FileState → Type 0
-AreUnlisted all rows files = (f : FileState) (row : RowState) → Contains files f → slice_get rows f.row ≡ Some row → IsListedName all.stores (name_of row f) → ⊥
+abbrev pub AreUnlisted : SeenAll → List RowState → List RowFile → Type 0
+AreUnlisted all rows files = (f : RowFile) (row : RowState) → Contains files f → slice_get rows f.row ≡ Some row → IsListedName all.stores (name_of row f) → ⊥
 
 -- no two of these have one name
 abbrev pub NamesDiffer : {A : Type 0} → (A → Name) → List A → Type 0
@@ -72,7 +72,7 @@ abbrev pub AreBare : List RowState → Type 0
 AreBare rows = (i : ℕ) (row : RowState) (store : Store) → slice_get rows i ≡ Some row → tier row store ≡ []
 
 -- The stores' limbo is the machine's.
-pub record IsLimboOf (tells : Bool) (all : SeenAll) (told : Bool) (rows : List RowState) (limbo : List FileState) : Type 0 where
+pub record IsLimboOf (tells : Bool) (all : SeenAll) (told : Bool) (rows : List RowState) (limbo : List RowFile) : Type 0 where
   pub stands : LimboStands all.stores all.limbo
   pub differ : NamesDiffer (λ (file : Retired). file.name) all.limbo
   pub retired : told ≡ true → AreRetired tells all rows limbo

@@ -9,7 +9,7 @@ use Rattle.std.specs.FinMap.{FinMap, get}
 use Rattle.std.specs.List.{AllByRecursion, list_any}
 use Rattle.std.specs.Ordering.{nat_cmp}
 use Rattle.std.specs.Prelude.{◌≡◌, ◌≢◌, ◌≤◌, ◌+◌, ℕ, List, [], ◌∷◌, ◌++◌, Bool, true, Option, Some, None, length, slice_get}
-use Rattle.etl_mover.specs.Move.{MoveState as Moving, IsCopied}
+use Rattle.etl_mover.specs.Move.{Moving, IsCopied}
 use Rattle.etl_mover.specs.declared.moving.Stage.TheVariants.{Published}
 use Rattle.pb_lines.specs.File.{lines_of}
 use Rattle.moves.specs.Table.{at}
@@ -24,7 +24,7 @@ use Rattle.tier_store.specs.Moving.{RunsBeside}
 use Rattle.tier_store.specs.Pinned.{SeenAll}
 use Rattle.tier_store.specs.Retiring.{oldest}
 use Rattle.tier_store.specs.Stores.{Stores, list_at}
-use Rattle.act_model.specs.Limbo.{FileState, files_of, put}
+use Rattle.act_model.specs.Limbo.{RowFile, files_of, put}
 use Rattle.act_model.specs.Machine.{MoveState, Stage, Copies, HasCopied, HasPublished}
 use Rattle.act_model.specs.Rows.{RowState, Long, next_store, tier, holds}
 use Rattle.act_model.specs.Rule.{index_of}
@@ -79,7 +79,7 @@ IsAtStage from to tells all told files before moving HasPublished = HasListed fr
 -- WHAT IT HAS WRITTEN
 
 -- With its files the row has in the destination what the machine has there with the copied samples.
-abbrev pub HasCopies : Stores → List FileState → RowState → MoveState → List Filed → Type 0
+abbrev pub HasCopies : Stores → List RowFile → RowState → MoveState → List Filed → Type 0
 HasCopies before limbo row move files =
     samples_of move.row (put_all (list_at (index_of (next_store move.store)) before) files) ≡ put move.copied (files_of move.row (next_store move.store) limbo) (tier row (next_store move.store))
 
@@ -96,7 +96,7 @@ pub record GoInto (listed : List Filed) (copied : List Sample) (files : List Fil
 -- THE MOVES
 
 -- A running move of the stores is one of the machine, of the same row, out of the same store, of as many parts, which end at the same moment.
-pub record IsMoveOf (tells : Bool) (all : SeenAll) (told : Bool) (rows : List RowState) (limbo : List FileState) (before : Stores) (move : MoveState) (running : Running Moving) : Type 0 where
+pub record IsMoveOf (tells : Bool) (all : SeenAll) (told : Bool) (rows : List RowState) (limbo : List RowFile) (before : Stores) (move : MoveState) (running : Running Moving) : Type 0 where
   pub series : running.series ≡ move.row
   pub own : running.moving.series ≡ move.row
   pub store : running.store ≡ index_of move.store + 1
@@ -110,12 +110,12 @@ pub record IsMoveOf (tells : Bool) (all : SeenAll) (told : Bool) (rows : List Ro
   pub into : told ≡ true → GoInto (list_at (index_of (next_store move.store)) before) move.copied files
 
 -- the move of this number is one that runs
-pub record HasMoveOf (tells : Bool) (all : SeenAll) (told : Bool) (rows : List RowState) (limbo : List FileState) (before : Stores) (slots : List (Option (Running Moving))) (n : ℕ) (move : MoveState) : Type 0 where
+pub record HasMoveOf (tells : Bool) (all : SeenAll) (told : Bool) (rows : List RowState) (limbo : List RowFile) (before : Stores) (slots : List (Option (Running Moving))) (n : ℕ) (move : MoveState) : Type 0 where
   pub running : Running Moving
   pub there : at slots n ≡ Some running
   pub is : IsMoveOf tells all told rows limbo before move running
 
 -- The archive's moves are the machine's, each under its number.
-pub record AreMovesOf (tells : Bool) (all : SeenAll) (told : Bool) (rows : List RowState) (limbo : List FileState) (before : Stores) (moves : FinMap nat_cmp MoveState) (slots : List (Option (Running Moving))) : Type 0 where
+pub record AreMovesOf (tells : Bool) (all : SeenAll) (told : Bool) (rows : List RowState) (limbo : List RowFile) (before : Stores) (moves : FinMap nat_cmp MoveState) (slots : List (Option (Running Moving))) : Type 0 where
   pub none : (n : ℕ) → get moves n ≡ None → at slots n ≡ None
   pub each : (n : ℕ) (move : MoveState) → get moves n ≡ Some move → HasMoveOf tells all told rows limbo before slots n move

@@ -7,7 +7,7 @@ use Rattle.disk_model.specs.declared.disk.Disk.{Ghosts}
 use Rattle.intake.specs.Tails.{TailState}
 use Rattle.etl_rules.specs.Config.{ConfigState}
 use Rattle.pins.specs.Pieces.{PinOf}
-use Rattle.etl_mover.specs.Move.{MoveState as Moving}
+use Rattle.etl_mover.specs.Move.{Moving}
 use Rattle.moves.specs.declared.table.Running.{Running}
 use Rattle.tier_store.specs.Seen.{Seen, seen}
 use Rattle.tier_store.specs.declared.limbo.Retired.{Retired}

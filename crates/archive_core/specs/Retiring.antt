@@ -13,7 +13,7 @@ use Rattle.tier_store.specs.Pinned.{SeenAll}
 use Rattle.tier_store.specs.Retiring.{oldest, without_oldest}
 use Rattle.tier_store.specs.Stores.{Stores}
 use Rattle.act_model.specs.Changes.{Retires, made}
-use Rattle.act_model.specs.Limbo.{FileState}
+use Rattle.act_model.specs.Limbo.{RowFile}
 use Rattle.act_model.specs.Machine.{Machine, MoveState, Unlists}
 use Rattle.act_model.specs.Rows.{RowState, Store}
 use Rattle.act_model.specs.Rule.{index_of}
@@ -48,13 +48,13 @@ AreOfOthers i moves = (n : ℕ) (move : MoveState) → get moves n ≡ Some move
 
 -- The files of the machine that come to its limbo with a retirement, which is then the stores'. Each of them is named by a pin.
 pub record LimboRetires (tells : Bool) (all : SeenAll) (m : Machine) (i : ℕ) (store : Store) (to : ℕ) : Type 0 where
-  pub into : List FileState
+  pub into : List RowFile
   pub retires : Retires m (Unlists i store to) into
   pub pinned : m.told ≡ true → AllByRecursion (IsPinned m) into
   pub limbo : IsLimboOf tells all m.told (made into (Unlists i store to) m).rows (made into (Unlists i store to) m).limbo
 
 -- Those that come to it as the doubt is settled as made, and limbo then.
 pub record SettlesRetired (tells : Bool) (all : SeenAll) (m : Machine) (i : ℕ) (store : Store) (to : ℕ) : Type 0 where
-  pub into : List FileState
+  pub into : List RowFile
   pub retires : Retires m (Unlists i store to) into
   pub limbo : IsLimboOf tells all m.told (made into (Unlists i store to) m).rows (made into (Unlists i store to) m).limbo

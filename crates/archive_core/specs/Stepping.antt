@@ -3,7 +3,7 @@ use Rattle.std.specs.FinMap.{get}
 use Rattle.std.specs.Prelude.{◌≡◌, ◌⊎◌, ◌≤◌, ◌==◌, ℕ, List, [], Bool, true, Option, Some, None, IsTrue, if◌then◌else◌}
 use Rattle.disk_model.specs.Files.{Files, Rose}
 use Rattle.disk_model.specs.Past.{Passes}
-use Rattle.etl_mover.specs.Move.{MoveState}
+use Rattle.etl_mover.specs.Move.{Moving}
 use Rattle.partition_names.specs.declared.granularity.Granularity.{Granularity}
 use Rattle.moves.specs.Table.{at}
 use Rattle.moves.specs.declared.table.Running.{Running}
@@ -22,12 +22,12 @@ use Rattle.archive_core.specs.Stands.{Stands, Rests}
 use Rattle.archive_core.specs.Strays.{IsWell, Tidies}
 
 -- the move of this number was taken out of the table
-pub record TakesMove (n : ℕ) (running : Running MoveState) (slots left : List (Option (Running MoveState))) : Type 0 where
+pub record TakesMove (n : ℕ) (running : Running Moving) (slots left : List (Option (Running Moving))) : Type 0 where
   pub ran : at slots n ≡ Some running
   pub others : (k : ℕ) → at left k ≡ (if k == n then None else at slots k)
 
 -- the archive with this table
-abbrev pub with_slots : List (Option (Running MoveState)) → Parts → Parts
+abbrev pub with_slots : List (Option (Running Moving)) → Parts → Parts
 with_slots slots p = record p { slots = slots }
 
 -- How the step ends where nothing stands in doubt: memory was wanting, and the move runs as it did; the disk failed, and the move has ended,
@@ -55,9 +55,9 @@ pub record StepsOn (tells : Bool) (n : ℕ) (old : Parts) (m : Machine) (new : P
   pub tidy : IsWell reply → Tidies tells old new
 
 -- so it does from whatever the archive stood for before the move was taken out
-abbrev pub GoesOnWith : Bool → ℕ → Running MoveState → Parts → Parts → Reply → Type 0
-GoesOnWith tells n running old new reply = (slots : List (Option (Running MoveState))) (m : Machine) → TakesMove n running slots old.slots → Rests tells (with_slots slots old) m → StepsOn tells n (with_slots slots old) m new reply
+abbrev pub GoesOnWith : Bool → ℕ → Running Moving → Parts → Parts → Reply → Type 0
+GoesOnWith tells n running old new reply = (slots : List (Option (Running Moving))) (m : Machine) → TakesMove n running slots old.slots → Rests tells (with_slots slots old) m → StepsOn tells n (with_slots slots old) m new reply
 
 -- it stood for something then
-abbrev pub HasTaken : Bool → ℕ → Running MoveState → Parts → Type 0
-HasTaken tells n running old = (slots : List (Option (Running MoveState))) × (m : Machine) × TakesMove n running slots old.slots × Rests tells (with_slots slots old) m
+abbrev pub HasTaken : Bool → ℕ → Running Moving → Parts → Type 0
+HasTaken tells n running old = (slots : List (Option (Running Moving))) × (m : Machine) × TakesMove n running slots old.slots × Rests tells (with_slots slots old) m

@@ -1,7 +1,7 @@
 -- Strays of an archive: files of stores 1 to 3 that no list, no limbo and no running move knows. No act makes one that goes well.
 use Rattle.std.specs.Prelude.{◌≡◌, ℕ, Bool, List, [], Option, Some, Contains, IsTrue}
 use Rattle.disk_model.specs.Files.{Name}
-use Rattle.etl_mover.specs.Move.{MoveState as Moving}
+use Rattle.etl_mover.specs.Move.{Moving}
 use Rattle.etl_mover.specs.declared.moving.Stage.TheVariants.{Copying}
 use Rattle.moves.specs.Table.{at as move_at}
 use Rattle.moves.specs.declared.table.Running.{Running}

@@ -6,7 +6,7 @@ use Rattle.pv_catalog.specs.Catalogue.{HasState}
 use Rattle.pv_catalog.specs.Rows.{HasName}
 use Rattle.pv_catalog.specs.declared.error.StateErr.{StateErr}
 use Rattle.pv_catalog.specs.declared.row.Row.{Row}
-use Rattle.tier_store.specs.Change.{Call, pausing, resuming}
+use Rattle.tier_store.specs.Change.{StoreCall, pausing, resuming}
 use Rattle.act_model.specs.declared.acts.Act.{Act}
 use Rattle.act_model.specs.declared.acts.Act.TheVariants.{Pause as PauseAct, Resume as ResumeAct}
 use Rattle.act_model.specs.declared.acts.Answer.TheVariants as answer
@@ -37,7 +37,7 @@ abbrev pub act_of : Switch → List ℕ → Act
 act_of Pause name = PauseAct name
 act_of Resume name = ResumeAct name
 
-abbrev pub switching : Switch → ℕ → Call (Unit {0}) StateErr
+abbrev pub switching : Switch → ℕ → StoreCall (Unit {0}) StateErr
 switching Pause row = pausing row
 switching Resume row = resuming row
 

@@ -1,7 +1,7 @@
 -- A move that is taken out of the table for its next step, and the machine once what it has copied is listed.
 use Rattle.std.specs.FinMap.{get}
 use Rattle.std.specs.Prelude.{◌≡◌, ℕ, [], Bool, Some}
-use Rattle.etl_mover.specs.Move.{MoveState as Moving}
+use Rattle.etl_mover.specs.Move.{Moving}
 use Rattle.moves.specs.declared.table.Running.{Running}
 use Rattle.tier_store.specs.Pinned.{beside}
 use Rattle.act_model.specs.Changes.{made}

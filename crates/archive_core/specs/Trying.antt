@@ -11,12 +11,12 @@ use Rattle.act_model.specs.declared.answers.Offered.TheVariants as offer
 use Rattle.act_model.specs.declared.answers.Ticked.{Ticked as TickAnswer}
 use Rattle.act_model.specs.declared.answers.Ticked.TheVariants as answer
 use Rattle.archive_core.specs.declared.memory.RowMemory.{RowMemory}
-use Rattle.archive_core.specs.declared.trying.Refusal.{Refusal}
-use Rattle.archive_core.specs.declared.trying.Refusal.TheVariants as refusal
+use Rattle.archive_core.specs.declared.trying.NotKept.{NotKept}
+use Rattle.archive_core.specs.declared.trying.NotKept.TheVariants as refusal
 
 -- So it ends, of a row that takes samples from `next` on, where `held` bytes are held: for a sample at `t` whose line has `len` bytes. Memory is
 -- wanting only where no reason speaks against the sample and there is room for it.
-abbrev pub IsTried : ℕ → ℕ → ℕ → ℕ → ℕ → Result (Unit {0}) Refusal → Type 0
+abbrev pub IsTried : ℕ → ℕ → ℕ → ℕ → ℕ → Result (Unit {0}) NotKept → Type 0
 IsTried next held t len now (Ok a) = (refused_by_time next t now ≡ None) × (held + (len + 1) ≤ intake_room)
 IsTried next held t len now (Err (refusal.Dropped reason)) = refused_by_time next t now ≡ Some reason
 IsTried next held t len now (Err (refusal.IntakeFull bytes)) = (refused_by_time next t now ≡ None) × (intake_room < held + (len + 1)) × (bytes ≡ held)

@@ -4,7 +4,7 @@ use Rattle.std.specs.Prelude.{◌≡◌, ℕ, List, Option, Some, None, slice_ge
 use Rattle.pb_wire.specs.declared.payload.PayloadType.{PayloadType}
 use Rattle.series_model.specs.declared.sample.Sample.{Sample}
 use Rattle.act_model.specs.Changes.{Settles}
-use Rattle.act_model.specs.Limbo.{FileState}
+use Rattle.act_model.specs.Limbo.{RowFile}
 use Rattle.act_model.specs.Machine.{Machine, PinState}
 use Rattle.act_model.specs.Offer.{offered}
 use Rattle.act_model.specs.Outcome.{Same}
@@ -35,7 +35,7 @@ pub record OwnsPiece (who pin i : ℕ) (m n : Machine) : Type 0 where
   pub state : PinState
   pub there : get m.pins pin ≡ Some state
   pub owner : state.owner ≡ who
-  pub piece : FileState
+  pub piece : RowFile
   pub here : slice_get state.pieces i ≡ Some piece
 
 -- So it was wanting for an act of this number. Nothing refuses the others.

@@ -2,7 +2,7 @@
 use Rattle.std.specs.Prelude.{◌≡◌, ◌+◌, ◌<◌, ◌≤◌, ℕ, List, [], All, Contains, Option, None, Some, length, map}
 use Rattle.disk_model.specs.Files.{Name}
 use Rattle.pv_catalog.specs.declared.row.Row.{Row}
-use Rattle.etl_mover.specs.Move.{MoveState as Moving}
+use Rattle.etl_mover.specs.Move.{Moving}
 use Rattle.moves.specs.Table.{at}
 use Rattle.moves.specs.declared.table.Running.{Running}
 use Rattle.store_manifest.specs.declared.entry.Entry.{Entry}

@@ -6,7 +6,7 @@ ghost use Rattle.std.specs.Ordering.{nat_cmp};
 ghost use Rattle.intake.specs.Tails.{TailState};
 ghost use Rattle.disk_model.specs.Files.{Files};
 ghost use Rattle.disk_model.specs.Past.{MayLeave};
-ghost use Rattle.etl_mover.specs.Move.{MoveState};
+ghost use Rattle.etl_mover.specs.Move.{Moving};
 ghost use Rattle.etl_rules.specs.Config.{ConfigState};
 ghost use Rattle.pb_messages.specs.declared.about.About.{About};
 ghost use Rattle.pb_messages.specs.declared.about.State.{State};
@@ -38,7 +38,7 @@ ghost use Rattle.act_model.specs.declared.acts.Act.{Act};
 ghost use Rattle.act_model.specs.declared.acts.Answer.{Answer};
 ghost use Rattle.archive_actors.specs.Steps.{SharedStep, all_kept};
 ghost use Rattle.archive_actors.specs.declared.shared.Shared.{Shared};
-ghost use Rattle.turn_rooms.specs.declared.room.Entry.{Entry as RoomEntry};
+ghost use Rattle.turn_rooms.specs.declared.room.RoomEntry.{RoomEntry};
 ghost use Rattle.turn_rooms.specs.Histories.{Legal, end_of};
 ghost use Rattle.act_model.specs.MoveBegin.{parts_of};
 ghost use Rattle.act_model.specs.Parts.{AreParts};
@@ -67,7 +67,7 @@ use disk_model::Disk;
 pub fn a_crash_leaves_what_is_durable<D: Disk>()
     ensures { (disk : D) (catalogue : CatalogueState) (ms : List ManifestState) (limbo : List Retired)
         (pinned : FinMap nat_cmp PinOf) (tails : List TailState) (kept : List RowMemory) (doubt : Option Doubt)
-        (doors : ℕ) (config : ConfigState) (slots : List (Option (Running MoveState))) (m : Machine) (image : Files)
+        (doors : ℕ) (config : ConfigState) (slots : List (Option (Running Moving))) (m : Machine) (image : Files)
         → IsTrue D.tells → Stands D.tells (record {
           at = seen_by D.Disk catalogue ms disk;
           limbo = limbo;

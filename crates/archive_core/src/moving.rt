@@ -20,6 +20,7 @@ use act_model::Answer;
 use disk_model::{Disk, DiskErr};
 use etl_rules::Config;
 use moves::{MoveRule, Running};
+use tier_store::StoreMove;
 
 // When partitions of store 1 or 2 move on, at a moment.
 fn rule_at(config: &Config, store: u8, now: u64) -> MoveRule
@@ -66,7 +67,7 @@ impl<D: Disk> StoreHalf<D> {
             .store
             .begin_move(usize::from(store) - 1, &rule, &running)?;
         match begun {
-            tier_store::MoveBegun::Begun { row, parts, moving } => {
+            StoreMove::Begun { row, parts, moving } => {
                 let m = self.moves.begin(Running {
                     series: row,
                     store,
@@ -74,8 +75,8 @@ impl<D: Disk> StoreHalf<D> {
                 })?;
                 Ok(Answer::Begun { m, row, parts })
             }
-            tier_store::MoveBegun::Running { number } => Ok(Answer::Busy { m: number }),
-            tier_store::MoveBegun::Nothing => Ok(Answer::Nothing { doors }),
+            StoreMove::Running { number } => Ok(Answer::Busy { m: number }),
+            StoreMove::Nothing => Ok(Answer::Nothing { doors }),
         }
     }
 }

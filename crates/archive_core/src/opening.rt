@@ -130,6 +130,7 @@ impl<D: Disk> Archive<D> {
     pub fn into_store(self) -> TierStore<D>
         ensures { result ≡ self.half.store }
     {
-        self.half.store
+        let half = self.half;
+        half.store
     }
 }

@@ -4,7 +4,7 @@ ghost use Rattle.intake.specs.Tails.{tail_at};
 ghost use Rattle.pv_catalog.specs.Rows.{HasName};
 ghost use Rattle.tier_store.specs.Opening.{answer_of};
 ghost use Rattle.act_model.specs.Machine.{Machine};
-ghost use Rattle.act_model.specs.Pin.{Pins};
+ghost use Rattle.act_model.specs.Pin.{MakesPin};
 ghost use Rattle.act_model.specs.Reply.{reply_of};
 ghost use Rattle.act_model.specs.declared.acts.Act.TheVariants.{OpenPiece as OpenPieceAct, Pin as PinAct};
 ghost use Rattle.act_model.specs.declared.acts.Act.TheVariants.{Unpin as UnpinAct};
@@ -25,7 +25,7 @@ impl<D: Disk> StoreHalf<D> {
     fn pin(&mut self, who: u64, name: &[u8], query: Query, tail: Samples) -> Answer<D::Reader>
         requires rests { (w : InMemory) × (m : Machine) × Rests D.tells (parts_beside D.Disk self.old w) m }
         ensures asked { (w : InMemory) (row : ℕ) → HasName self.old.store.catalogue.rows row name.now
-            → tail ≡ (tail_at w.tails row).samples → Asked D.tells (Pins who name.now query)
+            → tail ≡ (tail_at w.tails row).samples → Asked D.tells (MakesPin who name.now query)
             (parts_beside D.Disk self.old w) (reply_of D.Reader.tells D.Reader.bytes D.Reader.faults result)
             (parts_beside D.Disk self.new w) }
         ensures made { (w : InMemory) → LeavesPins D.tells (parts_beside D.Disk self.old w) (PinAct name.now query)

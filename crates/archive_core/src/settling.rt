@@ -62,12 +62,13 @@ fn clear_set(rows: &[Row], kept: &mut Vec<RowMemory>, doubt: &Option<Doubt>)
 }
 
 impl<D: Disk> StoreHalf<D> {
-    // Finds out whether the change that stands in doubt was made, and gives back what was kept of it: memory takes it in
-    // where it was. It changes no file but those of a journal, and makes no call of the disk where nothing stands in
-    // doubt. After an error the doubt stands as before.
+    // Finds out whether the change that stands in doubt was made, and gives back what was kept of it: memory takes it
+    // in where it was. It changes no file but those of a journal, and makes no call of the disk where nothing stands
+    // in doubt. After an error the doubt stands as before.
     fn settle(&mut self) -> Result<Option<Doubt>, DiskErr>
         requires stands { (w : InMemory) × (m : Machine) × Stands D.tells (parts_beside D.Disk self.old w) m }
-        ensures settled { IfOk result (λ doubt. (w after : InMemory) → TakesIn (seen D.Disk self.new.store) doubt w after
+        ensures settled { IfOk result (λ doubt. (w after : InMemory)
+            → TakesIn (seen D.Disk self.new.store) doubt w after
             → SettlesTo D.tells (parts_beside D.Disk self.old w) (parts_beside D.Disk self.new after)) }
         ensures given { IfOk result (λ doubt. doubt ≡ self.old.doubt) }
         ensures three { OnOk result (length self.new.store.manifests.items ≡ 3) }

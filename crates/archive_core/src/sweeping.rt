@@ -15,15 +15,15 @@ use crate::written::written_names;
 use act_model::Answer;
 use disk_model::{Disk, DiskErr, FileName, ReadAt};
 use std::alloc::AllocError;
-use tier_store::Swept;
+use tier_store::StoreSwept;
 
 // What is answered after the stores' sweep.
-fn swept<R: ReadAt>(done: Result<Swept, DiskErr>) -> Answer<R>
+fn swept<R: ReadAt>(done: Result<StoreSwept, DiskErr>) -> Answer<R>
     ensures { reply_of R.tells R.bytes R.faults result ≡ sweep_reply done }
 {
     match done {
         Ok(
-            Swept {
+            StoreSwept {
                 files,
                 removed: Ok(()),
             },
@@ -50,7 +50,7 @@ impl<D: Disk> StoreHalf<D> {
 
 impl<D: Disk> Archive<D> {
     // Sweeps the stores, but for the files that running moves have written to.
-    fn sweep_stores(&mut self) -> Result<Swept, DiskErr>
+    fn sweep_stores(&mut self) -> Result<StoreSwept, DiskErr>
         requires stands { (m : Machine) × Stands D.tells (parts D.Disk self.old) m }
         ensures { (who : ℕ)
             → Acted D.tells who SweepAct (parts D.Disk self.old) (sweep_reply result) (parts D.Disk self.new) }

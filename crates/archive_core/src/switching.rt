@@ -124,8 +124,8 @@ fn set<R: ReadAt>(switch: Switch, done: Result<(), Unset>) -> Answer<R>
 }
 
 impl<D: Disk> StoreHalf<D> {
-    // Sets the state of a row, where it may be set and nothing stands in doubt. What is kept of the row is to be cleared
-    // where it was set.
+    // Sets the state of a row, where it may be set and nothing stands in doubt. What is kept of the row is to be
+    // cleared where it was set.
     fn switch(&mut self, row: u32, switch: Switch) -> Result<(), DiskErr>
         requires rests { (w : InMemory) × (m : Machine) × Rests D.tells (parts_beside D.Disk self.old w) m }
         requires state { HasState self.old.store.catalogue.rows row (from_of switch) }

@@ -20,7 +20,7 @@ use series_model::{Reason, Sample, Standing, refused_by_row, refused_by_time};
 
 /// Why a sample isn't accepted.
 #[derive(Drop)]
-pub enum Refusal {
+pub enum NotKept {
     /// For this reason.
     Dropped(Reason),
     /// The intake holds so many bytes.
@@ -58,22 +58,22 @@ pub(crate) fn examine(
     next: u64,
     sample: &Sample,
     now: u64,
-) -> Result<(), Refusal>
+) -> Result<(), NotKept>
     ensures tried { IsTried next (held_bytes intake.old) sample.now.t (length sample.now.line) now result }
     ensures spare { OnOk result (1 ≤ (tail_at intake.new row).spare) }
     ensures tails { KeepsTails intake.old intake.new }
     ensures held { held_bytes intake.new ≡ held_bytes intake.old }
 {
     if let Some(reason) = refused_by_time(next, sample.t, now) {
-        return Err(Refusal::Dropped(reason));
+        return Err(NotKept::Dropped(reason));
     }
     let held = intake.held();
     if sample.line.bytes().len() as u64 >= INTAKE_ROOM - held {
-        return Err(Refusal::IntakeFull { held });
+        return Err(NotKept::IntakeFull { held });
     }
     match intake.reserve(row, 1) {
         Ok(()) => Ok(()),
-        Err(_) => Err(Refusal::Memory),
+        Err(_) => Err(NotKept::Memory),
     }
 }
 
@@ -96,7 +96,7 @@ pub(crate) fn try_sample(
     row: u32,
     sample: Sample,
     now: u64,
-) -> Result<(), Refusal>
+) -> Result<(), NotKept>
     requires time { sample.t < u64.MAX }
     ensures tried { IsTried memory.old.next (held_bytes intake.old) sample.t (length sample.line) now result }
     ensures kept { OnOk result (SetsTail row ((tail_at intake.old row).samples ++ sample ∷ []) intake.old intake.new
@@ -126,9 +126,9 @@ pub(crate) fn offer_row(
     }
     match try_sample(intake, memory, row, sample, now) {
         Ok(()) => Offered::Kept,
-        Err(Refusal::Dropped(reason)) => Offered::Dropped(reason),
-        Err(Refusal::IntakeFull { held }) => Offered::IntakeFull { held },
-        Err(Refusal::Memory) => Offered::Memory,
+        Err(NotKept::Dropped(reason)) => Offered::Dropped(reason),
+        Err(NotKept::IntakeFull { held }) => Offered::IntakeFull { held },
+        Err(NotKept::Memory) => Offered::Memory,
     }
 }
 
@@ -138,7 +138,7 @@ fn examine_held(
     memory: &RowMemory,
     row: u32,
     now: u64,
-) -> Option<Result<(), Refusal>>
+) -> Option<Result<(), NotKept>>
     ensures none { result ≡ None → (sampled : SampledRow) → memory.now.scan ≡ Some sampled → sampled.cell.held ≡ None }
     ensures tried { IfSome result (λ r. (sampled : SampledRow) → memory.now.scan ≡ Some sampled
         → (s : SampleValue) × (sampled.cell.held ≡ Some s)
@@ -177,12 +177,12 @@ pub(crate) fn try_held(intake: &mut Intake, memory: &mut RowMemory, row: u32, no
             move_on(memory, now);
             Ticked::TickNone
         }
-        Some(Err(Refusal::Dropped(reason))) => {
+        Some(Err(NotKept::Dropped(reason))) => {
             move_on(memory, now);
             Ticked::Dropped(reason)
         }
-        Some(Err(Refusal::IntakeFull { held })) => Ticked::IntakeFull { held },
-        Some(Err(Refusal::Memory)) => Ticked::Memory,
+        Some(Err(NotKept::IntakeFull { held })) => Ticked::IntakeFull { held },
+        Some(Err(NotKept::Memory)) => Ticked::Memory,
         Some(Ok(())) => match move_on(memory, now) {
             Some(sample) => {
                 let t = sample.t;

@@ -1,6 +1,6 @@
 // The names of the files that running moves have written to, which a sweep spares.
 ghost use Rattle.std.specs.Prelude.{◌≡◌, ◌++◌, ◌<◌, ℕ, map, All, IfOk, OnOk, Some, length};
-ghost use Rattle.etl_mover.specs.Move.{MoveState as Moving};
+ghost use Rattle.etl_mover.specs.Move.{Moving};
 ghost use Rattle.moves.specs.Table.{at};
 ghost use Rattle.moves.specs.declared.table.Running.{Running as RunningValue};
 ghost use Rattle.archive_core.specs.Written.{AreWritten, IsListable, written_name};

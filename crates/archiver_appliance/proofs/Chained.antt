@@ -30,7 +30,7 @@ use Rattle.archive_core.specs.Leaving.{Leaves, LeavesFiles, ReadsAlone, files_of
 use Rattle.archive_core.specs.Parts.{Parts}
 use Rattle.archive_core.proofs.Opened.{reads_none, reads_then}
 use Rattle.feed_session.specs.Asks.{AsksFor, AsksRow, AreMade, asked_again, chunk_behind}
-use Rattle.feed_session.specs.Session.{AreTaken, AsksLast, Session, Taken, acts_of, chunk_after}
+use Rattle.feed_session.specs.Session.{AreTaken, AsksLast, Session, TakenItem, acts_of, chunk_after}
 use Rattle.feed_session.specs.declared.end.Fed.{Fed}
 use Rattle.retrieval_query.specs.Openings.{PieceTold, openings}
 use Rattle.retrieval_query.specs.Retrieving.{given_up}
@@ -95,7 +95,7 @@ item_feeding registers chunk (header info line) moments asked asks = row_feeding
 item_feeding registers chunk (sample x) moments asked asks = subst (AllByRecursion IsFeeding) (sym asks.4) (tt, tt)
 item_feeding registers chunk chunk_end moments asked asks = subst (AllByRecursion IsFeeding) (sym asks.1) tt
 
-taken_feeding : (registers : Bool) (chunk : Option PayloadInfo) (ts : List Taken) → AreTaken registers chunk ts → AllDone IsFeeding (acts_of ts)
+taken_feeding : (registers : Bool) (chunk : Option PayloadInfo) (ts : List TakenItem) → AreTaken registers chunk ts → AllDone IsFeeding (acts_of ts)
 taken_feeding registers chunk [] are = tt
 taken_feeding registers chunk (t ∷ ts) are =
     let one = are.0 in
@@ -107,7 +107,7 @@ last_feeding registers chunk [] moments asked (none, inr is) = subst (AllByRecur
 last_feeding registers chunk (item ∷ []) moments asked asks = item_feeding registers chunk item moments asked asks
 last_feeding registers chunk (item ∷ other ∷ items) moments asked asks = absurd asks
 
-pub session_feeding : (registers : Bool) (end : Fed) (taken : List Taken) (source : Option (List ℕ)) (clock clock' : Option Moments) (done : List Done) → Session registers end taken source clock clock' done → AllDone IsFeeding done
+pub session_feeding : (registers : Bool) (end : Fed) (taken : List TakenItem) (source : Option (List ℕ)) (clock clock' : Option Moments) (done : List Done) → Session registers end taken source clock clock' done → AllDone IsFeeding done
 session_feeding registers end taken source clock clock' done s =
     let last = made_feeding s.asked s.last s.left s.made (last_feeding registers (chunk_after None taken) s.begun s.moments s.asked s.asks) in
     subst (AllDone IsFeeding) (sym s.all) (all_both (λ (d : Done). IsFeeding d.act) (acts_of taken) s.last (taken_feeding registers None taken s.items) last)

@@ -12,7 +12,7 @@ use Rattle.disk_model.specs.declared.disk.Disk.{Ghosts}
 use Rattle.etl_rules.specs.Config.{ConfigState}
 use Rattle.partition_names.specs.declared.granularity.Granularity.{Granularity}
 use Rattle.durable_write.specs.Held.{Filed, IsIn, shelf_of}
-use Rattle.edge_io.specs.Doors.{Both, Listing, ledger_of}
+use Rattle.edge_io.specs.Doors.{Both, ListedLinks, ledger_of}
 use Rattle.drill_feed.specs.Report.{tiers_text}
 use Rattle.drill_feed.specs.Workload.{name_text, now_of}
 use Rattle.tier_store.specs.Change.{Has, IsEither}
@@ -226,7 +226,7 @@ module _ {D R : Type 0} (disk : Ghosts D R) (old : D) where
 
   -- WHAT IS SERVED
 
-  module _ (hours : ℕ) (archive left : Archive D R) (began : Bool) (told : AllServed) (posts : List (Post (Listing Both))) (registered : RegisteredOn 4 archive) (Given : Machine → List Entry → Type 0) (leaves : LeavesArchive disk archive 2 Given began told left) (feeds : FeedsLeft hours began told posts) where
+  module _ (hours : ℕ) (archive left : Archive D R) (began : Bool) (told : AllServed) (posts : List (Post (ListedLinks Both))) (registered : RegisteredOn 4 archive) (Given : Machine → List Entry → Type 0) (leaves : LeavesArchive disk archive 2 Given began told left) (feeds : FeedsLeft hours began told posts) where
     -- what one began who found nothing wanting
     clean_began : (b : Bool) → FeedsLeft hours b told posts → IsClean told → b ≡ true
     clean_began true left clean = refl
@@ -302,11 +302,11 @@ module _ {D R : Type 0} (disk : Ghosts D R) (old : D) where
       served_unopened s may tells = let run = leaves.run s.0 s.1 in unopened_given disk left after_it given back is run.after run.stands may tells
 
 -- the posts that were served are those of the feeds
-pub feeds_left : (hours : ℕ) (began : Bool) (told : AllServed) (olds news : List (Post (Listing Both)))
-    → PostsLeft (λ (d : Listing Both). d.closed) (λ (d : Listing Both). d.calls.faults) (λ (d : Listing Both). Some (ledger_of d)) (λ kind (l : Both). IsServed kind (λ (l : Both). Some l.output.written) (λ (l : Both). l.input.calls.faults) (λ (l : Both). l.output.calls.faults) l) began told olds news → olds ≡ feed_posts hours
+pub feeds_left : (hours : ℕ) (began : Bool) (told : AllServed) (olds news : List (Post (ListedLinks Both)))
+    → PostsLeft (λ (d : ListedLinks Both). d.closed) (λ (d : ListedLinks Both). d.calls.faults) (λ (d : ListedLinks Both). Some (ledger_of d)) (λ kind (l : Both). IsServed kind (λ (l : Both). Some l.output.written) (λ (l : Both). l.input.calls.faults) (λ (l : Both). l.output.calls.faults) l) began told olds news → olds ≡ feed_posts hours
     → FeedsLeft hours began told news
 feeds_left hours began told olds news left are =
-    subst (λ (ps : List (Post (Listing Both))). PostsLeft (λ (d : Listing Both). d.closed) (λ (d : Listing Both). d.calls.faults) (λ (d : Listing Both). Some (ledger_of d)) (λ kind (l : Both). IsServed kind (λ (l : Both). Some l.output.written) (λ (l : Both). l.input.calls.faults) (λ (l : Both). l.output.calls.faults) l) began told ps news) are left
+    subst (λ (ps : List (Post (ListedLinks Both))). PostsLeft (λ (d : ListedLinks Both). d.closed) (λ (d : ListedLinks Both). d.calls.faults) (λ (d : ListedLinks Both). Some (ledger_of d)) (λ kind (l : Both). IsServed kind (λ (l : Both). Some l.output.written) (λ (l : Both). l.input.calls.faults) (λ (l : Both). l.output.calls.faults) l) began told ps news) are left
 
 -- what was left holds what is durable of the state that it was left in
 held_left : (config : ConfigState) (end : Machine) (past : Past) (a : OpensAgain config end past) (held : Stores) → IsEither a.before a.after held → HoldsLeft held end

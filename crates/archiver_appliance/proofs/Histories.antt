@@ -20,12 +20,12 @@ use Rattle.http_front.specs.declared.request.WebCall.{WebCall}
 use Rattle.http_front.specs.declared.request.WebCall.TheVariants as call
 use Rattle.admin_commands.specs.declared.end.AdminErr.{AdminErr}
 use Rattle.admin_commands.specs.declared.end.AdminErr.TheVariants as admin
-use Rattle.admin_commands.specs.Next.{Next}
+use Rattle.admin_commands.specs.Next.{NextStep}
 use Rattle.admin_commands.specs.Serving.{Anyhow, AsksMore, IsTold, Proceeds, Serves, spent_reply}
 use Rattle.retrieval_query.specs.declared.retrieved.Retrieved.{Retrieved}
 use Rattle.retrieval_query.specs.declared.retrieved.Retrieved.TheVariants as retrieved
-use Rattle.retrieval_query.specs.declared.variable.PinErr.{PinErr}
-use Rattle.retrieval_query.specs.declared.variable.PinErr.TheVariants as pin_err
+use Rattle.retrieval_query.specs.declared.variable.PinVariableErr.{PinVariableErr}
+use Rattle.retrieval_query.specs.declared.variable.PinVariableErr.TheVariants as pin_err
 use Rattle.retrieval_query.specs.Openings.{PieceTold, openings}
 use Rattle.retrieval_query.specs.Pinning.{FailsToPin, GivesUp}
 use Rattle.retrieval_query.specs.Retrieving.{Ends, IsPinned, ReadsPinned, WritesAnswer, given_up}
@@ -68,7 +68,7 @@ module _ {A R : Type 0} (actor : OfActor A R) (knows : A → Knower) (same : (a 
 
   -- MANAGEMENT
 
-  proceeds_known : (asked : WebCall) (a b : A) (goes_on : Next → Type 0) → Proceeds actor.number actor.between asked a goes_on b → Proceeds acts_under Learns asked (knows a) goes_on (knows b)
+  proceeds_known : (asked : WebCall) (a b : A) (goes_on : NextStep → Type 0) → Proceeds actor.number actor.between asked a goes_on b → Proceeds acts_under Learns asked (knows a) goes_on (knows b)
   proceeds_known asked a b goes_on p = record { done = p.done; made = made_known a b p.done p.made; follows = p.follows; goes = p.goes }
 
   serves_known : (asked : WebCall) (a : A) (end : Result (Unit {0}) AdminErr) (b : A) (w w' : Option (List ℕ)) → Serves actor.number actor.between actor.is_spent asked a end b w w' → Serves acts_under Learns KnowsMost asked (knows a) end (knows b) w w'
@@ -84,7 +84,7 @@ module _ {A R : Type 0} (actor : OfActor A R) (knows : A → Knower) (same : (a 
 
   -- RETRIEVALS
 
-  fails_known : (a : A) (name : List ℕ) (query : Query) (why : PinErr) (b : A) → FailsToPin actor.number actor.between actor.is_spent a name query why b → FailsToPin acts_under Learns KnowsMost (knows a) name query why (knows b)
+  fails_known : (a : A) (name : List ℕ) (query : Query) (why : PinVariableErr) (b : A) → FailsToPin actor.number actor.between actor.is_spent a name query why b → FailsToPin acts_under Learns KnowsMost (knows a) name query why (knows b)
   fails_known a name query pin_err.NoSuchVariable b f = made_known a b _ f
   fails_known a name query pin_err.DiskFault b f = made_known a b _ f
   fails_known a name query pin_err.Spent b f = (made_known a b [] f.0, full b f.1)
@@ -244,7 +244,7 @@ module _ {A R : Type 0} (actor : OfActor A R) (joined : (a b c : A) (xs ys : Lis
   serves_leads asked a (Err admin.Spent) b w w' s = made_leads a b s.0.done s.0.made
   serves_leads asked a (Err admin.Memory) b w w' s = made_leads a b s.0.done s.0.made
 
-  fails_leads : (a : A) (name : List ℕ) (query : Query) (why : PinErr) (b : A) → FailsToPin actor.number actor.between actor.is_spent a name query why b → Leads a b
+  fails_leads : (a : A) (name : List ℕ) (query : Query) (why : PinVariableErr) (b : A) → FailsToPin actor.number actor.between actor.is_spent a name query why b → Leads a b
   fails_leads a name query pin_err.NoSuchVariable b f = made_leads a b _ f
   fails_leads a name query pin_err.DiskFault b f = made_leads a b _ f
   fails_leads a name query pin_err.Spent b f = made_leads a b [] f.0

@@ -15,7 +15,7 @@ use Rattle.act_model.specs.Step.{Step}
 use Rattle.act_model.proofs.Histories.{cut_at, steps_at}
 use Rattle.pb_lines.specs.Stream.{Item}
 use Rattle.feed_session.specs.Asks.{FailsWith, flush_all}
-use Rattle.feed_session.specs.Session.{EndsIn, IsFlushed, Taken, acts_of}
+use Rattle.feed_session.specs.Session.{EndsIn, IsFlushed, TakenItem, acts_of}
 use Rattle.feed_session.specs.declared.end.Fed.{Fed}
 use Rattle.feed_session.specs.declared.end.Fed.TheVariants as fed
 use Rattle.archiver_appliance.specs.Ingesting.{AllIsDurable, LeavesNone}
@@ -77,7 +77,7 @@ flush_all_durable limit samples doors (wants_memory_settled p settles same more)
 
 -- A SESSION
 
-module _ (entries : List Entry) (start end : Machine) (taken : List Taken) (last done : List Done) (all : own 0 entries ≡ entries) (just : mine 0 entries ≡ done) (are : done ≡ acts_of taken ++ last) (run : Runs start entries end) where
+module _ (entries : List Entry) (start end : Machine) (taken : List TakenItem) (last done : List Done) (all : own 0 entries ≡ entries) (just : mine 0 entries ≡ done) (are : done ≡ acts_of taken ++ last) (run : Runs start entries end) where
   flushed : IsFlushed last → AllIsDurable end
   flushed is =
       let step = last_step entries start end (acts_of taken) (record { act = flush_all; answer = answer.Flushed is.samples 0 is.doors }) all (just ∙ (are ∙ ap (λ (ds : List Done). acts_of taken ++ ds) is.is)) run in
@@ -92,5 +92,5 @@ module _ (entries : List Entry) (start end : Machine) (taken : List Taken) (last
   leaves_none fed.Memory begun ends = tt
 
 -- the last act of a session that failed
-pub fails_last : (taken : List Taken) (last done : List Done) → done ≡ acts_of taken ++ last → (f : FailsWith answer.DiskFault last) → done ≡ (acts_of taken ++ f.before) ++ record { act = f.act; answer = answer.DiskFault } ∷ []
+pub fails_last : (taken : List TakenItem) (last done : List Done) → done ≡ acts_of taken ++ last → (f : FailsWith answer.DiskFault last) → done ≡ (acts_of taken ++ f.before) ++ record { act = f.act; answer = answer.DiskFault } ∷ []
 fails_last taken last done are f = are ∙ (ap (λ (ds : List Done). acts_of taken ++ ds) f.is ∙ sym (append_assoc (acts_of taken) f.before (record { act = f.act; answer = answer.DiskFault } ∷ [])))

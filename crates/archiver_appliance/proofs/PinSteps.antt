@@ -20,7 +20,7 @@ use Rattle.act_model.specs.History.{Done, Entry, Runs, done_of, mine, own}
 use Rattle.act_model.specs.Machine.{Machine, find_row, same_bytes}
 use Rattle.act_model.specs.NextLife.{listed_row, opened_rows, with_next}
 use Rattle.act_model.specs.Outcome.{refused_at_once, refused, runs, faults_first, faults_between, faults_within, faults_removing, wants_memory, wants_memory_settled}
-use Rattle.act_model.specs.Pin.{PinStep, Pins, pins}
+use Rattle.act_model.specs.Pin.{PinStep, MakesPin, pins}
 use Rattle.act_model.specs.Reply.{Reply}
 use Rattle.act_model.specs.Rows.{RowState, accepted}
 use Rattle.act_model.specs.Sound.{IsSound}
@@ -81,7 +81,7 @@ settles_same (as_made change into is stays) none = absurd (cc (is, none))
 rows_of : {a b : Machine} → a ≡ b → a.rows ≡ b.rows
 rows_of is = ap (λ (m : Machine). m.rows) is
 
-pinned_rows : {who : ℕ} {name : List ℕ} {query : Query} (mid new : Machine) (reply : Reply) → Pins who name query mid reply new → new.rows ≡ mid.rows
+pinned_rows : {who : ℕ} {name : List ℕ} {query : Query} (mid new : Machine) (reply : Reply) → MakesPin who name query mid reply new → new.rows ≡ mid.rows
 pinned_rows mid new reply (pins i row pin pieces found here free least listed order gives few same) = rows_of same
 
 -- it leaves the rows
@@ -106,7 +106,7 @@ pub record IsPinnedRow (m : Machine) (name told_name : List ℕ) (about : About)
   pub about_is : about ≡ row.about
   pub tail_is : tail ≡ row.tail
 
-pins_row : {who : ℕ} {name : List ℕ} {query : Query} (mid new : Machine) (reply : Reply) → Pins who name query mid reply new → (pin : ℕ) (told_name : List ℕ) (about : About) (pieces : ℕ) (tail : List Sample) → reply ≡ answer.Pinned pin told_name about pieces tail → IsPinnedRow mid name told_name about tail
+pins_row : {who : ℕ} {name : List ℕ} {query : Query} (mid new : Machine) (reply : Reply) → MakesPin who name query mid reply new → (pin : ℕ) (told_name : List ℕ) (about : About) (pieces : ℕ) (tail : List Sample) → reply ≡ answer.Pinned pin told_name about pieces tail → IsPinnedRow mid name told_name about tail
 pins_row mid new reply (pins i row pin pieces found here free least listed order gives few same) n told_name about count tail is =
     record { i = i; row = row; found = found; here = here; name_is = let one = is in sym (cc (one)); about_is = let one = is in sym (cc (one)); tail_is = let one = is in sym (cc (one)) }
 
@@ -136,7 +136,7 @@ refused_none name m is = by_found (find_row m name) refl
     by_found (Some i) here = let one = rw here at is in absurd (cc (one))
     by_found None here = here
 
-pins_not_none : {who : ℕ} {name : List ℕ} {query : Query} (mid new : Machine) (reply : Reply) → Pins who name query mid reply new → reply ≡ answer.NoSuchVariable → ⊥
+pins_not_none : {who : ℕ} {name : List ℕ} {query : Query} (mid new : Machine) (reply : Reply) → MakesPin who name query mid reply new → reply ≡ answer.NoSuchVariable → ⊥
 pins_not_none mid new reply (pins i row pin pieces found here free least listed order gives few same) is = cc (is)
 
 pub pin_unknown : (who : ℕ) (name : List ℕ) (query : Query) {old new : Machine} {reply : Reply} → old.doubt ≡ None → PinStep who name query old reply new → reply ≡ answer.NoSuchVariable → find_row old name ≡ None

@@ -28,7 +28,7 @@ use Rattle.act_model.specs.Step.{Step}
 use Rattle.act_model.proofs.FlushLeft.{flush_leaves_none}
 use Rattle.act_model.proofs.Histories.{cut_at, runs_sound, steps_at}
 use Rattle.feed_session.specs.Asks.{AreMade, AsksFor, NoneFails, asked_again, chunk_behind, flush_all, is_failure, offer_of}
-use Rattle.feed_session.specs.Session.{AreTaken, IsTaken, Taken, acts_of}
+use Rattle.feed_session.specs.Session.{AreTaken, IsTaken, TakenItem, acts_of}
 use Rattle.archiver_appliance.specs.Ingesting.{HasRoom, IsOfferedTwice}
 use Rattle.archiver_appliance.proofs.Ingests.{rest_own}
 use Rattle.archiver_appliance.proofs.PinSteps.{first_own}
@@ -176,7 +176,7 @@ module _ (entries : List Entry) (start end : Machine) (sound : IsSound start) (r
       by_first (answer.IntakeFull held) made = by_second ds (is ∙ sym (append_assoc front (d ∷ []) (ds ++ back))) well.1 made
       by_first other made = subst (λ (es : List Done). length (d ∷ es) ≤ 3) (sym (none_made ds made)) (omega arith)
 
-  item_twice : (front : List Done) (chunk : Option PayloadInfo) (t : Taken) (back : List Done) → done ≡ front ++ (t.done ++ back) → IsTaken true chunk t → IsOfferedTwice t
+  item_twice : (front : List Done) (chunk : Option PayloadInfo) (t : TakenItem) (back : List Done) → done ≡ front ++ (t.done ++ back) → IsTaken true chunk t → IsOfferedTwice t
   item_twice front chunk t back is taken = by_item t.item refl taken.asks
     where
       by_item : (item : Item) → t.item ≡ item → AsksFor true chunk item t.moments taken.asked → HasRoom t.item → length t.done ≤ 3
@@ -184,7 +184,7 @@ module _ (entries : List Entry) (start end : Machine) (sound : IsSound start) (r
       by_item (sample x) same asks fits = three front t.done back asks.0 x asks.2 is (subst (λ (acts : List Act). AreMade acts t.done []) asks.4 taken.made) taken.well (subst HasRoom same fits)
       by_item chunk_end same asks fits = absurd (subst HasRoom same fits)
 
-  pub all_twice : (front : List Done) (chunk : Option PayloadInfo) (ts : List Taken) (last : List Done) → done ≡ front ++ (acts_of ts ++ last) → AreTaken true chunk ts → All IsOfferedTwice ts
+  pub all_twice : (front : List Done) (chunk : Option PayloadInfo) (ts : List TakenItem) (last : List Done) → done ≡ front ++ (acts_of ts ++ last) → AreTaken true chunk ts → All IsOfferedTwice ts
   all_twice front chunk [] last is taken = All-nil IsOfferedTwice
   all_twice front chunk (t ∷ ts) last is taken =
       let first : done ≡ front ++ (t.done ++ (acts_of ts ++ last)) = is ∙ ap (λ (es : List Done). front ++ es) (append_assoc t.done (acts_of ts) last) in

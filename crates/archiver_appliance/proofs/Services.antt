@@ -14,10 +14,10 @@ use Rattle.tier_store.specs.Seen.{seen, granularities}
 use Rattle.tier_store.specs.Stores.{Stores}
 use Rattle.tier_store.specs.declared.store.TierStore.{TierStore}
 use Rattle.store_reopen.specs.Reopen.{IsUnopened, stores_of}
-use Rattle.turn_rooms.specs.declared.room.Entry.{Entry as RoomEntry}
+use Rattle.turn_rooms.specs.declared.room.RoomEntry.{RoomEntry}
 use Rattle.turn_rooms.specs.declared.rooms.Pass.{Pass}
 use Rattle.turn_rooms.specs.declared.rooms.Rooms.{Rooms}
-use Rattle.turn_rooms.specs.declared.view.Standing.{Standing}
+use Rattle.turn_rooms.specs.declared.view.SeatNumbers.{SeatNumbers}
 use Rattle.turn_rooms.proofs.Lists.{has_first, no_element}
 use Rattle.turn_rooms.specs.Histories.{Legal, end_of, most_acts, most_numbers}
 use Rattle.std.proofs.lemmas.List.{length-map}
@@ -107,13 +107,13 @@ flush_rose answers entries old new sound runs f =
 -- the first pass is the last
 pub first_is_last : {S A B : Type 0} (steps : S → ℕ → ℕ → A → B → S → Type 0) (rooms : Rooms S A B) (pass : Pass S A B) → Opens steps rooms (opened rooms) pass → IsLast pass
 first_is_last steps rooms pass opens = record {
-  first = subst (λ (n : Standing). Contains n.stands 0) (sym opens.standing) (has_first 0 []);
-  given = λ q given. absurd (no_element q (subst (λ (n : Standing). Contains n.gave q) opens.standing given));
+  first = subst (λ (n : SeatNumbers). Contains n.stands 0) (sym opens.standing) (has_first 0 []);
+  given = λ q given. absurd (no_element q (subst (λ (n : SeatNumbers). Contains n.gave q) opens.standing given));
 }
 
 -- and stands for so few numbers that those for all posts, and two more, are left
 pub numbers_left : {S A B : Type 0} (steps : S → ℕ → ℕ → A → B → S → Type 0) (rooms : Rooms S A B) (pass : Pass S A B) → Opens steps rooms (opened rooms) pass → (posts : ℕ) → posts < 2 ^ 32 → length (stands pass) + (posts + 2) ≤ most_numbers
-numbers_left steps rooms pass opens posts few = let one : length (stands pass) ≡ 1 = ap (λ (n : Standing). length n.stands) opens.standing in omega arith
+numbers_left steps rooms pass opens posts few = let one : length (stands pass) ≡ 1 = ap (λ (n : SeatNumbers). length n.stands) opens.standing in omega arith
 
 module _ {D R : Type 0} (disk : Ghosts D R) (steps : Shared (Observed D R) R → ℕ → ℕ → Act → Answer R → Shared (Observed D R) R → Type 0) (reply : Answer R → Reply) (rooms : Rooms (Shared (Observed D R) R) Act (Answer R)) (old : Pass (Shared (Observed D R) R) Act (Answer R))
     (opens : Opens steps rooms (opened rooms) old) where

@@ -10,11 +10,11 @@ use Rattle.edge_io.specs.declared.link.Door.{Ghosts as OfDoor}
 use Rattle.edge_io.specs.declared.stream.Source.{Ghosts as OfSource}
 use Rattle.edge_io.specs.declared.stream.Sink.{Ghosts as OfSink}
 use Rattle.disk_model.specs.declared.disk.ReadAt.{Ghosts as OfFile}
-use Rattle.turn_rooms.specs.declared.room.Entry.{Entry as RoomEntry}
+use Rattle.turn_rooms.specs.declared.room.RoomEntry.{RoomEntry}
 use Rattle.turn_rooms.specs.declared.rooms.Pass.{Pass}
 use Rattle.turn_rooms.specs.declared.rooms.Rooms.{Rooms}
 use Rattle.turn_rooms.specs.Histories.{by, end_of}
-use Rattle.turn_rooms.specs.declared.view.Standing.{Standing}
+use Rattle.turn_rooms.specs.declared.view.SeatNumbers.{SeatNumbers}
 use Rattle.turn_rooms.specs.Passes.{IsPassOf, KnowsAllOf, Opens, known, opened, standing, stands}
 use Rattle.turn_rooms.proofs.Lists.{cons_more, has_first, only_element}
 use Rattle.workers.specs.Left.{IsNew}
@@ -349,7 +349,7 @@ module _ (T : Type 0) {X Y : Type 0} (steps : Shared X Y → ℕ → ℕ → Act
     -- a pass by which one acted stands for one number alone, as it did when it was drawn
     stands_for_one : (n n' : P) (q : ℕ) → IsNew old n → standing n' ≡ standing n → (q ≡ n.number → ⊥) → Contains (stands n') q → ⊥
     stands_for_one n n' q fresh same other has =
-        let one : Contains (n.number ∷ []) q = subst (λ (xs : List ℕ). Contains xs q) fresh.stands_for (subst (λ (x : Standing). Contains x.stands q) same has) in
+        let one : Contains (n.number ∷ []) q = subst (λ (xs : List ℕ). Contains xs q) fresh.stands_for (subst (λ (x : SeatNumbers). Contains x.stands q) same has) in
         other (sym (only_element n.number q one))
 
     beside_one : (w : W) (q : ℕ) → Serving w → IsNew old (seat_pass w.seat) → IsPassOf steps rooms (seat_pass w.seat) → (q ≡ (seat_pass w.seat).number → ⊥) → Contains (stands (seat_pass w.seat')) q → ⊥

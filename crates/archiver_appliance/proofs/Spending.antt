@@ -10,7 +10,7 @@ use Rattle.edge_io.specs.declared.link.Door.{Ghosts as OfDoor}
 use Rattle.edge_io.specs.declared.stream.Source.{Ghosts as OfSource}
 use Rattle.edge_io.specs.declared.stream.Sink.{Ghosts as OfSink}
 use Rattle.disk_model.specs.declared.disk.ReadAt.{Ghosts as OfFile}
-use Rattle.turn_rooms.specs.declared.room.Entry.{Entry as RoomEntry}
+use Rattle.turn_rooms.specs.declared.room.RoomEntry.{RoomEntry}
 use Rattle.turn_rooms.specs.declared.rooms.Pass.{Pass}
 use Rattle.turn_rooms.specs.declared.rooms.Rooms.{Rooms}
 use Rattle.turn_rooms.specs.Histories.{most_acts}

@@ -3,7 +3,7 @@
 use Rattle.std.specs.Prelude.{◌≡◌, ℕ, ◌+◌, ◌-◌, ◌^◌, ◌≤◌, ◌⊎◌, List, [], ◌∷◌, ◌++◌, length, min, Bool, true, false, IsTrue, Option, Some, None, codes, slice_get, slice_index}
 use Rattle.std.specs.Io.KnownBytes.{Appends}
 use Rattle.edge_io.specs.Stream.{AppendsFront}
-use Rattle.edge_io.specs.Doors.{Both, Listing, ledger_of}
+use Rattle.edge_io.specs.Doors.{Both, ListedLinks, ledger_of}
 use Rattle.disk_model.specs.Past.{Past}
 use Rattle.disk_model.specs.declared.disk.Disk.{Ghosts}
 use Rattle.etl_rules.specs.Config.{ConfigState}
@@ -136,13 +136,13 @@ abbrev pub unmoving : ConfigState
 unmoving = record { granularity = Hour ∷ Day ∷ Year ∷ []; hold = 4294967295 ∷ 4294967295 ∷ []; gather = 3 ∷ 1 ∷ [] }
 
 -- the two posts by which the feeds of so many hours come
-abbrev pub feed_posts : ℕ → List (Post (Listing Both))
+abbrev pub feed_posts : ℕ → List (Post (ListedLinks Both))
 feed_posts hours = record { kind = Feed; door = feed_door hours 0 } ∷ record { kind = Feed; door = feed_door hours 1 } ∷ []
 
 -- they were left so by a service
-abbrev pub FeedsLeft : ℕ → Bool → AllServed → List (Post (Listing Both)) → Type 0
+abbrev pub FeedsLeft : ℕ → Bool → AllServed → List (Post (ListedLinks Both)) → Type 0
 FeedsLeft hours began told news =
-    PostsLeft (λ (d : Listing Both). d.closed) (λ (d : Listing Both). d.calls.faults) (λ (d : Listing Both). Some (ledger_of d)) (λ kind (l : Both). IsServed kind (λ (l : Both). Some l.output.written) (λ (l : Both). l.input.calls.faults) (λ (l : Both). l.output.calls.faults) l) began told (feed_posts hours) news
+    PostsLeft (λ (d : ListedLinks Both). d.closed) (λ (d : ListedLinks Both). d.calls.faults) (λ (d : ListedLinks Both). Some (ledger_of d)) (λ kind (l : Both). IsServed kind (λ (l : Both). Some l.output.written) (λ (l : Both). l.input.calls.faults) (λ (l : Both). l.output.calls.faults) l) began told (feed_posts hours) news
 
 -- the act that gave a variable its row
 abbrev pub registers : ℕ → ℕ → Done
@@ -175,7 +175,7 @@ pub record HasRegistered (tells : Bool) (held : Stores) (variables : ℕ) (m : M
 pub record ServesFeeds (hours : ℕ) (held : Stores) (began : Bool) (told : AllServed) (fed : Machine) : Type 0 where
   pub ready : Machine
   pub begun : HasRegistered true held 4 ready
-  pub posts : List (Post (Listing Both))
+  pub posts : List (Post (ListedLinks Both))
   pub left : FeedsLeft hours began told posts
   pub entries : List Entry
   pub runs : Runs ready entries fed

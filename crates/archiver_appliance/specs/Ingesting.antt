@@ -10,7 +10,7 @@ use Rattle.act_model.specs.History.{Done}
 use Rattle.act_model.specs.Machine.{Machine}
 use Rattle.act_model.specs.Rows.{RowState, accepted, durable}
 use Rattle.pb_lines.specs.Stream.{Item, sample}
-use Rattle.feed_session.specs.Session.{Session, Taken}
+use Rattle.feed_session.specs.Session.{Session, TakenItem}
 use Rattle.feed_session.specs.declared.end.Fed.{Fed}
 use Rattle.feed_session.specs.declared.end.Fed.TheVariants as fed
 use Rattle.command_words.specs.declared.status.Status.{Status}
@@ -42,7 +42,7 @@ HasRoom (sample x) = length x.line + 1 ≤ intake_room
 HasRoom other = ⊥
 
 -- Such a sample is offered at most twice, the second time behind a flush: the flush has made room for it.
-abbrev pub IsOfferedTwice : Taken → Type 0
+abbrev pub IsOfferedTwice : TakenItem → Type 0
 IsOfferedTwice t = HasRoom t.item → length t.done ≤ 3
 
 -- What an ingest made of what is held: which items of the stream it took, at which moments it offered their samples, and what its acts were
@@ -50,7 +50,7 @@ IsOfferedTwice t = HasRoom t.item → length t.done ≤ 3
 pub record IngestsInto (Before : Files → Type 0) (tells : Bool) (config : ConfigState) (held : Stores) (source : Option (List ℕ)) (clock clock' : Option Moments) (old new : Past) (status : Status) : Type 0 where
   pub came : Fed
   pub told : IsIngested came status
-  pub taken : List Taken
+  pub taken : List TakenItem
   pub done : List Done
   pub session : Session true came taken source clock clock' done
   pub acts : ActsFrom Before tells config held done old new

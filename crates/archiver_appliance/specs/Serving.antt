@@ -8,7 +8,7 @@ use Rattle.etl_rules.specs.Config.{ConfigState}
 use Rattle.tier_store.specs.Stores.{Stores}
 use Rattle.store_reopen.specs.Reopen.{stores_of}
 use Rattle.disk_model.specs.declared.disk.Disk.{Ghosts}
-use Rattle.turn_rooms.specs.declared.room.Entry.{Entry as RoomEntry}
+use Rattle.turn_rooms.specs.declared.room.RoomEntry.{RoomEntry}
 use Rattle.turn_rooms.specs.Histories.{Legal, end_of, most_acts}
 use Rattle.act_model.specs.declared.acts.Act.{Act}
 use Rattle.act_model.specs.declared.acts.Act.TheVariants.{Flush}

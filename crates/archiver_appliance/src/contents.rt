@@ -5,7 +5,7 @@ use edge_io::{Failed, Sink};
 
 /// A sink that counts what a report of `status` tells, and keeps nothing else of it.
 #[derive(Drop)]
-pub struct Contents {
+pub struct ReportCounts {
     /// How many variables there are: a line is told of each.
     pub variables: u64,
     /// How many files the three stores list: each line ends with their numbers.
@@ -14,9 +14,9 @@ pub struct Contents {
     numbers: [u64; 3],
 }
 
-impl Contents {
-    pub fn none() -> Contents {
-        Contents {
+impl ReportCounts {
+    pub fn none() -> ReportCounts {
+        ReportCounts {
             variables: 0,
             files: 0,
             numbers: [0, 0, 0],
@@ -42,7 +42,7 @@ impl Contents {
     }
 }
 
-impl Sink for Contents {
+impl Sink for ReportCounts {
     ghost written = { λ _. None };
 
     ghost write_faults = { λ _. 0 };

@@ -18,7 +18,7 @@ ghost use Rattle.archiver_appliance.specs.Drilling.{AreFed, Drills, HasRegistere
 ghost use Rattle.archiver_appliance.specs.Drilling.{OpensWell, WereSpent, nothing_held, registers, shipped, unmoving};
 
 use crate::drill_report::report;
-use crate::serving_all::serve_archive;
+use crate::service_run::serve_archive;
 use act_model::{Registered, ask_register};
 use archive_actors::Alone;
 use archive_core::Archive;

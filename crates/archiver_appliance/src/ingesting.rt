@@ -12,7 +12,7 @@ ghost use Rattle.act_model.specs.History.{Done};
 ghost use Rattle.act_model.specs.Machine.{Machine};
 ghost use Rattle.archive_core.specs.Parts.{parts};
 ghost use Rattle.archive_core.specs.Stands.{Stands};
-ghost use Rattle.feed_session.specs.Session.{Session, Taken};
+ghost use Rattle.feed_session.specs.Session.{Session, TakenItem};
 ghost use Rattle.archiver_appliance.specs.Acting.{ActsAlone, IsFresh, IsNotMade};
 ghost use Rattle.archiver_appliance.specs.Ingesting.{IngestsInto, IsIngested};
 ghost use Rattle.archiver_appliance.specs.Judging.{IsOfOpened};
@@ -80,7 +80,7 @@ fn ingest_alone<S: Source, D: Disk, C: Clock>(
     clock: &mut C,
 ) -> Fed
     requires stands { (m : Machine) × Stands D.tells (parts D.Disk archive.old) m }
-    ensures session { (taken : List Taken) × (done : List Done)
+    ensures session { (taken : List TakenItem) × (done : List Done)
         × Session true result taken (S.left source.old) (C.coming clock.old) (C.coming clock.new) done
         × ActsAlone D.Disk archive.old done archive.new }
     ensures not_spent { result ≡ Fed.Spent → ⊥ }

@@ -23,13 +23,13 @@ mod opened;
 mod reporting;
 mod retrieving;
 mod run;
-mod serving_all;
+mod service_run;
 mod tallying;
 
 ghost use Rattle.std.specs.Prelude.{◌≤◌, ◌<◌, ◌^◌, length, vec_len, IfOk};
 
 use command_words::{Status, complain, serve_words};
-use contents::Contents;
+use contents::ReportCounts;
 use edge_io::{StdSink, StdSource, SystemClock};
 use etl_rules::Config;
 use folder_disk::{Access, FolderDisk, Trouble};
@@ -206,7 +206,7 @@ fn counted<'a, H: Threads + Wait + Sync>(
     disk: FolderDisk<&'a HostRuntime, &'a H>,
     telling: &Telling<'a>,
 ) -> FolderDisk<&'a HostRuntime, &'a H> {
-    let mut contents = Contents::none();
+    let mut contents = ReportCounts::none();
     let mut posts: [Post<ServiceDoor<'a>>; 0] = [];
     let mut ended = run::run(
         handles,
@@ -215,7 +215,7 @@ fn counted<'a, H: Threads + Wait + Sync>(
         &Config::shipped(),
         &mut StdSource::new(rt.stdin()),
         &mut contents,
-        &mut Contents::none(),
+        &mut ReportCounts::none(),
         disk,
         &mut SystemClock::new(rt),
         &mut posts,

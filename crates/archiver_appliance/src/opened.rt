@@ -24,7 +24,7 @@ use crate::ingesting::ingest_into;
 use crate::moving::move_due;
 use crate::reporting::{tell_files, tell_rows};
 use crate::retrieving::get_from;
-use crate::serving_all::serve_posts;
+use crate::service_run::serve_posts;
 use command_words::{Status, StoreCommand};
 use disk_model::Disk;
 use edge_io::{Clock, Door, Sink, Source};

@@ -3,7 +3,7 @@ use Rattle.std.proofs.Common.{List, [], ◌∷◌, ◌∙◌, ap, ◌≡◌, ◌
 use Rattle.std.specs.Prelude.{All, IfSome, Contains, IsTrue, filter, nat_eq, nat_lt, slice_get, FitsSigned}
 use Rattle.std.proofs.lemmas.List.Elements.{All-nil, All-contains, All-cons, filter_passes, filter_agree, All-filter, Contains-push, recursion_from_All}
 use Rattle.partition_names.specs.declared.granularity.Granularity.{Granularity}
-use Rattle.durable_write.specs.declared.piece.Piece.{Piece}
+use Rattle.durable_write.specs.declared.file_write.FileWrite.{FileWrite}
 use Rattle.durable_write.specs.Held.{Filed, Held, filed_at, IsFiled, AreFiled, bytes_of, entry_of, samples_of}
 use Rattle.durable_write.specs.Flush.{PlacesRise, put_all, Grows, GrowsOwn, HasHeaderOf, MakesFiles, file_at, listed_bytes, with_batch, with_files, HoldsBoth, Flushes, EndsRow, bytes_in}
 use Rattle.std.specs.List.{AllByRecursion, AllZip, sum_by}
@@ -48,7 +48,7 @@ use Rattle.pb_messages.proofs.InfoSpellingLemmas.{texts_apart}
 abbrev Header : Held → Filed → Type 0
 Header held f = HasHeaderOf held.rows f (file_at (filed_at f) held.files)
 
-grown_header : (g : Granularity) (held : Held) (p : Piece) (f : Filed) → AreFiled g held → IsTrue held.stands → Grows g held p f → Header held f
+grown_header : (g : Granularity) (held : Held) (p : FileWrite) (f : Filed) → AreFiled g held → IsTrue held.stands → Grows g held p f → Header held f
 grown_header g held p f filed stands grows = go (listed_at held.files (filed_at f))
   where
     own : GrowsOwn g held p f
@@ -62,13 +62,13 @@ grown_header g held p f filed stands grows = go (listed_at held.files (filed_at 
         let alike = begin_alike (bytes_of f) (bytes_of h) [] p.bytes.items f.head h.head own.filed.info old.info f.samples h.samples own.filed.file old.file (append-nil (bytes_of f) ∙ bytes) in
         subst (λ (o : Option Filed). HasHeaderOf held.rows f o) (sym there) alike.heads
 
-grown_headers : (g : Granularity) (held : Held) (ps : List Piece) (fs : List Filed) → AreFiled g held → IsTrue held.stands → AllZip (Grows g held) ps fs → All (Header held) fs
+grown_headers : (g : Granularity) (held : Held) (ps : List FileWrite) (fs : List Filed) → AreFiled g held → IsTrue held.stands → AllZip (Grows g held) ps fs → All (Header held) fs
 grown_headers g held [] [] filed stands each = All-nil (Header held)
 grown_headers g held [] (f ∷ fs) filed stands each = absurd each
 grown_headers g held (p ∷ ps) [] filed stands each = absurd each
 grown_headers g held (p ∷ ps) (f ∷ fs) filed stands each = All-cons (Header held) f fs (grown_header g held p f filed stands each.0) (grown_headers g held ps fs filed stands each.1)
 
-pub headers_kept : (g : Granularity) (held : Held) (ps : List Piece) (fs : List Filed) → AreFiled g held → PlacesRise held.files → IsTrue held.stands → MakesFiles g held ps fs → All (λ (f : Filed). HasHeaderOf held.rows f (file_at (filed_at f) held.files)) (put_all held.files fs)
+pub headers_kept : (g : Granularity) (held : Held) (ps : List FileWrite) (fs : List Filed) → AreFiled g held → PlacesRise held.files → IsTrue held.stands → MakesFiles g held ps fs → All (λ (f : Filed). HasHeaderOf held.rows f (file_at (filed_at f) held.files)) (put_all held.files fs)
 headers_kept g held ps fs filed apart stands makes =
     all_put_all (Header held) held.files fs
     (λ k d lt. subst (λ (o : Option Filed). HasHeaderOf held.rows (get_or held.files k d) o) (sym (found held.files apart k d lt)) refl)
@@ -78,7 +78,7 @@ headers_kept g held ps fs filed apart stands makes =
 
 -- SAMPLES OF ONE ROW
 
-pub adds_more : (target : Target) (row : Row) (xs ys : List Sample) (m n : ℕ) (a b c : List Piece) → Adds target row xs m a b → Adds target row ys n b c → IsRising (xs ++ ys) → Adds target row (xs ++ ys) (m + n) a c
+pub adds_more : (target : Target) (row : Row) (xs ys : List Sample) (m n : ℕ) (a b c : List FileWrite) → Adds target row xs m a b → Adds target row ys n b c → IsRising (xs ++ ys) → Adds target row (xs ++ ys) (m + n) a c
 adds_more target row xs ys m n a b c one two rising = record {
   made = λ held has fs plan.
       let first = one.made held has fs plan in
@@ -97,7 +97,7 @@ adds_more target row xs ys m n a b c one two rising = record {
 }
 
 -- one sample more of a list
-pub adds_next : (target : Target) (row : Row) (xs : List Sample) (i m n : ℕ) (x : Sample) (a b c : List Piece) → i < length xs → x ≡ get_or xs i x → IsRising xs → Adds target row (take i xs) m a b → Adds target row (x ∷ []) n b c → Adds target row (take (i + 1) xs) (m + n) a c
+pub adds_next : (target : Target) (row : Row) (xs : List Sample) (i m n : ℕ) (x : Sample) (a b c : List FileWrite) → i < length xs → x ≡ get_or xs i x → IsRising xs → Adds target row (take i xs) m a b → Adds target row (x ∷ []) n b c → Adds target row (take (i + 1) xs) (m + n) a c
 adds_next target row xs i m n x a b c low is rising one two =
     let more : take (i + 1) xs ≡ take i xs ++ x ∷ [] = take_more xs i x low ∙ ap (λ (z : Sample). take i xs ++ z ∷ []) (sym is) in
     let P : List Sample → Type 0 = λ l. Adds target row l (m + n) a c in
@@ -234,7 +234,7 @@ plans_none g rows entries limbo = record {
       ([], record { makes = record { each = tt; apart = tt }; last = λ rest f is. absurd (no_last rest f is); ends = All-nil (EndsRow held.files) }, λ is. record { samples = λ row. refl; count = omega arith });
 }
 
-pub plans_on : (target : Target) (rows : List Row) (entries limbo : List Entry) (part : RowSamples) (row : Row) (n : ℕ) (old new : List Piece) (last : Option Entry) → target.series ≡ part.row → slice_get rows part.row ≡ Some row → IsLastOf entries part.row last → target.listed ≡ last_with part.row last limbo → Adds target row part.samples n old new → PlansOn target.granularity rows entries limbo part n old new
+pub plans_on : (target : Target) (rows : List Row) (entries limbo : List Entry) (part : RowSamples) (row : Row) (n : ℕ) (old new : List FileWrite) (last : Option Entry) → target.series ≡ part.row → slice_get rows part.row ≡ Some row → IsLastOf entries part.row last → target.listed ≡ last_with part.row last limbo → Adds target row part.samples n old new → PlansOn target.granularity rows entries limbo part n old new
 plans_on target rows entries limbo part row n old new last series stands is_last listed adds = record {
   on = λ parts m before. record {
     made = λ held has.
@@ -287,8 +287,8 @@ of_row_alone row xs (p ∷ parts) = by_test (nat_eq p.row row) refl (of_row_alon
     by_test false is with_it without = without
 
 -- the order of the rows doesn't count
-pub plans_kept : (g : Granularity) (rows : List Row) (entries limbo : List Entry) (parts order : List RowSamples) (n : ℕ) (pieces : List Piece) → KeepsRows parts order → Plans g rows entries limbo order n pieces → Plans g rows entries limbo parts n pieces
-plans_kept g rows entries limbo parts order n pieces same plans = record {
+pub plans_kept : (g : Granularity) (rows : List Row) (entries limbo : List Entry) (parts order : List RowSamples) (n : ℕ) (writes : List FileWrite) → KeepsRows parts order → Plans g rows entries limbo order n writes → Plans g rows entries limbo parts n writes
+plans_kept g rows entries limbo parts order n writes same plans = record {
   made = λ held has.
       let plan = plans.made held has in (
         plan.0,
@@ -300,20 +300,20 @@ plans_kept g rows entries limbo parts order n pieces same plans = record {
       );
 }
 
-pub flushes : (g : Granularity) (rows : List Row) (entries limbo : List Entry) (batch : List RowSamples) (n : ℕ) (pieces : List Piece) → Plans g rows entries limbo batch n pieces → (held : Held) → HoldsBoth g rows entries limbo held → Flushes g held batch pieces n
-flushes g rows entries limbo batch n pieces plans held has =
+pub flushes : (g : Granularity) (rows : List Row) (entries limbo : List Entry) (batch : List RowSamples) (n : ℕ) (writes : List FileWrite) → Plans g rows entries limbo batch n writes → (held : Held) → HoldsBoth g rows entries limbo held → Flushes g held batch writes n
+flushes g rows entries limbo batch n writes plans held has =
     let plan = plans.made held has in
     let apart = both_rise g rows entries limbo held has in
     record {
       files = plan.0;
       makes = plan.1.makes;
-      flushed = record { store = refl; rows = refl; stands = refl; still = leads_still held (with_files held plan.0) (leads_with g held pieces plan.0 has.filed.listed apart plan.1.makes); samples = λ is. (plan.2 is).samples; headers = λ is. headers_kept g held pieces plan.0 has.filed apart is plan.1.makes };
+      flushed = record { store = refl; rows = refl; stands = refl; still = leads_still held (with_files held plan.0) (leads_with g held writes plan.0 has.filed.listed apart plan.1.makes); samples = λ is. (plan.2 is).samples; headers = λ is. headers_kept g held writes plan.0 has.filed apart is plan.1.makes };
       more = λ is. (plan.2 is).count;
       ends = plan.1.ends;
     }
 
 -- one list more
-pub plans_next : {X : Type 0} (seen : X → RowSamples) (g : Granularity) (rows : List Row) (entries limbo : List Entry) (order : List X) (i m n : ℕ) (x : X) (old new : List Piece) → i < length order → x ≡ get_or order i x → Plans g rows entries limbo (take i (map seen order)) m old → PlansOn g rows entries limbo (seen x) n old new → Plans g rows entries limbo (take (i + 1) (map seen order)) (m + n) new
+pub plans_next : {X : Type 0} (seen : X → RowSamples) (g : Granularity) (rows : List Row) (entries limbo : List Entry) (order : List X) (i m n : ℕ) (x : X) (old new : List FileWrite) → i < length order → x ≡ get_or order i x → Plans g rows entries limbo (take i (map seen order)) m old → PlansOn g rows entries limbo (seen x) n old new → Plans g rows entries limbo (take (i + 1) (map seen order)) (m + n) new
 plans_next {X} seen g rows entries limbo order i m n x old new low is plans on =
     let here : get_or (map seen order) i (seen x) ≡ seen x = get_or-map seen order i x (seen x) low ∙ ap seen (sym is) in
     let more : take (i + 1) (map seen order) ≡ take i (map seen order) ++ seen x ∷ [] = take_more (map seen order) i (seen x) (omega (arith, length-map order seen)) ∙ ap (λ (z : RowSamples). take i (map seen order) ++ z ∷ []) here in

@@ -23,7 +23,7 @@ use Rattle.gate_journal.specs.Kept.{Says, SaysEither, IsKept, IsUnsure}
 use Rattle.gate_journal.proofs.FileNames.{own_apart}
 use Rattle.gate_journal.proofs.Keeping.{says_stays, kept_unopened, unsure_unopened}
 use Rattle.partition_names.specs.Part.{IsPart}
-use Rattle.durable_write.specs.declared.piece.Piece.{Piece}
+use Rattle.durable_write.specs.declared.file_write.FileWrite.{FileWrite}
 use Rattle.pv_catalog.specs.Rows.{IsCatalogue}
 use Rattle.pv_catalog.specs.Catalogue.{catalogue_name}
 use Rattle.durable_write.specs.Flush.{Grows, put_all, PlacesRise}
@@ -31,7 +31,7 @@ use Rattle.durable_write.specs.Writing.{set_of, Behind, IsStoredAs, IsDoubtedAs}
 use Rattle.std.proofs.lemmas.Bool.{cases_lt}
 use Rattle.durable_write.specs.Three.{Anything, Beside}
 use Rattle.gate_journal.specs.Kept as journal
-use Rattle.gate_journal.specs.Standing.{Standing}
+use Rattle.gate_journal.specs.DiskShown.{DiskShown}
 use Rattle.std.proofs.lemmas.Bool.Decides.{nat_tests}
 use Rattle.durable_write.proofs.Places.{rise_filter}
 
@@ -53,8 +53,8 @@ map-put x xs =
     ∙ ap (λ (l : List Entry). l ++ (entry_of x ∷ map entry_of (filter (λ y. comes_before (filed_at x) (filed_at y)) xs))) (sym (filter-map (λ e. comes_before (place e) (filed_at x)) xs))
     ∙ ap (λ (l : List Entry). filter (λ e. comes_before (place e) (filed_at x)) (map entry_of xs) ++ (entry_of x ∷ l)) (sym (filter-map (λ e. comes_before (filed_at x) (place e)) xs))
 
--- the entries of all files, with those of the pieces set
-pub entries_are : (g : Granularity) (held : Held) (ps : List Piece) (fs files : List Filed) → AllZip (Grows g held) ps fs → all_changed (map entry_of files) (map set_of ps) ≡ map entry_of (put_all files fs)
+-- the entries of all files, with those of the writes set
+pub entries_are : (g : Granularity) (held : Held) (ps : List FileWrite) (fs files : List Filed) → AllZip (Grows g held) ps fs → all_changed (map entry_of files) (map set_of ps) ≡ map entry_of (put_all files fs)
 entries_are g held [] [] files each = refl
 entries_are g held [] (f ∷ fs) files each = absurd each
 entries_are g held (p ∷ ps) [] files each = absurd each
@@ -63,15 +63,15 @@ entries_are g held (p ∷ ps) (f ∷ fs) files each =
     ap (λ (es : List Entry). all_changed es (map set_of ps)) first ∙ entries_are g held ps fs (put filed_at f files) each.1
 
 -- and they may be set
-pub all_follow : (g : Granularity) (ps : List Piece) (entries : List Entry) → All (λ (p : Piece). IsPart g p.entry.part) ps → AllCanFollow g entries (map set_of ps)
+pub all_follow : (g : Granularity) (ps : List FileWrite) (entries : List Entry) → All (λ (p : FileWrite). IsPart g p.entry.part) ps → AllCanFollow g entries (map set_of ps)
 all_follow g [] entries parts = tt
 all_follow g (p ∷ ps) entries parts =
-    (All-head (λ (q : Piece). IsPart g q.entry.part) p ps parts, all_follow g ps (changed entries (set_of p)) (All-tail (λ (q : Piece). IsPart g q.entry.part) p ps parts))
+    (All-head (λ (q : FileWrite). IsPart g q.entry.part) p ps parts, all_follow g ps (changed entries (set_of p)) (All-tail (λ (q : FileWrite). IsPart g q.entry.part) p ps parts))
 
 -- WHAT THE COMMIT LEAVES
 
 -- a commit of the manifest that is to list other files of the same rows, all of them safe
-pub record Lists (g : Granularity) (catalogue manifest : JournalState) (old new : Standing) (held next : Held) : Type 0 where
+pub record Lists (g : Granularity) (catalogue manifest : JournalState) (old new : DiskShown) (held next : Held) : Type 0 where
   pub stored : IsStored g catalogue manifest old held
   pub same_shelf : shelf_of next ≡ shelf_of held
   pub same_stands : next.stands ≡ held.stands
@@ -98,7 +98,7 @@ in_elsewhere g held next kept b c numbered step =
     own_stay kept (manifest_name held.store) (SaysEither (Folds g) (map entry_of held.files) (map entry_of next.files) (manifest_name held.store)) b c (journal_out kept.store (manifest_name held.store) numbered refl) step
 
 -- within the commit and behind it
-pub lists_either : (g : Granularity) (catalogue manifest : JournalState) (first : Past) (old new : Standing) (held next : Held) → Lists g catalogue manifest old new held next
+pub lists_either : (g : Granularity) (catalogue manifest : JournalState) (first : Past) (old new : DiskShown) (held next : Held) → Lists g catalogue manifest old new held next
     → Passes (HoldsEither g held next) first old.past → Passes (HoldsEither g held next) first new.past
 lists_either g catalogue manifest first old new held next commit before = passes_then (HoldsEither g held next) (Step g held next) first old.past new.past before commit.passes (λ a b c was one now two.
     let holds = stored_left g catalogue manifest old held commit.stored b now in
@@ -118,18 +118,18 @@ lists_either g catalogue manifest first old new held next commit before = passes
       })
     ])
 
-still_there : (g : Granularity) (held next kept : Held) (numbered : 1 ≤ kept.store) (old new : Standing) → Passes (Step g held next) old.past new.past → ((n : Name) → (IsOwn (manifest_name held.store) n → ⊥) → new.files n ≡ old.files n) → ((n : Name) → new.opened n ≤ old.opened n)
+still_there : (g : Granularity) (held next kept : Held) (numbered : 1 ≤ kept.store) (old new : DiskShown) → Passes (Step g held next) old.past new.past → ((n : Name) → (IsOwn (manifest_name held.store) n → ⊥) → new.files n ≡ old.files n) → ((n : Name) → new.opened n ≤ old.opened n)
     → AreSafe kept old → AreSafe kept new
 still_there g held next kept numbered old new passes elsewhere fewer safe =
     safe_stays kept (Step g held next) old new safe passes (λ a c step. in_elsewhere g held next kept a c numbered step) (own_long kept (manifest_name held.store) old.files new.files (journal_out kept.store (manifest_name held.store) numbered refl) elsewhere safe.long) fewer
 
-catalogue_still : (g : Granularity) (catalogue manifest : JournalState) (old new : Standing) (held next : Held) → Lists g catalogue manifest old new held next → CatalogueStored catalogue new held.rows
+catalogue_still : (g : Granularity) (catalogue manifest : JournalState) (old new : DiskShown) (held next : Held) → Lists g catalogue manifest old new held next → CatalogueStored catalogue new held.rows
 catalogue_still g catalogue manifest old new held next commit =
     let other = λ (n : Name) (own : IsOwn catalogue.name n). other_journal held.store n (subst (λ (m : Name). IsOwn m n) commit.stored.rows.named own) in
     catalogue_stays (Step g held next) catalogue old new commit.passes (record { step = λ a c step n own. step.elsewhere n (other n own); same = λ n own. commit.elsewhere n (other n own); fewer = λ n own. commit.fewer n }) held.rows
     commit.stored.rows
 
-pub lists_stored : (g : Granularity) (catalogue manifest listing : JournalState) (old new : Standing) (held next : Held) → Lists g catalogue manifest old new held next
+pub lists_stored : (g : Granularity) (catalogue manifest listing : JournalState) (old new : DiskShown) (held next : Held) → Lists g catalogue manifest old new held next
     → listing.name ≡ manifest_name held.store → listing.sound ≡ true → IsKept (Configured g) listing new (map entry_of next.files) → IsStored g catalogue listing new next
 lists_stored g catalogue manifest listing old new held next commit is sound kept = record {
   rows = subst (λ (s : Shelf). CatalogueStored catalogue new s.1) (sym commit.same_shelf) (catalogue_still g catalogue manifest old new held next commit);
@@ -137,7 +137,7 @@ lists_stored g catalogue manifest listing old new held next commit is sound kept
 }
 
 -- nothing was listed, and the manifest lists what it listed
-pub lists_unmade : (g : Granularity) (catalogue manifest listing : JournalState) (old new : Standing) (held next : Held) → Lists g catalogue manifest old new held next
+pub lists_unmade : (g : Granularity) (catalogue manifest listing : JournalState) (old new : DiskShown) (held next : Held) → Lists g catalogue manifest old new held next
     → listing.name ≡ manifest_name held.store → listing.sound ≡ true → IsKept (Configured g) listing new (map entry_of held.files) → IsStored g catalogue listing new held
 lists_unmade g catalogue manifest listing old new held next commit is sound kept = record {
   rows = catalogue_still g catalogue manifest old new held next commit;
@@ -150,7 +150,7 @@ lists_unmade g catalogue manifest listing old new held next commit is sound kept
   };
 }
 
-pub lists_in_doubt : (g : Granularity) (catalogue manifest listing : JournalState) (old new : Standing) (held next : Held) → Lists g catalogue manifest old new held next
+pub lists_in_doubt : (g : Granularity) (catalogue manifest listing : JournalState) (old new : DiskShown) (held next : Held) → Lists g catalogue manifest old new held next
     → listing.name ≡ manifest_name held.store → listing.sound ≡ false → IsUnsure (Configured g) listing new (map entry_of held.files) (map entry_of next.files) → IsInDoubt g catalogue listing new held next
 lists_in_doubt g catalogue manifest listing old new held next commit is unsound unsure = record {
   doubt = inr (record {
@@ -171,7 +171,7 @@ lists_in_doubt g catalogue manifest listing old new held next commit is unsound 
 
 -- One commit that lists other files.
 
-pub relists : (catalogue : JournalState) (m : ManifestState) (rows : Shelf) (old new : Standing) (held next : Held) (changes : List Change) → CanRelist catalogue m rows old held next changes
+pub relists : (catalogue : JournalState) (m : ManifestState) (rows : Shelf) (old new : DiskShown) (held next : Held) (changes : List Change) → CanRelist catalogue m rows old held next changes
     → Passes (AtOwn m.journal.name (journal.SaysEither (Folds m.granularity) m.entries (all_changed m.entries changes) m.journal.name)) old.past new.past → ((n : Name) → (IsOwn m.journal.name n → ⊥) → new.files n ≡ old.files n) → ((n : Name) → new.opened n ≤ old.opened n) → Lists m.granularity catalogue m.journal old new held next
 relists catalogue m rows old new held next changes can passes others fewer = record {
   stored = can.stored.stored;
@@ -187,12 +187,12 @@ relists catalogue m rows old new held next changes can passes others fewer = rec
   fewer = fewer;
 }
 
-pub relist_moment : (catalogue : JournalState) (m : ManifestState) (rows : Shelf) (old new : Standing) (held next : Held) (changes : List Change) → CanRelist catalogue m rows old held next changes
+pub relist_moment : (catalogue : JournalState) (m : ManifestState) (rows : Shelf) (old new : DiskShown) (held next : Held) (changes : List Change) → CanRelist catalogue m rows old held next changes
     → Lists m.granularity catalogue m.journal old new held next → Passes (HoldsEither m.granularity held next) old.past new.past
 relist_moment catalogue m rows old new held next changes can commit =
     lists_either m.granularity catalogue m.journal old.past old new held next commit (passes_none (HoldsEither m.granularity held next) old.past (λ a left. inl (stored_left m.granularity catalogue m.journal old held can.stored.stored a left)))
 
-pub relist_made : (catalogue : JournalState) (m made : ManifestState) (rows : Shelf) (old new : Standing) (held next : Held) (changes : List Change) → CanRelist catalogue m rows old held next changes
+pub relist_made : (catalogue : JournalState) (m made : ManifestState) (rows : Shelf) (old new : DiskShown) (held next : Held) (changes : List Change) → CanRelist catalogue m rows old held next changes
     → Lists m.granularity catalogue m.journal old new held next → made.granularity ≡ m.granularity → made.journal.name ≡ m.journal.name → made.journal.sound ≡ true → made.entries ≡ all_changed m.entries changes → IsManifestKept made new → IsStoredAs catalogue made rows new next
 relist_made catalogue m made rows old new held next changes can commit same_g name sound entries kept =
     let now : made.entries ≡ map entry_of next.files = entries ∙ can.lists in
@@ -201,7 +201,7 @@ relist_made catalogue m made rows old new held next changes can commit same_g na
     record { stored = subst (λ (g : Granularity). IsStored g catalogue made.journal new next) (sym same_g) stored; of_rows = can.same_shelf ∙ can.stored.of_rows; entries = now }
 
 -- the commit took no effect
-pub relist_unmade : (catalogue : JournalState) (m made : ManifestState) (rows : Shelf) (old new : Standing) (held next : Held) (changes : List Change) → CanRelist catalogue m rows old held next changes
+pub relist_unmade : (catalogue : JournalState) (m made : ManifestState) (rows : Shelf) (old new : DiskShown) (held next : Held) (changes : List Change) → CanRelist catalogue m rows old held next changes
     → Lists m.granularity catalogue m.journal old new held next → made.granularity ≡ m.granularity → made.journal.name ≡ m.journal.name → made.journal.sound ≡ true → made.entries ≡ m.entries → IsManifestKept made new → IsStoredAs catalogue made rows new held
 relist_unmade catalogue m made rows old new held next changes can commit same_g name sound entries kept =
     let now : made.entries ≡ map entry_of held.files = entries ∙ can.stored.entries in
@@ -209,7 +209,7 @@ relist_unmade catalogue m made rows old new held next changes can commit same_g 
     let stored = lists_unmade m.granularity catalogue m.journal made.journal old new held next commit (name ∙ can.stored.stored.tier.named) sound (subst (journal.IsKept (Configured m.granularity) made.journal new) now k) in
     record { stored = subst (λ (g : Granularity). IsStored g catalogue made.journal new held) (sym same_g) stored; of_rows = can.stored.of_rows; entries = now }
 
-pub relist_doubted : (catalogue : JournalState) (m made : ManifestState) (rows : Shelf) (old new : Standing) (held next : Held) (changes : List Change) → CanRelist catalogue m rows old held next changes
+pub relist_doubted : (catalogue : JournalState) (m made : ManifestState) (rows : Shelf) (old new : DiskShown) (held next : Held) (changes : List Change) → CanRelist catalogue m rows old held next changes
     → Lists m.granularity catalogue m.journal old new held next → made.granularity ≡ m.granularity → made.journal.name ≡ m.journal.name → made.journal.sound ≡ false → (made.entries ≡ m.entries) × (made.next ≡ all_changed m.entries changes) → IsManifestUnsure made new
     → IsDoubtedAs catalogue made rows new held next
 relist_doubted catalogue m made rows old new held next changes can commit same_g name unsound entries unsure =
@@ -235,11 +235,11 @@ none_further name opened after others own n = elim (cases_lt (opened n) (after n
 ]
 
 -- whatever a commit of the manifest answers
-pub made_further : (made : ManifestState) (name : Name) (disk : Standing) (opened : Name → ℕ) → made.journal.name ≡ name → ((n : Name) → (IsOwn name n → ⊥) → disk.opened n ≡ opened n) → IsManifestKept made disk → (n : Name) → disk.opened n ≤ opened n
+pub made_further : (made : ManifestState) (name : Name) (disk : DiskShown) (opened : Name → ℕ) → made.journal.name ≡ name → ((n : Name) → (IsOwn name n → ⊥) → disk.opened n ≡ opened n) → IsManifestKept made disk → (n : Name) → disk.opened n ≤ opened n
 made_further made name disk opened is others kept =
     none_further name opened disk.opened others (λ n own. kept_unopened (Configured made.granularity) made.journal disk made.entries kept n (subst (λ (m : Name). IsOwn m n) (sym is) own))
 
-pub unsure_further : (made : ManifestState) (name : Name) (disk : Standing) (opened : Name → ℕ) → made.journal.name ≡ name → ((n : Name) → (IsOwn name n → ⊥) → disk.opened n ≡ opened n) → IsManifestUnsure made disk → (n : Name) → disk.opened n ≤ opened n
+pub unsure_further : (made : ManifestState) (name : Name) (disk : DiskShown) (opened : Name → ℕ) → made.journal.name ≡ name → ((n : Name) → (IsOwn name n → ⊥) → disk.opened n ≡ opened n) → IsManifestUnsure made disk → (n : Name) → disk.opened n ≤ opened n
 unsure_further made name disk opened is others unsure =
     none_further name opened disk.opened others (λ n own. unsure_unopened (Configured made.granularity) made.journal disk made.entries made.next unsure n (subst (λ (m : Name). IsOwn m n) (sym is) own))
 
@@ -302,7 +302,7 @@ rise_without_all files [] rise = rise
 rise_without_all files (f ∷ fs) rise = rise_without_all (without filed_at (filed_at f) files) fs (rise_without (filed_at f) files rise)
 
 -- and what a move has copied may be listed
-pub can_publish : (catalogue : JournalState) (m : ManifestState) (rows : Shelf) (disk : Standing) (held ahead : Held) (changes : List Change) → HasCopied catalogue m rows disk held ahead → all_changed m.entries changes ≡ map entry_of ahead.files
+pub can_publish : (catalogue : JournalState) (m : ManifestState) (rows : Shelf) (disk : DiskShown) (held ahead : Held) (changes : List Change) → HasCopied catalogue m rows disk held ahead → all_changed m.entries changes ≡ map entry_of ahead.files
     → CanRelist catalogue m rows disk held ahead changes
 can_publish catalogue m rows disk held ahead changes has lists = record {
   stored = has.stored;

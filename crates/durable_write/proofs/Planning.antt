@@ -1,4 +1,4 @@
--- The plan of a flush, sample by sample: where each goes, the files that it makes or lengthens, and what stays true of the pieces.
+-- The plan of a flush, sample by sample: where each goes, the files that it makes or lengthens, and what stays true of the writes.
 use Rattle.std.proofs.Common.{◌≡◌, ℕ, ◌<◌, ◌≤◌, sym, arith, refl, ◌∙◌, List, [], ◌∷◌, ◌++◌, length, subst, Some, All, ◌+◌, ap, append_assoc, true, ℤ, Bool, false, cond, ◌≢◌, inl, inr, Option, pos, negsuc, unsigned_abs, ◌-◌, ◌*◌, ◌/◌, ◌%◌, append-nil, None}
 use Rattle.partition_names.specs.declared.granularity.Granularity.{Granularity}
 use Rattle.partition_names.specs.Part.{IsPart, HoldsMoment, IsPartFrom}
@@ -7,13 +7,13 @@ use Rattle.series_model.specs.declared.sample.Sample.{Sample}
 use Rattle.pv_catalog.specs.declared.row.Row.{Row}
 use Rattle.durable_write.specs.Flush.{IsSampleOf, header_of, Grows, MakesFiles, PlacesRise, put_all, bytes_at, start_of, StartsIn, EndsRow, file_at, listed_bytes, listed_len}
 use Rattle.store_manifest.specs.declared.entry.Entry.{Entry}
-use Rattle.durable_write.specs.declared.piece.Piece.{Piece}
+use Rattle.durable_write.specs.declared.file_write.FileWrite.{FileWrite}
 use Rattle.durable_write.specs.declared.plan.Target.{Target}
 use Rattle.partition_names.specs.declared.part.Part.{Part}
 use Rattle.std.proofs.lemmas.List.Elements.{All-push, All-contains, Contains-push, All-nil, All-head, All-cons, All-from_recursion, All-filter, filter_passes}
 use Rattle.series_model.specs.Series.{end_of, end_from, RisesFrom, IsRising, over}
 use Rattle.durable_write.specs.Held.{Filed, IsFiled, bytes_of, Held, filed_at, samples_of, count_of, IsListed, AreFiled}
-use Rattle.durable_write.specs.Plan.{grown, Adds, of_row, StartBefore, IsLast, IsAppended, IsPlanned, samples_with, HoldsRow, OfLast, IsLastEntry, IsBehind, IsBegun, IsDraft, begun, Gains, EndsAt, IsLastPiece, GoesTo, side_of, IsTarget, IsInLast, IsInListed, IsPushed, IsExtended}
+use Rattle.durable_write.specs.Plan.{grown, Adds, of_row, StartBefore, IsLast, IsAppended, IsPlanned, samples_with, HoldsRow, OfLast, IsLastEntry, IsBehind, IsBegun, IsDraft, begun, Gains, EndsAt, IsLastWrite, GoesTo, side_of, IsTarget, IsInLast, IsInListed, IsPushed, IsExtended}
 use Rattle.durable_write.proofs.Places.{same_last, last_view, All-front, put_over, put_all-push, start_before, put_other, put_twice, rise_over, Comes, put_behind, rise_behind, put_all_back, count_put, put_all_other, file_of_last, no_file}
 use Rattle.arch_time.specs.YearTime.{IsSampleYear, moment, IsInYear, IsMomentYear}
 use Rattle.arch_time.proofs.YearLemmas.{sample_year, same_year_time, start_days}
@@ -199,15 +199,15 @@ filed_anew g rows series part year row s stands is_part holds starts of_row some
 
 -- PIECES AND THEIR FILES
 
--- pieces and their files have last ones together
-pub record ZipLast (R : Piece → Filed → Type 0) (ps : List Piece) (p : Piece) (fs : List Filed) : Type 0 where
+-- writes and their files have last ones together
+pub record ZipLast (R : FileWrite → Filed → Type 0) (ps : List FileWrite) (p : FileWrite) (fs : List Filed) : Type 0 where
   pub rest : List Filed
   pub last : Filed
   pub are : fs ≡ rest ++ last ∷ []
   pub each : AllZip R ps rest
   pub both : R p last
 
-pub zip_last : (R : Piece → Filed → Type 0) (ps : List Piece) (p : Piece) (fs : List Filed) → AllZip R (ps ++ p ∷ []) fs → ZipLast R ps p fs
+pub zip_last : (R : FileWrite → Filed → Type 0) (ps : List FileWrite) (p : FileWrite) (fs : List Filed) → AllZip R (ps ++ p ∷ []) fs → ZipLast R ps p fs
 zip_last R [] p [] h = absurd h
 zip_last R [] p (f ∷ []) h = record { rest = []; last = f; are = refl; each = tt; both = h.0 }
 zip_last R [] p (f ∷ k ∷ fs) h = absurd h.1
@@ -216,13 +216,13 @@ zip_last R (q ∷ ps) p (f ∷ fs) h =
     let z = zip_last R ps p fs h.1 in
     record { rest = f ∷ z.rest; last = z.last; are = ap (λ (l : List Filed). f ∷ l) z.are; each = (h.0, z.each); both = z.both }
 
-pub zip_push : (R : Piece → Filed → Type 0) (ps : List Piece) (fs : List Filed) (p : Piece) (f : Filed) → AllZip R ps fs → R p f → AllZip R (ps ++ p ∷ []) (fs ++ f ∷ [])
+pub zip_push : (R : FileWrite → Filed → Type 0) (ps : List FileWrite) (fs : List Filed) (p : FileWrite) (f : Filed) → AllZip R ps fs → R p f → AllZip R (ps ++ p ∷ []) (fs ++ f ∷ [])
 zip_push R [] [] p f h r = (r, tt)
 zip_push R [] (k ∷ fs) p f h r = absurd h
 zip_push R (q ∷ ps) [] p f h r = absurd h
 zip_push R (q ∷ ps) (k ∷ fs) p f h r = (h.0, zip_push R ps fs p f h.1 r)
 
-pub zip_none : (R : Piece → Filed → Type 0) (fs : List Filed) → AllZip R [] fs → fs ≡ []
+pub zip_none : (R : FileWrite → Filed → Type 0) (fs : List Filed) → AllZip R [] fs → fs ≡ []
 zip_none R [] h = refl
 zip_none R (f ∷ fs) h = absurd h
 
@@ -276,8 +276,8 @@ ends_of_last xs fs row f own last =
     (All-from_recursion (λ (k : Filed). k.entry.series ≡ row → k.entry.part.start ≤ n) xs (starts_all row n xs (put_all_back row (n + 1) xs fs now)))
 
 -- the files are planned where the last is the last of its row, and those before it end theirs
-pub planned : (g : Granularity) (held : Held) (pieces : List Piece) (rest : List Filed) (f : Filed) → MakesFiles g held pieces (rest ++ f ∷ []) → IsLast (put_all held.files (rest ++ f ∷ [])) f.entry.series f → All (EndsRow held.files) rest → IsPlanned g held pieces (rest ++ f ∷ [])
-planned g held pieces rest f makes last others_end = record {
+pub planned : (g : Granularity) (held : Held) (writes : List FileWrite) (rest : List Filed) (f : Filed) → MakesFiles g held writes (rest ++ f ∷ []) → IsLast (put_all held.files (rest ++ f ∷ [])) f.entry.series f → All (EndsRow held.files) rest → IsPlanned g held writes (rest ++ f ∷ [])
+planned g held writes rest f makes last others_end = record {
   ends = All-push (EndsRow held.files) rest f others_end (ends_of_last held.files (rest ++ f ∷ []) f.entry.series f refl last);
   makes = makes;
   last = λ others k are.
@@ -291,7 +291,7 @@ stands_same rows series i row is stands = let P : ℕ → Type 0 = λ k. slice_g
 
 -- A SAMPLE INTO THE LAST PIECE
 
-grows_on : (g : Granularity) (held : Held) (row : Row) (p new : Piece) (f : Filed) (s : Sample) → Grows g held p f → slice_get held.rows f.entry.series ≡ Some row → IsSampleOf row s → IsAppended s p new → f.entry.last < s.t → s.t < f.entry.part.end → Grows g held new (with_sample f s)
+grows_on : (g : Granularity) (held : Held) (row : Row) (p new : FileWrite) (f : Filed) (s : Sample) → Grows g held p f → slice_get held.rows f.entry.series ≡ Some row → IsSampleOf row s → IsAppended s p new → f.entry.last < s.t → s.t < f.entry.part.end → Grows g held new (with_sample f s)
 grows_on g held row p new f s h stands of_row appended later within =
     let old = bytes_at (filed_at f) held.files in
     let len : new.entry.len ≡ p.entry.len + (length s.line + 1) = ap (λ (e : Entry). e.len) appended.entry in
@@ -311,7 +311,7 @@ grows_on g held row p new f s h stands of_row appended later within =
           };
     }
 
-pub adds_on : (target : Target) (row : Row) (s : Sample) (ps : List Piece) (p new : Piece) → IsSampleOf row s → p.entry.series ≡ target.series → p.entry.last < s.t → s.t < p.entry.part.end → IsAppended s p new → Adds target row (s ∷ []) 1 (ps ++ p ∷ []) (ps ++ new ∷ [])
+pub adds_on : (target : Target) (row : Row) (s : Sample) (ps : List FileWrite) (p new : FileWrite) → IsSampleOf row s → p.entry.series ≡ target.series → p.entry.last < s.t → s.t < p.entry.part.end → IsAppended s p new → Adds target row (s ∷ []) 1 (ps ++ p ∷ []) (ps ++ new ∷ [])
 adds_on target row s ps p new of_type own later within appended = record {
   made = λ held has fs plan.
       let g = target.granularity in
@@ -344,13 +344,13 @@ adds_on target row s ps p new of_type own later within appended = record {
 
 -- A SAMPLE THAT IS LATE
 
-pub adds_none : (target : Target) (row : Row) (s : Sample) (pieces : List Piece) → ((held : Held) → HoldsRow target row held → (fs : List Filed) → IsPlanned target.granularity held pieces fs → IsTrue held.stands → s.t < end_of (samples_with held fs target.series)) → Adds target row (s ∷ []) 0 pieces pieces
-adds_none target row s pieces late = record {
+pub adds_none : (target : Target) (row : Row) (s : Sample) (writes : List FileWrite) → ((held : Held) → HoldsRow target row held → (fs : List Filed) → IsPlanned target.granularity held writes fs → IsTrue held.stands → s.t < end_of (samples_with held fs target.series)) → Adds target row (s ∷ []) 0 writes writes
+adds_none target row s writes late = record {
   made = λ held has fs plan.
       (fs, plan, λ is. record { own = sym (over_late (samples_with held fs target.series) s (late held has fs plan is)); others = λ r other. refl; count = omega arith });
 }
 
--- A sample of a file that had no piece: one that is listed, or one that is made anew.
+-- A sample of a file that had no write: one that is listed, or one that is made anew.
 
 -- THE LAST FILE
 
@@ -374,15 +374,15 @@ rows_before row (x ∷ fs) f rise lt =
     let low : x.entry.series ≤ f.entry.series = grind (arith, nat_tests) in
     ((λ is. omega arith), rows_before row fs f rise.1 lt)
 
--- a row behind that of the last piece has the files that it had
-row_kept : (g : Granularity) (held : Held) (row : ℕ) (pieces : List Piece) (fs : List Filed) → MakesFiles g held pieces fs → OfLast (λ p. p.entry.series < row) pieces → of_row row (put_all held.files fs) ≡ of_row row held.files
-row_kept g held row pieces fs makes low = put_all_other row held.files fs (elim (last_view pieces) [
+-- a row behind that of the last write has the files that it had
+row_kept : (g : Granularity) (held : Held) (row : ℕ) (writes : List FileWrite) (fs : List Filed) → MakesFiles g held writes fs → OfLast (λ p. p.entry.series < row) writes → of_row row (put_all held.files fs) ≡ of_row row held.files
+row_kept g held row writes fs makes low = put_all_other row held.files fs (elim (last_view writes) [
   | inl none ↦
-      let R : List Piece → Type 0 = λ l. AllZip (Grows g held) l fs in
+      let R : List FileWrite → Type 0 = λ l. AllZip (Grows g held) l fs in
       let P : List Filed → Type 0 = λ l. AllByRecursion (λ (k : Filed). row ≢ k.entry.series) l in
       subst P (sym (zip_none (Grows g held) fs (subst R none makes.each))) tt
   | inr v ↦
-      let R : List Piece → Type 0 = λ l. AllZip (Grows g held) l fs in
+      let R : List FileWrite → Type 0 = λ l. AllZip (Grows g held) l fs in
       let z = zip_last (Grows g held) v.0 v.1 fs (subst R v.2 makes.each) in
       let P : List Filed → Type 0 = λ l. PlacesRise l in
       let Q : List Filed → Type 0 = λ l. AllByRecursion (λ (k : Filed). row ≢ k.entry.series) l in
@@ -390,15 +390,15 @@ row_kept g held row pieces fs makes low = put_all_other row held.files fs (elim 
       subst Q (sym z.are) (rows_before row z.rest z.last (subst P z.are makes.apart) lt)
 ])
 
--- places that rise go on behind the last piece
-apart_behind : (g : Granularity) (held : Held) (pieces : List Piece) (fs : List Filed) (k : Filed) → MakesFiles g held pieces fs → OfLast (λ p. IsTrue (comes_before (place p.entry) (filed_at k))) pieces → PlacesRise (fs ++ k ∷ [])
-apart_behind g held pieces fs k makes before = elim (last_view pieces) [
+-- places that rise go on behind the last write
+apart_behind : (g : Granularity) (held : Held) (writes : List FileWrite) (fs : List Filed) (k : Filed) → MakesFiles g held writes fs → OfLast (λ p. IsTrue (comes_before (place p.entry) (filed_at k))) writes → PlacesRise (fs ++ k ∷ [])
+apart_behind g held writes fs k makes before = elim (last_view writes) [
   | inl none ↦
-      let R : List Piece → Type 0 = λ l. AllZip (Grows g held) l fs in
+      let R : List FileWrite → Type 0 = λ l. AllZip (Grows g held) l fs in
       let P : List Filed → Type 0 = λ l. PlacesRise (l ++ k ∷ []) in
       subst P (sym (zip_none (Grows g held) fs (subst R none makes.each))) (All-nil (Comes k), tt)
   | inr v ↦
-      let R : List Piece → Type 0 = λ l. AllZip (Grows g held) l fs in
+      let R : List FileWrite → Type 0 = λ l. AllZip (Grows g held) l fs in
       let z = zip_last (Grows g held) v.0 v.1 fs (subst R v.2 makes.each) in
       let P : List Filed → Type 0 = λ l. PlacesRise l in
       let Q : List Filed → Type 0 = λ l. PlacesRise (l ++ k ∷ []) in
@@ -428,33 +428,33 @@ listed_ends g held row files (Some e) ends filed same = record {
   filed = λ is. last_filed (IsFiled g held.rows) held.files row ends.0 ends.1 (filed.filed is);
 }
 
-row_ends : (target : Target) (row : Row) (held : Held) (pieces : List Piece) (fs : List Filed) (last : Option Entry) → HoldsRow target row held → IsPlanned target.granularity held pieces fs → IsLastEntry target pieces last → RowEnds target.granularity held target.series (put_all held.files fs) last
-row_ends target row held pieces fs last has plan (inl v) =
+row_ends : (target : Target) (row : Row) (held : Held) (writes : List FileWrite) (fs : List Filed) (last : Option Entry) → HoldsRow target row held → IsPlanned target.granularity held writes fs → IsLastEntry target writes last → RowEnds target.granularity held target.series (put_all held.files fs) last
+row_ends target row held writes fs last has plan (inl v) =
     let g = target.granularity in
-    let R : List Piece → Type 0 = λ l. AllZip (Grows g held) l fs in
+    let R : List FileWrite → Type 0 = λ l. AllZip (Grows g held) l fs in
     let z = zip_last (Grows g held) v.0 v.1 fs (subst R v.2 plan.makes.each) in
     let series : z.last.entry.series ≡ target.series = ap (λ (e : Entry). e.series) (sym z.both.entry) ∙ v.3 in
     let Q : ℕ → Type 0 = λ r. IsLast (put_all held.files fs) r z.last in
     let end : IsRowEnd g held target.series (put_all held.files fs) v.1.entry = record { file = z.last; last = subst Q series (plan.last z.rest z.last z.are); entry = sym z.both.entry; filed = λ is. (z.both.own is).filed } in
     let P : Option Entry → Type 0 = λ o. RowEnds g held target.series (put_all held.files fs) o in
     subst P (sym v.4) end
-row_ends target row held pieces fs last has plan (inr v) =
+row_ends target row held writes fs last has plan (inr v) =
     let g = target.granularity in
     let P : Option Entry → Type 0 = λ o. RowEnds g held target.series (put_all held.files fs) o in
-    subst P (sym v.1) (listed_ends g held target.series (put_all held.files fs) target.listed has.ends has.filed (row_kept g held target.series pieces fs plan.makes v.0))
+    subst P (sym v.1) (listed_ends g held target.series (put_all held.files fs) target.listed has.ends has.filed (row_kept g held target.series writes fs plan.makes v.0))
 
 -- a sample that isn't later than the row's last adds nothing
-pub adds_late : (target : Target) (row : Row) (s : Sample) (pieces : List Piece) (e : Entry) → IsLastEntry target pieces (Some e) → s.t ≤ e.last → Adds target row (s ∷ []) 0 pieces pieces
-adds_late target row s pieces e is late = adds_none target row s pieces (λ held has fs plan is_so.
-    let end = row_ends target row held pieces fs (Some e) has plan is in
+pub adds_late : (target : Target) (row : Row) (s : Sample) (writes : List FileWrite) (e : Entry) → IsLastEntry target writes (Some e) → s.t ≤ e.last → Adds target row (s ∷ []) 0 writes writes
+adds_late target row s writes e is late = adds_none target row s writes (λ held has fs plan is_so.
+    let end = row_ends target row held writes fs (Some e) has plan is in
     let at = ends_at (put_all held.files fs) target.series end.file target.granularity held.rows end.last (end.filed is_so) in
     let same = ap (λ (x : Entry). x.last) end.entry in
     omega arith)
 
 -- A PIECE MORE
 
--- the file that a new piece makes
-pub record IsAddedFile (target : Target) (held : Held) (fs : List Filed) (s : Sample) (new : Piece) : Type 0 where
+-- the file that a new write makes
+pub record IsAddedFile (target : Target) (held : Held) (fs : List Filed) (s : Sample) (new : FileWrite) : Type 0 where
   pub file : Filed
   pub own : file.entry.series ≡ target.series
   pub grows : Grows target.granularity held new file
@@ -465,8 +465,8 @@ pub record IsAddedFile (target : Target) (held : Held) (fs : List Filed) (s : Sa
   pub samples : of_files earlier ++ file.samples ≡ samples_with held fs target.series ++ s ∷ []
   pub later : IsTrue held.stands → end_of (samples_with held fs target.series) ≤ s.t
 
-adds_push : (target : Target) (row : Row) (s : Sample) (pieces : List Piece) (new : Piece) → ((held : Held) → HoldsRow target row held → (fs : List Filed) → IsPlanned target.granularity held pieces fs → IsAddedFile target held fs s new) → Adds target row (s ∷ []) 1 pieces (pieces ++ new ∷ [])
-adds_push target row s pieces new pushed = record {
+adds_push : (target : Target) (row : Row) (s : Sample) (writes : List FileWrite) (new : FileWrite) → ((held : Held) → HoldsRow target row held → (fs : List Filed) → IsPlanned target.granularity held writes fs → IsAddedFile target held fs s new) → Adds target row (s ∷ []) 1 writes (writes ++ new ∷ [])
+adds_push target row s writes new pushed = record {
   made = λ held has fs plan.
       let g = target.granularity in
       let h = pushed held has fs plan in
@@ -475,14 +475,14 @@ adds_push target row s pieces new pushed = record {
       let put_more : put_all held.files (fs ++ f ∷ []) ≡ put filed_at f cur = put_all-push held.files fs f in
       let R : ℕ → Type 0 = λ r. of_row r (put_all held.files (fs ++ f ∷ [])) ≡ h.earlier ++ f ∷ [] in
       let last : IsLast (put_all held.files (fs ++ f ∷ [])) f.entry.series f = record { earlier = h.earlier; are = subst R (sym h.own) (ap (of_row target.series) put_more ∙ h.are); before = h.before } in
-      let makes : MakesFiles g held (pieces ++ new ∷ []) (fs ++ f ∷ []) = record { each = zip_push (Grows g held) pieces fs new f plan.makes.each h.grows; apart = h.apart } in
-      (fs ++ f ∷ [], planned g held (pieces ++ new ∷ []) fs f makes last plan.ends, λ is. gains held target.series s fs (fs ++ f ∷ []) f put_more h.own (of_last (put filed_at f cur) target.series h.earlier f h.are ∙ h.samples) (h.later is));
+      let makes : MakesFiles g held (writes ++ new ∷ []) (fs ++ f ∷ []) = record { each = zip_push (Grows g held) writes fs new f plan.makes.each h.grows; apart = h.apart } in
+      (fs ++ f ∷ [], planned g held (writes ++ new ∷ []) fs f makes last plan.ends, λ is. gains held target.series s fs (fs ++ f ∷ []) f put_more h.own (of_last (put filed_at f cur) target.series h.earlier f h.are ∙ h.samples) (h.later is));
 }
 
 -- A LISTED FILE GOES ON
 
-pub adds_listed : (target : Target) (row : Row) (s : Sample) (pieces : List Piece) (e : Entry) (start new : Piece) → target.listed ≡ Some e → OfLast (λ p. p.entry.series < target.series) pieces → IsSampleOf row s → e.last < s.t → s.t < e.part.end → start.entry ≡ e → start.at ≡ Some e.len → start.bytes.items ≡ [] → IsAppended s start new → Adds target row (s ∷ []) 1 pieces (pieces ++ new ∷ [])
-adds_listed target row s pieces e start new listed low of_type later within entry at none appended = adds_push target row s pieces new (λ held has fs plan.
+pub adds_listed : (target : Target) (row : Row) (s : Sample) (writes : List FileWrite) (e : Entry) (start new : FileWrite) → target.listed ≡ Some e → OfLast (λ p. p.entry.series < target.series) writes → IsSampleOf row s → e.last < s.t → s.t < e.part.end → start.entry ≡ e → start.at ≡ Some e.len → start.bytes.items ≡ [] → IsAppended s start new → Adds target row (s ∷ []) 1 writes (writes ++ new ∷ [])
+adds_listed target row s writes e start new listed low of_type later within entry at none appended = adds_push target row s writes new (λ held has fs plan.
     let g = target.granularity in
     let cur = put_all held.files fs in
     let E : Option Entry → Type 0 = λ o. EndsAt held.files target.series o in
@@ -490,7 +490,7 @@ adds_listed target row s pieces e start new listed low of_type later within entr
     let h = ends.0 in
     let k = with_sample h s in
     let series : h.entry.series ≡ target.series = last_own held.files target.series h ends.1 in
-    let kept = row_kept g held target.series pieces fs plan.makes low in
+    let kept = row_kept g held target.series writes fs plan.makes low in
     let are = kept ∙ ends.1.are in
     let last : IsLast cur target.series h = record { earlier = ends.1.earlier; are = are; before = ends.1.before } in
     let listed_h : IsListed g held.rows h = last_filed (IsListed g held.rows) held.files target.series h ends.1 has.filed.listed in
@@ -517,7 +517,7 @@ adds_listed target row s pieces e start new listed low of_type later within entr
           anew = λ empty. let no : ◌≡◌ {A = Option Filed} (Some h) None = sym found ∙ empty in absurd (cc (no));
         };
       };
-      apart = apart_behind g held pieces fs k plan.makes (λ rest p is. let lt : p.entry.series < target.series = low rest p is in grind (arith, nat_tests, series));
+      apart = apart_behind g held writes fs k plan.makes (λ rest p is. let lt : p.entry.series < target.series = low rest p is in grind (arith, nat_tests, series));
       earlier = ends.1.earlier;
       are = put_over target.series k h cur ends.1.earlier series refl are ends.1.before;
       before = ends.1.before;
@@ -538,15 +538,15 @@ later_part g p q t a b behind holds = elim (cases_lt p.start q.start) [
       absurd (omega (arith, holds))
 ]
 
--- the last piece comes before a partition behind the row's last entry
-pieces_before : (target : Target) (pieces : List Piece) (part : Part) (t : ℕ) → IsBehind target pieces t → IsPart target.granularity part → HoldsMoment part t → OfLast (λ p. IsTrue (comes_before (place p.entry) (target.series, part.start))) pieces
-pieces_before target pieces part t behind is_part holds rest p is = elim behind.is_last [
+-- the last write comes before a partition behind the row's last entry
+writes_before : (target : Target) (writes : List FileWrite) (part : Part) (t : ℕ) → IsBehind target writes t → IsPart target.granularity part → HoldsMoment part t → OfLast (λ p. IsTrue (comes_before (place p.entry) (target.series, part.start))) writes
+writes_before target writes part t behind is_part holds rest p is = elim behind.is_last [
   | inl v ↦
       let last : v.1 ≡ p = (same_last v.0 rest v.1 p (sym v.2 ∙ is)).1 in
       let P : Option Entry → Type 0 = λ o. IfSome o (λ (e : Entry). IsPart target.granularity e.part × (e.last < t) × (e.part.end ≤ t)) in
       let known = subst P v.4 behind.later in
       let start = later_part target.granularity v.1.entry.part part t known.0 is_part known.2 holds in
-      let C : Piece → Type 0 = λ q. IsTrue (comes_before (place q.entry) (target.series, part.start)) in
+      let C : FileWrite → Type 0 = λ q. IsTrue (comes_before (place q.entry) (target.series, part.start)) in
       let own = v.3 in
       let before : C v.1 = grind (arith, nat_tests, own, start) in
       subst C last before
@@ -575,14 +575,14 @@ free_behind g held row fs part t (Some e) end known is_part holds =
       later = λ is. let at = ends_at cur row f g held.rows end.last (end.filed is) in omega (arith, known, at);
     }
 
-pub adds_anew : (target : Target) (row : Row) (s : Sample) (pieces : List Piece) (start new : Piece) → IsBehind target pieces s.t → IsSampleOf row s → IsBegun target row s.t start → IsAppended s start new → Adds target row (s ∷ []) 1 pieces (pieces ++ new ∷ [])
-adds_anew target row s pieces start new behind of_type begins appended = adds_push target row s pieces new (λ held has fs plan.
+pub adds_anew : (target : Target) (row : Row) (s : Sample) (writes : List FileWrite) (start new : FileWrite) → IsBehind target writes s.t → IsSampleOf row s → IsBegun target row s.t start → IsAppended s start new → Adds target row (s ∷ []) 1 writes (writes ++ new ∷ [])
+adds_anew target row s writes start new behind of_type begins appended = adds_push target row s writes new (λ held has fs plan.
     let g = target.granularity in
     let cur = put_all held.files fs in
     let part = begins.part in
     let head = escaped (info_text (header_of row begins.year)) in
     let k = new_file target.series part head s in
-    let end = row_ends target row held pieces fs behind.last has plan behind.is_last in
+    let end = row_ends target row held writes fs behind.last has plan behind.is_last in
     let free = free_behind g held target.series fs part s.t behind.last end behind.later begins.is_part begins.holds in
     let empty : file_at (filed_at k) held.files ≡ None = no_file (target.series, part.start) held.files (put_all_back target.series part.start held.files fs free.starts) in
     let line : new.bytes.items ≡ (head ++ 10 ∷ []) ++ line_of s = appended.bytes ∙ ap (λ (l : List ℕ). l ++ line_of s) begins.bytes in
@@ -604,7 +604,7 @@ adds_anew target row s pieces start new behind of_type begins appended = adds_pu
           anew = λ none. record { row = row; year = begins.year; stands = has.stands; starts = begins.starts; head = refl };
         };
       };
-      apart = apart_behind g held pieces fs k plan.makes (pieces_before target pieces part s.t behind begins.is_part begins.holds);
+      apart = apart_behind g held writes fs k plan.makes (writes_before target writes part s.t behind begins.is_part begins.holds);
       earlier = of_row target.series cur;
       are = put_behind target.series k cur refl free.starts;
       before = free.starts;
@@ -612,7 +612,7 @@ adds_anew target row s pieces start new behind of_type begins appended = adds_pu
       later = free.later;
     })
 
--- Where a sample goes, and what stays true of the pieces.
+-- Where a sample goes, and what stays true of the writes.
 
 -- the three sides of a moment
 by_side : (e : Entry) (t : ℕ) (inside : Destination) (P : Destination → Type 0) → (t ≤ e.last → P Late) → (e.last < t → t < e.part.end → P inside) → (e.last < t → e.part.end ≤ t → P New) → P (side_of e t inside)
@@ -623,96 +623,96 @@ by_side e t inside P late within behind = by_tests (nat_le t e.last) (nat_lt t e
     by_tests false true is is₂ = within (leb-false t e.last is) (ltb-true t e.part.end is₂)
     by_tests false false is is₂ = behind (leb-false t e.last is) (ltb-false t e.part.end is₂)
 
-pub goes_by_last : (target : Target) (pieces : List Piece) (t : ℕ) (p : Piece) → IsDraft target.granularity target.series pieces → IsLastPiece pieces target.series p → GoesTo target pieces t (side_of p.entry t Open)
-goes_by_last target pieces t p draft is =
-    let last : IsLastEntry target pieces (Some p.entry) = inl (is.0.0, p, is.0.1, is.1, refl) in
-    let Part : Piece → Type 0 = λ q. IsPart target.granularity q.entry.part in
-    let P : List Piece → Type 0 = λ l. All Part l in
+pub goes_by_last : (target : Target) (writes : List FileWrite) (t : ℕ) (p : FileWrite) → IsDraft target.granularity target.series writes → IsLastWrite writes target.series p → GoesTo target writes t (side_of p.entry t Open)
+goes_by_last target writes t p draft is =
+    let last : IsLastEntry target writes (Some p.entry) = inl (is.0.0, p, is.0.1, is.1, refl) in
+    let Part : FileWrite → Type 0 = λ q. IsPart target.granularity q.entry.part in
+    let P : List FileWrite → Type 0 = λ l. All Part l in
     let part : Part p = All-contains Part (is.0.0 ++ p ∷ []) p (subst P is.0.1 draft.parts) (Contains-push is.0.0 p) in
-    by_side p.entry t Open (GoesTo target pieces t)
+    by_side p.entry t Open (GoesTo target writes t)
     (λ late. (p.entry, last, late))
-    (λ later within. record { rest = is.0.0; piece = p; are = is.0.1; own = is.1; later = later; within = within })
+    (λ later within. record { rest = is.0.0; write = p; are = is.0.1; own = is.1; later = later; within = within })
     (λ later behind. record { last = Some p.entry; is_last = last; later = (part, later, behind) })
 
-pub goes_by_listed : (target : Target) (pieces : List Piece) (t : ℕ) (e : Entry) → IsDraft target.granularity target.series pieces → OfLast (λ p. p.entry.series ≢ target.series) pieces → target.listed ≡ Some e → IsPart target.granularity e.part → GoesTo target pieces t (side_of e t (Listed e))
-goes_by_listed target pieces t e draft other listed part =
-    let Own : Piece → Type 0 = λ q. q.entry.series ≤ target.series in
-    let All_own : List Piece → Type 0 = λ l. All Own l in
-    let below : OfLast (λ p. p.entry.series < target.series) pieces = λ rest p is. let le : p.entry.series ≤ target.series = All-contains Own (rest ++ p ∷ []) p (subst All_own is draft.rows) (Contains-push rest p) in let ne : p.entry.series ≢ target.series = other rest p is in omega arith in
-    let last : IsLastEntry target pieces (Some e) = inr (below, sym listed) in
-    by_side e t (Listed e) (GoesTo target pieces t)
+pub goes_by_listed : (target : Target) (writes : List FileWrite) (t : ℕ) (e : Entry) → IsDraft target.granularity target.series writes → OfLast (λ p. p.entry.series ≢ target.series) writes → target.listed ≡ Some e → IsPart target.granularity e.part → GoesTo target writes t (side_of e t (Listed e))
+goes_by_listed target writes t e draft other listed part =
+    let Own : FileWrite → Type 0 = λ q. q.entry.series ≤ target.series in
+    let All_own : List FileWrite → Type 0 = λ l. All Own l in
+    let below : OfLast (λ p. p.entry.series < target.series) writes = λ rest p is. let le : p.entry.series ≤ target.series = All-contains Own (rest ++ p ∷ []) p (subst All_own is draft.rows) (Contains-push rest p) in let ne : p.entry.series ≢ target.series = other rest p is in omega arith in
+    let last : IsLastEntry target writes (Some e) = inr (below, sym listed) in
+    by_side e t (Listed e) (GoesTo target writes t)
     (λ late. (e, last, late))
     (λ later within. record { listed = listed; none = below; later = later; within = within })
     (λ later behind. record { last = Some e; is_last = last; later = (part, later, behind) })
 
-pub draft_more : (g : Granularity) (row : ℕ) (pieces : List Piece) (p : Piece) → All (λ (q : Piece). IsPart g q.entry.part) pieces → All (λ (q : Piece). q.entry.series ≤ row) pieces → length pieces < 21_913_098 → IsPart g p.entry.part → p.entry.series ≤ row → IsDraft g row (pieces ++ p ∷ [])
-draft_more g row pieces p parts rows room part own = record {
-  parts = All-push (λ (q : Piece). IsPart g q.entry.part) pieces p parts part;
-  few = omega (arith, length-append pieces (p ∷ []));
-  rows = All-push (λ (q : Piece). q.entry.series ≤ row) pieces p rows own;
+pub draft_more : (g : Granularity) (row : ℕ) (writes : List FileWrite) (p : FileWrite) → All (λ (q : FileWrite). IsPart g q.entry.part) writes → All (λ (q : FileWrite). q.entry.series ≤ row) writes → length writes < 21_913_098 → IsPart g p.entry.part → p.entry.series ≤ row → IsDraft g row (writes ++ p ∷ [])
+draft_more g row writes p parts rows room part own = record {
+  parts = All-push (λ (q : FileWrite). IsPart g q.entry.part) writes p parts part;
+  few = omega (arith, length-append writes (p ∷ []));
+  rows = All-push (λ (q : FileWrite). q.entry.series ≤ row) writes p rows own;
 }
 
--- A sample in its place: what the plan gains, and what stays true of the pieces.
+-- A sample in its place: what the plan gains, and what stays true of the writes.
 
-abbrev HasPart : Granularity → Piece → Type 0
+abbrev HasPart : Granularity → FileWrite → Type 0
 HasPart g p = IsPart g p.entry.part
 
-abbrev IsUpTo : ℕ → Piece → Type 0
+abbrev IsUpTo : ℕ → FileWrite → Type 0
 IsUpTo row p = p.entry.series ≤ row
 
 -- IN THE LAST PIECE
 
-pub extended_draft : (target : Target) (s : Sample) (pieces new : List Piece) → IsDraft target.granularity target.series pieces → IsInLast target pieces s.t → IsExtended s pieces new → IsDraft target.granularity target.series new
-extended_draft target s pieces new draft is ext =
+pub extended_draft : (target : Target) (s : Sample) (writes new : List FileWrite) → IsDraft target.granularity target.series writes → IsInLast target writes s.t → IsExtended s writes new → IsDraft target.granularity target.series new
+extended_draft target s writes new draft is ext =
     let g = target.granularity in
-    let P : List Piece → Type 0 = λ l. All (HasPart g) l in
-    let D : List Piece → Type 0 = λ l. IsDraft g target.series l in
-    let R : List Piece → Type 0 = λ l. All (IsUpTo target.series) l in
+    let P : List FileWrite → Type 0 = λ l. All (HasPart g) l in
+    let D : List FileWrite → Type 0 = λ l. IsDraft g target.series l in
+    let R : List FileWrite → Type 0 = λ l. All (IsUpTo target.series) l in
     let parts = subst P ext.are draft.parts in
     let rows = subst R ext.are draft.rows in
-    let same : is.piece ≡ ext.start = (same_last is.rest ext.rest is.piece ext.start (sym is.are ∙ ext.are)).1 in
-    let series : ext.piece.entry.series ≡ target.series = ap (λ (e : Entry). e.series) ext.appended.entry ∙ (ap (λ (p : Piece). p.entry.series) (sym same) ∙ is.own) in
+    let same : is.write ≡ ext.start = (same_last is.rest ext.rest is.write ext.start (sym is.are ∙ ext.are)).1 in
+    let series : ext.write.entry.series ≡ target.series = ap (λ (e : Entry). e.series) ext.appended.entry ∙ (ap (λ (p : FileWrite). p.entry.series) (sym same) ∙ is.own) in
     let Q : Entry → Type 0 = λ e. IsPart g e.part in
-    let part : HasPart g ext.piece = subst Q (sym ext.appended.entry) (All-contains (HasPart g) (ext.rest ++ ext.start ∷ []) ext.start parts (Contains-push ext.rest ext.start)) in
-    subst D (sym ext.becomes) (draft_more g target.series ext.rest ext.piece (All-front (HasPart g) ext.rest (ext.start ∷ []) parts) (All-front (IsUpTo target.series) ext.rest (ext.start ∷ []) rows) (let few = draft.few in omega (arith, ap length ext.are, length-append ext.rest (ext.start ∷ []))) part (omega arith))
+    let part : HasPart g ext.write = subst Q (sym ext.appended.entry) (All-contains (HasPart g) (ext.rest ++ ext.start ∷ []) ext.start parts (Contains-push ext.rest ext.start)) in
+    subst D (sym ext.becomes) (draft_more g target.series ext.rest ext.write (All-front (HasPart g) ext.rest (ext.start ∷ []) parts) (All-front (IsUpTo target.series) ext.rest (ext.start ∷ []) rows) (let few = draft.few in omega (arith, ap length ext.are, length-append ext.rest (ext.start ∷ []))) part (omega arith))
 
-pub extended_adds : (target : Target) (row : Row) (s : Sample) (pieces new : List Piece) → IsSampleOf row s → IsInLast target pieces s.t → IsExtended s pieces new → Adds target row (s ∷ []) 1 pieces new
-extended_adds target row s pieces new of_row is ext =
-    let same : is.piece ≡ ext.start = (same_last is.rest ext.rest is.piece ext.start (sym is.are ∙ ext.are)).1 in
-    let P : Piece → Type 0 = λ p. (p.entry.series ≡ target.series) × (p.entry.last < s.t) × (s.t < p.entry.part.end) in
+pub extended_adds : (target : Target) (row : Row) (s : Sample) (writes new : List FileWrite) → IsSampleOf row s → IsInLast target writes s.t → IsExtended s writes new → Adds target row (s ∷ []) 1 writes new
+extended_adds target row s writes new of_row is ext =
+    let same : is.write ≡ ext.start = (same_last is.rest ext.rest is.write ext.start (sym is.are ∙ ext.are)).1 in
+    let P : FileWrite → Type 0 = λ p. (p.entry.series ≡ target.series) × (p.entry.last < s.t) × (s.t < p.entry.part.end) in
     let known = subst P same (is.own, is.later, is.within) in
-    let A : List Piece → List Piece → Type 0 = λ a b. Adds target row (s ∷ []) 1 a b in
-    let step = adds_on target row s ext.rest ext.start ext.piece of_row known.0 known.1 known.2 ext.appended in
-    subst (λ (a : List Piece). A a new) (sym ext.are) (subst (A (ext.rest ++ ext.start ∷ [])) (sym ext.becomes) step)
+    let A : List FileWrite → List FileWrite → Type 0 = λ a b. Adds target row (s ∷ []) 1 a b in
+    let step = adds_on target row s ext.rest ext.start ext.write of_row known.0 known.1 known.2 ext.appended in
+    subst (λ (a : List FileWrite). A a new) (sym ext.are) (subst (A (ext.rest ++ ext.start ∷ [])) (sym ext.becomes) step)
 
 -- IN A PIECE OF ITS OWN
 
-pushed_draft : (target : Target) (s : Sample) (start : Piece) (pieces new : List Piece) → IsDraft target.granularity target.series pieces → IsPart target.granularity start.entry.part → start.entry.series ≤ target.series → IsPushed s start pieces new → IsDraft target.granularity target.series new
-pushed_draft target s start pieces new draft part own push =
-    let D : List Piece → Type 0 = λ l. IsDraft target.granularity target.series l in
+pushed_draft : (target : Target) (s : Sample) (start : FileWrite) (writes new : List FileWrite) → IsDraft target.granularity target.series writes → IsPart target.granularity start.entry.part → start.entry.series ≤ target.series → IsPushed s start writes new → IsDraft target.granularity target.series new
+pushed_draft target s start writes new draft part own push =
+    let D : List FileWrite → Type 0 = λ l. IsDraft target.granularity target.series l in
     let P : Entry → Type 0 = λ e. IsPart target.granularity e.part × (e.series ≤ target.series) in
     let known = subst P (sym push.appended.entry) (part, own) in
-    subst D (sym push.are) (draft_more target.granularity target.series pieces push.piece draft.parts draft.rows push.room known.0 known.1)
+    subst D (sym push.are) (draft_more target.granularity target.series writes push.write draft.parts draft.rows push.room known.0 known.1)
 
 -- of a listed file
-pub listed_draft : (target : Target) (s : Sample) (e : Entry) (start : Piece) (pieces new : List Piece) → IsDraft target.granularity target.series pieces → IsTarget target → IsInListed target pieces s.t e → start.entry ≡ e → IsPushed s start pieces new → IsDraft target.granularity target.series new
-listed_draft target s e start pieces new draft listed is entry push =
+pub listed_draft : (target : Target) (s : Sample) (e : Entry) (start : FileWrite) (writes new : List FileWrite) → IsDraft target.granularity target.series writes → IsTarget target → IsInListed target writes s.t e → start.entry ≡ e → IsPushed s start writes new → IsDraft target.granularity target.series new
+listed_draft target s e start writes new draft listed is entry push =
     let P : Option Entry → Type 0 = λ o. IfSome o (λ (x : Entry). IsPart target.granularity x.part × (x.series ≡ target.series)) in
     let Q : Entry → Type 0 = λ x. IsPart target.granularity x.part × (x.series ≡ target.series) in
     let known = subst Q (sym entry) (subst P is.listed listed) in
-    pushed_draft target s start pieces new draft known.0 (omega (arith, known)) push
+    pushed_draft target s start writes new draft known.0 (omega (arith, known)) push
 
-pub listed_adds : (target : Target) (row : Row) (s : Sample) (e : Entry) (start : Piece) (pieces new : List Piece) → IsSampleOf row s → IsInListed target pieces s.t e → start.entry ≡ e → start.at ≡ Some e.len → start.bytes.items ≡ [] → IsPushed s start pieces new → Adds target row (s ∷ []) 1 pieces new
-listed_adds target row s e start pieces new of_row is entry at none push =
-    subst (λ (b : List Piece). Adds target row (s ∷ []) 1 pieces b) (sym push.are) (adds_listed target row s pieces e start push.piece is.listed is.none of_row is.later is.within entry at none push.appended)
+pub listed_adds : (target : Target) (row : Row) (s : Sample) (e : Entry) (start : FileWrite) (writes new : List FileWrite) → IsSampleOf row s → IsInListed target writes s.t e → start.entry ≡ e → start.at ≡ Some e.len → start.bytes.items ≡ [] → IsPushed s start writes new → Adds target row (s ∷ []) 1 writes new
+listed_adds target row s e start writes new of_row is entry at none push =
+    subst (λ (b : List FileWrite). Adds target row (s ∷ []) 1 writes b) (sym push.are) (adds_listed target row s writes e start push.write is.listed is.none of_row is.later is.within entry at none push.appended)
 
 -- made anew
-pub begun_draft : (target : Target) (row : Row) (s : Sample) (start : Piece) (pieces new : List Piece) → IsDraft target.granularity target.series pieces → IsBegun target row s.t start → IsPushed s start pieces new → IsDraft target.granularity target.series new
-begun_draft target row s start pieces new draft is push =
+pub begun_draft : (target : Target) (row : Row) (s : Sample) (start : FileWrite) (writes new : List FileWrite) → IsDraft target.granularity target.series writes → IsBegun target row s.t start → IsPushed s start writes new → IsDraft target.granularity target.series new
+begun_draft target row s start writes new draft is push =
     let P : Entry → Type 0 = λ e. IsPart target.granularity e.part × (e.series ≤ target.series) in
     let known = subst P (sym is.entry) (is.is_part, omega arith) in
-    pushed_draft target s start pieces new draft known.0 known.1 push
+    pushed_draft target s start writes new draft known.0 known.1 push
 
-pub begun_adds : (target : Target) (row : Row) (s : Sample) (start : Piece) (pieces new : List Piece) → IsSampleOf row s → IsBehind target pieces s.t → IsBegun target row s.t start → IsPushed s start pieces new → Adds target row (s ∷ []) 1 pieces new
-begun_adds target row s start pieces new of_row behind is push =
-    subst (λ (b : List Piece). Adds target row (s ∷ []) 1 pieces b) (sym push.are) (adds_anew target row s pieces start push.piece behind of_row is push.appended)
+pub begun_adds : (target : Target) (row : Row) (s : Sample) (start : FileWrite) (writes new : List FileWrite) → IsSampleOf row s → IsBehind target writes s.t → IsBegun target row s.t start → IsPushed s start writes new → Adds target row (s ∷ []) 1 writes new
+begun_adds target row s start writes new of_row behind is push =
+    subst (λ (b : List FileWrite). Adds target row (s ∷ []) 1 writes b) (sym push.are) (adds_anew target row s writes start push.write behind of_row is push.appended)

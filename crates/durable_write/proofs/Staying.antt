@@ -24,7 +24,7 @@ use Rattle.store_files.proofs.Stays.{keeps_shorter}
 use Rattle.store_manifest.specs.Entries.{Place}
 use Rattle.std.specs.Prelude.{All, Contains, slice_set, IsTrue}
 use Rattle.gate_journal.specs.Kept.{Says}
-use Rattle.gate_journal.specs.Standing.{Standing}
+use Rattle.gate_journal.specs.DiskShown.{DiskShown}
 use Rattle.durable_write.specs.Three.{Anything}
 use Rattle.gate_journal.proofs.Keeping.{kept_stays, unsure_stays, kept_left, says_stays, one_value}
 use Rattle.std.proofs.lemmas.Bool.{cases_eq, cases_lt}
@@ -43,7 +43,7 @@ use Rattle.pv_catalog.proofs.Meaning.{one_meaning}
 use Rattle.store_manifest.proofs.Meaning.{one_fold}
 use Rattle.disk_model.specs.declared.disk.DiskErr.{DiskErr}
 use Rattle.disk_model.specs.declared.disk.DiskErr.TheVariants.{Fault, Memory}
-use Rattle.durable_write.specs.declared.piece.Piece.{Piece}
+use Rattle.durable_write.specs.declared.file_write.FileWrite.{FileWrite}
 pub use Rattle.disk_model.proofs.Each.{same_then}
 pub use Rattle.durable_write.specs.Revival.{having}
 
@@ -107,7 +107,7 @@ pub record Untouched (R : Files → Files → Type 0) (journal : JournalState) (
   pub same : (n : Name) → IsOwn journal.name n → later n ≡ files n
   pub fewer : (n : Name) → IsOwn journal.name n → after n ≤ opened n
 
-module _ (R : Files → Files → Type 0) (journal : JournalState) (old new : Standing) (passes : Passes R old.past new.past) (beside : Untouched R journal old.files new.files old.opened new.opened) where
+module _ (R : Files → Files → Type 0) (journal : JournalState) (old new : DiskShown) (passes : Passes R old.past new.past) (beside : Untouched R journal old.files new.files old.opened new.opened) where
   pub catalogue_stays : (rows : List Row) → CatalogueStored journal old rows → CatalogueStored journal new rows
   catalogue_stays rows stored = record {
     named = stored.named;
@@ -193,7 +193,7 @@ in_grows g held later image keeps filed all stands k d lt =
     let f : Filed = get_or held.files k d in
     subst (λ (n : Name). Begins (bytes_of f) (image n)) (sym (file_grows g held.store held.rows later f keeps (filed.listed k d lt))) (all stands k d lt)
 
-pub safe_grows : (g : Granularity) (held : Held) (later : List Row) (disk : Standing) → KeepsRows held.rows later → AreFiled g held → AreSafe held disk → AreSafe (with_rows held later) disk
+pub safe_grows : (g : Granularity) (held : Held) (later : List Row) (disk : DiskShown) → KeepsRows held.rows later → AreFiled g held → AreSafe held disk → AreSafe (with_rows held later) disk
 safe_grows g held later disk keeps filed safe = record {
   long = λ k d lt.
       let f : Filed = get_or held.files k d in
@@ -368,7 +368,7 @@ pub still_unopened : (held : Held) (opened after : Name → ℕ) → ((n : Name)
 still_unopened held opened after fewer was k d lt = let le = was k d lt in omega (arith, le, fewer (file_of (shelf_of held) (get_or held.files k d).entry))
 
 -- calls that keep a relation between images keep files safe where it keeps them there
-pub safe_stays : (held : Held) (R : Files → Files → Type 0) (old new : Standing) → AreSafe held old → Passes R old.past new.past
+pub safe_stays : (held : Held) (R : Files → Files → Type 0) (old new : DiskShown) → AreSafe held old → Passes R old.past new.past
     → ((a c : Files) → R a c → AreIn held a → AreIn held c) → AreLong held new.files → ((n : Name) → new.opened n ≤ old.opened n) → AreSafe held new
 safe_stays held R old new safe passes stays long fewer = record {
   long = long;
@@ -377,7 +377,7 @@ safe_stays held R old new safe passes stays long fewer = record {
       let come = passes.each new.past.now image passes.later (omega arith) left in stays come.0 image come.2 (safe.left come.0 come.1);
 }
 
-pub still_safe : (g : Granularity) (rows : Shelf) (old new : Standing) (held : Held) → IsSafe g rows old held → Passes (Behind held) old.past new.past → AreLong held new.files → ((n : Name) → new.opened n ≤ old.opened n) → IsSafe g rows new held
+pub still_safe : (g : Granularity) (rows : Shelf) (old new : DiskShown) (held : Held) → IsSafe g rows old held → Passes (Behind held) old.past new.past → AreLong held new.files → ((n : Name) → new.opened n ≤ old.opened n) → IsSafe g rows new held
 still_safe g rows old new held safe passes long fewer = record {
   of_rows = safe.of_rows;
   valid = safe.valid;
@@ -385,7 +385,7 @@ still_safe g rows old new held safe passes long fewer = record {
 }
 
 -- files that are safe, and others beside them
-pub safe_both : (held : Held) (fs : List Filed) (disk : Standing) → AreSafe held disk → AreSafe (having held fs) disk → AreSafe (with_files held fs) disk
+pub safe_both : (held : Held) (fs : List Filed) (disk : DiskShown) → AreSafe held disk → AreSafe (having held fs) disk → AreSafe (with_files held fs) disk
 safe_both held fs disk one other = record {
   long = all_put_all (λ (f : Filed). HasFile disk.files (file_of (shelf_of held) f.entry) (λ b. f.entry.len ≤ length b)) held.files fs one.long other.long;
   unopened = all_put_all (λ (f : Filed). disk.opened (file_of (shelf_of held) f.entry) ≤ f.entry.len) held.files fs one.unopened other.unopened;
@@ -434,7 +434,7 @@ pub not_own_in : (store : ℕ) (journal n : Name) → 1 ≤ store → journal.0 
 not_own_in store journal n numbered zero_store own one = let same = own_store journal n own in absurd (omega (arith, numbered, same, zero_store, one))
 
 -- whatever a crash leaves of a store holds what it holds
-pub stored_left : (g : Granularity) (catalogue manifest : JournalState) (disk : Standing) (held : Held) → IsStored g catalogue manifest disk held → (image : Files) → MayLeave disk.past image → Holds g image held
+pub stored_left : (g : Granularity) (catalogue manifest : JournalState) (disk : DiskShown) (held : Held) → IsStored g catalogue manifest disk held → (image : Files) → MayLeave disk.past image → Holds g image held
 stored_left g catalogue manifest disk held stored image left = record {
   rows = subst (λ (n : Name). Says IsCatalogue held.rows n image) stored.rows.named (kept_left IsCatalogue catalogue disk held.rows stored.rows.kept image left);
   lists = folds_says g (map entry_of held.files) (manifest_name held.store) image
@@ -455,7 +455,7 @@ holds_behind g held a c step holds = record {
   files = step.stays holds.files;
 }
 
-pub still_stored : (g : Granularity) (catalogue manifest : JournalState) (old new : Standing) (held : Held) → IsStored g catalogue manifest old held → Passes (Behind held) old.past new.past
+pub still_stored : (g : Granularity) (catalogue manifest : JournalState) (old new : DiskShown) (held : Held) → IsStored g catalogue manifest old held → Passes (Behind held) old.past new.past
     → AreLong held new.files → ((n : Name) → n.0 ≢ held.store → new.files n ≡ old.files n) → ((n : Name) → new.opened n ≤ old.opened n) → IsStored g catalogue manifest new held
 still_stored g catalogue manifest old new held stored passes long same fewer =
     let out : (journal : JournalState) (name : Name) → journal.name ≡ name → name.0 ≡ 0 → Untouched (Behind held) journal old.files new.files old.opened new.opened = λ journal name is zero_store.
@@ -469,12 +469,12 @@ still_stored g catalogue manifest old new held stored passes long same fewer =
 -- Calls that only read, and calls on the files of one journal alone.
 
 -- a call on the files of one journal alone
-pub record Alone (name : Name) (old new : Standing) : Type 0 where
+pub record Alone (name : Name) (old new : DiskShown) : Type 0 where
   pub passes : Passes (AtOwn name Anything) old.past new.past
   pub elsewhere : (n : Name) → (IsOwn name n → ⊥) → new.files n ≡ old.files n
   pub fewer : (n : Name) → new.opened n ≤ old.opened n
 
-pub alone : (name : Name) (R : Files → Files → Type 0) (old new : Standing) → Passes (AtOwn name R) old.past new.past → ((n : Name) → (IsOwn name n → ⊥) → new.files n ≡ old.files n) → ((n : Name) → new.opened n ≤ old.opened n) → Alone name old new
+pub alone : (name : Name) (R : Files → Files → Type 0) (old new : DiskShown) → Passes (AtOwn name R) old.past new.past → ((n : Name) → (IsOwn name n → ⊥) → new.files n ≡ old.files n) → ((n : Name) → new.opened n ≤ old.opened n) → Alone name old new
 alone name R old new passes elsewhere fewer = record {
   passes = passes_weaker (AtOwn name R) (AtOwn name Anything) old.past new.past passes (λ a c was step. record { here = tt; elsewhere = step.elsewhere });
   elsewhere = elsewhere;
@@ -483,7 +483,7 @@ alone name R old new passes elsewhere fewer = record {
 
 -- A store stays as it is while calls only read, also where they open its listed files.
 
-pub safe_read : (held : Held) (old new : Standing) → AreSafe held old → Passes (λ a b. b ≡ a) old.past new.past → new.files ≡ old.files → AreUnopened held new.opened → AreSafe held new
+pub safe_read : (held : Held) (old new : DiskShown) → AreSafe held old → Passes (λ a b. b ≡ a) old.past new.past → new.files ≡ old.files → AreUnopened held new.opened → AreSafe held new
 safe_read held old new safe passes same unopened = record {
   long = subst (AreLong held) (sym same) safe.long;
   unopened = unopened;
@@ -492,16 +492,16 @@ safe_read held old new safe passes same unopened = record {
 }
 
 -- calls that read, and open no journal and no file beyond its listed length
-pub record Reads (old new : Standing) : Type 0 where
+pub record Reads (old new : DiskShown) : Type 0 where
   pub passes : Passes (λ a b. b ≡ a) old.past new.past
   pub same : new.files ≡ old.files
   pub journals : (n : Name) → n.0 ≡ 0 → new.opened n ≤ old.opened n
 
 -- no file is opened
-pub unopened_same : (held : Held) (disk : Standing) (after : Name → ℕ) → after ≡ disk.opened → AreSafe held disk → AreUnopened held after
+pub unopened_same : (held : Held) (disk : DiskShown) (after : Name → ℕ) → after ≡ disk.opened → AreSafe held disk → AreUnopened held after
 unopened_same held disk after same safe = subst (AreUnopened held) (sym same) safe.unopened
 
-module _ (old new : Standing) (reads : Reads old new) where
+module _ (old new : DiskShown) (reads : Reads old new) where
   pub quietly : (journal : JournalState) (name : Name) → journal.name ≡ name → name.0 ≡ 0 → Untouched (λ a b. b ≡ a) journal old.files new.files old.opened new.opened
   quietly journal name is zero_store = record {
     step = λ a c same n own. ap (λ (f : Files). f n) same;
@@ -516,7 +516,7 @@ module _ (old new : Standing) (reads : Reads old new) where
   tier_read g m held tier unopened = tier_stays (λ a b. b ≡ a) m old new reads.passes (quietly m (manifest_name held.store) tier.named refl) g held tier (safe_read held old new tier.safe reads.passes reads.same unopened)
 
 -- a listed file is opened, at most as far as it is listed
-pub unopened_listed : (g : Granularity) (held : Held) (f : Filed) (disk : Standing) (after : Name → ℕ) → AreHeld g held → AreSafe held disk → Contains held.files f
+pub unopened_listed : (g : Granularity) (held : Held) (f : Filed) (disk : DiskShown) (after : Name → ℕ) → AreHeld g held → AreSafe held disk → Contains held.files f
     → after (file_of (shelf_of held) f.entry) ≤ max (disk.opened (file_of (shelf_of held) f.entry)) f.entry.len → ((n : Name) → n ≢ file_of (shelf_of held) f.entry → after n ≡ disk.opened n) → AreUnopened held after
 unopened_listed g held f disk after valid safe listed here others k d lt =
     let h : Filed = get_or held.files k d in
@@ -534,7 +534,7 @@ unopened_listed g held f disk after valid safe listed here others k d lt =
       | inr apart ↦ let same : after (file_of (shelf_of held) h.entry) ≡ disk.opened (file_of (shelf_of held) h.entry) = others (file_of (shelf_of held) h.entry) apart in omega (arith, same, was)
     ]
 
-pub reads_all : (old new : Standing) → Passes (λ a b. b ≡ a) old.past new.past → new.files ≡ old.files → new.opened ≡ old.opened → Reads old new
+pub reads_all : (old new : DiskShown) → Passes (λ a b. b ≡ a) old.past new.past → new.files ≡ old.files → new.opened ≡ old.opened → Reads old new
 reads_all old new passes same same_opened = record {
   passes = passes;
   same = same;
@@ -633,7 +633,7 @@ one_thing g h image a b stands stands_too store left right =
     let stand : a.stands ≡ b.stands = stands ∙ sym stands_too in
     λ i. record { store = store i; rows = rows i; files = files i; stands = stand i }
 
--- A flush from its start to its end: the pieces are written, and then listed.
+-- A flush from its start to its end: the writes are written, and then listed.
 
 pub err_cases : (e : DiskErr) → (e ≡ Fault) ⊎ (e ≡ Memory)
 err_cases Fault = inl refl
@@ -644,17 +644,17 @@ unfolding members_of
 members_long e = refl
 
 -- a change that lists a file takes 49 bytes
-pub sets_long : (ps : List Piece) → length (batch_of (map set_of ps)) ≡ length ps * 49
+pub sets_long : (ps : List FileWrite) → length (batch_of (map set_of ps)) ≡ length ps * 49
 sets_long [] = refl
 sets_long (p ∷ ps) = omega (arith, length-append (2 ∷ members_of p.entry) (batch_of (map set_of ps)), members_long p.entry, sets_long ps)
 
 -- up to the commit
-pub still_held : (catalogue : JournalState) (m : ManifestState) (rows : Shelf) (old : Standing) (new : Past) (held next : Held) → IsStoredAs catalogue m rows old held → Passes (Behind held) old.past new
+pub still_held : (catalogue : JournalState) (m : ManifestState) (rows : Shelf) (old : DiskShown) (new : Past) (held next : Held) → IsStoredAs catalogue m rows old held → Passes (Behind held) old.past new
     → Passes (HoldsEither m.granularity held next) old.past new
 still_held catalogue m rows old new held next store passes =
     passes_weaker (Behind held) (HoldsEither m.granularity held next) old.past new passes (λ a c was step. inl (holds_behind m.granularity held a c step (stored_left m.granularity catalogue m.journal old held store.stored a was)))
 
-pub still_stored_as : (catalogue : JournalState) (m : ManifestState) (rows : Shelf) (old new : Standing) (held : Held) → IsStoredAs catalogue m rows old held → Passes (Behind held) old.past new.past
+pub still_stored_as : (catalogue : JournalState) (m : ManifestState) (rows : Shelf) (old new : DiskShown) (held : Held) → IsStoredAs catalogue m rows old held → Passes (Behind held) old.past new.past
     → AreLong held new.files → ((n : Name) → n.0 ≢ rows.0 → new.files n ≡ old.files n) → ((n : Name) → new.opened n ≤ old.opened n) → IsStoredAs catalogue m rows new held
 still_stored_as catalogue m rows old new held store passes long same fewer = record {
   stored = still_stored m.granularity catalogue m.journal old new held store.stored passes long (λ n other. same n (λ is. other (is ∙ sym (ap (λ (s : Shelf). s.0) store.of_rows)))) fewer;
@@ -665,11 +665,11 @@ still_stored_as catalogue m rows old new held store passes long same fewer = rec
 -- THE LISTED BYTES
 
 -- what is listed of it, by the rows and the manifest
-pub listed_as : (catalogue : JournalState) (m : ManifestState) (shelf : Shelf) (disk : Standing) (held : Held) → IsStoredAs catalogue m shelf disk held → (P : Listing → Type 0) → P (listing_of held) → P (shelf, m.entries)
+pub listed_as : (catalogue : JournalState) (m : ManifestState) (shelf : Shelf) (disk : DiskShown) (held : Held) → IsStoredAs catalogue m shelf disk held → (P : Listing → Type 0) → P (listing_of held) → P (shelf, m.entries)
 listed_as catalogue m shelf disk held store P holds = subst P (λ i. (store.of_rows i, sym store.entries i)) holds
 
 -- and where the manifest alone is changed
-pub leaves_committed : (catalogue : JournalState) (m : ManifestState) (shelf : Shelf) (old : Standing) (between later : Files) (mid new : Past) (held : Held) → IsStoredAs catalogue m shelf old held → ((n : Name) → (IsOwn m.journal.name n → ⊥) → later n ≡ between n)
+pub leaves_committed : (catalogue : JournalState) (m : ManifestState) (shelf : Shelf) (old : DiskShown) (between later : Files) (mid new : Past) (held : Held) → IsStoredAs catalogue m shelf old held → ((n : Name) → (IsOwn m.journal.name n → ⊥) → later n ≡ between n)
     → Passes (AtOwn m.journal.name Anything) mid new → LeavesListed (shelf, m.entries) between later mid new
 leaves_committed catalogue m shelf old between later mid new held store elsewhere passes =
     listed_as catalogue m shelf old held store (λ l. LeavesListed l between later mid new)

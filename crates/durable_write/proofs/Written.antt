@@ -1,4 +1,4 @@
--- What is written ahead of what is listed: piece by piece, beside what is listed, and beside files in limbo.
+-- What is written ahead of what is listed: write by write, beside what is listed, and beside files in limbo.
 use Rattle.std.proofs.Common.{◌≡◌, ◌≢◌, inl, inr, ℕ, zero, suc, ◌≤◌, List, [], ◌∷◌, length, get_or, None, Some, refl, sym, ◌∙◌, ap, subst, arith, ◌⊎◌, ◌++◌, map, take, Bool, true, false, Option, ◌<◌, cond, ◌+◌}
 use Rattle.std.specs.Prelude.{All, Contains, IsTrue, filter}
 use Rattle.std.specs.List.{AllZip}
@@ -8,7 +8,7 @@ use Rattle.disk_model.specs.Past.{Past, Passes, MayLeave, Only}
 use Rattle.partition_names.specs.declared.granularity.Granularity.{Granularity}
 use Rattle.store_manifest.specs.declared.entry.Entry.{Entry}
 use Rattle.store_manifest.specs.Entries.{Place, put, comes_before, all_changed}
-use Rattle.durable_write.specs.declared.piece.Piece.{Piece}
+use Rattle.durable_write.specs.declared.file_write.FileWrite.{FileWrite}
 use Rattle.durable_write.specs.Held.{Filed, Held, IsIn, IsListed, file_of, filed_at, bytes_of, shelf_of, Shelf, IsListedTo, KeepsListed, ListsStill, entry_of, listing_of, IsFiled, AreIn}
 use Rattle.durable_write.specs.Flush.{Grows, PlacesRise, file_at, start_of, listed_len, MakesFiles, put_all, with_files, is_place, listed_bytes, HoldsBoth, Flushes}
 use Rattle.durable_write.specs.Stored.{AreLong, AreSafe, AreHeld, Holds, KeysDiffer}
@@ -26,7 +26,7 @@ use Rattle.std.proofs.lemmas.Bool.Decides.{nat_tests}
 use Rattle.store_files.proofs.Stays.{front_file}
 use Rattle.std.proofs.lemmas.Option.{same_Some}
 use Rattle.gate_journal.specs.Generations.{IsOwn, AtOwn}
-use Rattle.gate_journal.specs.Standing.{Standing}
+use Rattle.gate_journal.specs.DiskShown.{DiskShown}
 use Rattle.pv_catalog.specs.declared.row.Row.{Row}
 use Rattle.series_model.specs.declared.batch.RowSamples.{RowSamples}
 use Rattle.store_manifest.specs.declared.entry.Change.{Change}
@@ -63,7 +63,7 @@ leads_still held ahead leads =
     record { entry = led.file.entry; within = contains_entry ahead.files led.file led.within; named = ap (λ (r : Shelf). file_of r led.file.entry) leads.same_shelf ∙ led.name; longer = led.longer })
 
 -- so calls that leave what is ahead leave what is listed
-pub leads_behind : (held ahead : Held) (old : Standing) (new : Past) → Leads held ahead → AreSafe ahead old → Passes (Behind ahead) old.past new → Passes (Behind held) old.past new
+pub leads_behind : (held ahead : Held) (old : DiskShown) (new : Past) → Leads held ahead → AreSafe ahead old → Passes (Behind ahead) old.past new → Passes (Behind held) old.past new
 leads_behind held ahead old new leads safe passes = passes_weaker (Behind ahead) (Behind held) old.past new passes (λ a c was step. record {
   elsewhere = λ n other. step.elsewhere n (λ is. other (is ∙ ap (λ (s : Shelf). s.0) leads.same_shelf));
   stays = λ listed. leads_in held ahead c leads (step.stays (safe.left a was));
@@ -158,15 +158,15 @@ put_all_has (f ∷ fs) files h rise there = go (is_place (filed_at h) (filed_at 
         differ : filed_at h ≡ filed_at f → ⊥
         differ same = let itself : is_place (filed_at h) (filed_at h) ≡ true = is_place-same (filed_at h) in cc (itself, same, is)
 
-pub piece_of : (R : Piece → Filed → Type 0) (ps : List Piece) (fs : List Filed) (f : Filed) → AllZip R ps fs → Contains fs f → (p : Piece) × R p f
-piece_of R [] [] f each (k, low, is) = absurd (omega (arith, low))
-piece_of R [] (h ∷ fs) f each there = absurd each
-piece_of R (p ∷ ps) [] f each there = absurd each
-piece_of R (p ∷ ps) (h ∷ fs) f each (zero, low, is) = (p, subst (R p) is each.0)
-piece_of R (p ∷ ps) (h ∷ fs) f each (suc k, low, is) = piece_of R ps fs f each.1 (k, omega (arith, low), is)
+pub write_of : (R : FileWrite → Filed → Type 0) (ps : List FileWrite) (fs : List Filed) (f : Filed) → AllZip R ps fs → Contains fs f → (p : FileWrite) × R p f
+write_of R [] [] f each (k, low, is) = absurd (omega (arith, low))
+write_of R [] (h ∷ fs) f each there = absurd each
+write_of R (p ∷ ps) [] f each there = absurd each
+write_of R (p ∷ ps) (h ∷ fs) f each (zero, low, is) = (p, subst (R p) is each.0)
+write_of R (p ∷ ps) (h ∷ fs) f each (suc k, low, is) = write_of R ps fs f each.1 (k, omega (arith, low), is)
 
--- what pieces make goes on from what they were planned against
-pub leads_with : (g : Granularity) (held : Held) (ps : List Piece) (fs : List Filed) → All (IsListed g held.rows) held.files → PlacesRise held.files → MakesFiles g held ps fs → Leads held (with_files held fs)
+-- what writes make goes on from what they were planned against
+pub leads_with : (g : Granularity) (held : Held) (ps : List FileWrite) (fs : List Filed) → All (IsListed g held.rows) held.files → PlacesRise held.files → MakesFiles g held ps fs → Leads held (with_files held fs)
 leads_with g held ps fs are apart makes = record {
   same_shelf = refl;
   same_stands = refl;
@@ -175,7 +175,7 @@ leads_with g held ps fs are apart makes = record {
       elim (put_all_has fs held.files h makes.apart (Contains-get_or held.files k d lt)) [
         | inl there ↦ record { file = h; within = there; name = refl; longer = omega arith; front = λ stands. (omega arith, take_all (length (bytes_of h)) (bytes_of h) (omega arith)) }
         | inr (f, within, same, there) ↦
-            let grows = piece_of (Grows g held) ps fs f makes.each within in
+            let grows = write_of (Grows g held) ps fs f makes.each within in
             let listed : file_at (filed_at f) held.files ≡ Some h = ap (λ (q : Place). file_at q held.files) (sym same) ∙ found held.files apart k d lt in
             let at = ap start_of (grows.1.at ∙ ap listed_len listed) in
             let entry = ap (λ (e : Entry). e.len) grows.1.entry in
@@ -195,39 +195,39 @@ leads_with g held ps fs are apart makes = record {
 
 -- A STEP OF COPYING
 
-pub still_copied : (catalogue : JournalState) (m : ManifestState) (rows : Shelf) (old new : Standing) (held ahead : Held) → HasCopied catalogue m rows old held ahead → Passes (Behind ahead) old.past new.past → AreLong ahead new.files
+pub still_copied : (catalogue : JournalState) (m : ManifestState) (rows : Shelf) (old new : DiskShown) (held ahead : Held) → HasCopied catalogue m rows old held ahead → Passes (Behind ahead) old.past new.past → AreLong ahead new.files
     → ((n : Name) → n.0 ≢ rows.0 → new.files n ≡ old.files n) → ((n : Name) → new.opened n ≤ old.opened n) → IsStoredAs catalogue m rows new held
 still_copied catalogue m rows old new held ahead has passes long same fewer =
     still_stored_as catalogue m rows old new held has.stored (leads_behind held ahead old new.past has.leads has.safe.safe passes) (leads_long held ahead new.files has.leads long) same fewer
 
-pub copied_moment : (catalogue : JournalState) (m : ManifestState) (rows : Shelf) (old : Standing) (new : Past) (held ahead : Held) → HasCopied catalogue m rows old held ahead → Passes (Behind ahead) old.past new → Passes (λ a c. Holds m.granularity c held) old.past new
+pub copied_moment : (catalogue : JournalState) (m : ManifestState) (rows : Shelf) (old : DiskShown) (new : Past) (held ahead : Held) → HasCopied catalogue m rows old held ahead → Passes (Behind ahead) old.past new → Passes (λ a c. Holds m.granularity c held) old.past new
 copied_moment catalogue m rows old new held ahead has passes =
     passes_weaker (Behind held) (λ a c. Holds m.granularity c held) old.past new (leads_behind held ahead old new has.leads has.safe.safe passes) (λ a c was step. holds_behind m.granularity held a c step (stored_left m.granularity catalogue m.journal old held has.stored.stored a was))
 
 -- the bytes of what is listed stay while files go on behind what is ahead
-pub leaves_copied : (catalogue : JournalState) (m : ManifestState) (shelf : Shelf) (old : Standing) (later : Files) (new : Past) (held ahead : Held) → HasCopied catalogue m shelf old held ahead → Behind ahead old.files later → Passes (Behind ahead) old.past new
+pub leaves_copied : (catalogue : JournalState) (m : ManifestState) (shelf : Shelf) (old : DiskShown) (later : Files) (new : Past) (held ahead : Held) → HasCopied catalogue m shelf old held ahead → Behind ahead old.files later → Passes (Behind ahead) old.past new
     → LeavesListed (shelf, m.entries) old.files later old.past new
 leaves_copied catalogue m shelf old later new held ahead has now passes =
     listed_as catalogue m shelf old held has.stored (λ l. LeavesListed l old.files later old.past new)
     (leaves_earlier (listing_of held) (listing_of ahead) old.files later old.past new (leads_still held ahead has.leads)
     (record { now = now.listed; any_moment = passes_weaker (Behind ahead) (KeepsListed (listing_of ahead)) old.past new passes (λ a c was step. step.listed) }))
 
--- One piece more.
+-- One write more.
 
 -- THE LISTED FILE OF A PIECE
 
--- a listed file that has the name of a piece's file is the one behind which the piece goes on
-pub same_listed : (g : Granularity) (held : Held) (p : Piece) (f : Filed) (k : ℕ) (d : Filed) → AreHeld g held → Grows g held p f → k < length held.files → file_of (shelf_of held) (get_or held.files k d).entry ≡ file_of (shelf_of held) f.entry → p.at ≡ Some (get_or held.files k d).entry.len
+-- a listed file that has the name of a write's file is the one behind which the write goes on
+pub same_listed : (g : Granularity) (held : Held) (p : FileWrite) (f : Filed) (k : ℕ) (d : Filed) → AreHeld g held → Grows g held p f → k < length held.files → file_of (shelf_of held) (get_or held.files k d).entry ≡ file_of (shelf_of held) f.entry → p.at ≡ Some (get_or held.files k d).entry.len
 same_listed g held p f k d valid grows lt is =
     let h : Filed = get_or held.files k d in
     let place : filed_at h ≡ filed_at f = same_place g held.store held.rows h f valid.keys (valid.filed.listed k d lt) grows.listed is in
     grows.at ∙ ap listed_len (ap (λ (q : Place). file_at q held.files) (sym place) ∙ found held.files valid.apart k d lt)
 
--- a piece stands behind what is held of its file
-pub behind_held : (g : Granularity) (held : Held) (p : Piece) (f : Filed) → AreHeld g held → Grows g held p f → AllowTo (shelf_of held) (start_of p.at) (file_of (shelf_of held) f.entry) held.files
+-- a write stands behind what is held of its file
+pub behind_held : (g : Granularity) (held : Held) (p : FileWrite) (f : Filed) → AreHeld g held → Grows g held p f → AllowTo (shelf_of held) (start_of p.at) (file_of (shelf_of held) f.entry) held.files
 behind_held g held p f valid grows k d lt is = let at = ap start_of (same_listed g held p f k d valid grows lt is) in omega (arith, at)
 
--- the listed file behind which a piece goes on
+-- the listed file behind which a write goes on
 pub record GoesOn (held : Held) (f : Filed) (at : ℕ) : Type 0 where
   pub file : Filed
   pub within : Contains held.files file
@@ -235,7 +235,7 @@ pub record GoesOn (held : Held) (f : Filed) (at : ℕ) : Type 0 where
   pub len : file.entry.len ≡ at
   pub found : file_at (filed_at f) held.files ≡ Some file
 
-pub goes_on : (g : Granularity) (held : Held) (p : Piece) (f : Filed) (at : ℕ) → AreHeld g held → Grows g held p f → p.at ≡ Some at → GoesOn held f at
+pub goes_on : (g : Granularity) (held : Held) (p : FileWrite) (f : Filed) (at : ℕ) → AreHeld g held → Grows g held p f → p.at ≡ Some at → GoesOn held f at
 goes_on g held p f at valid grows some = elim (listed_at held.files (filed_at f)) [
   | inl none ↦ let no : ◌≡◌ {A = Option ℕ} (Some at) None = sym some ∙ grows.at ∙ ap listed_len none in absurd (cc (no))
   | inr (h, within, place, found) ↦
@@ -250,7 +250,7 @@ goes_on g held p f at valid grows some = elim (listed_at held.files (filed_at f)
 ]
 
 -- it is there, and wasn't opened further
-pub can_go_on : (g : Granularity) (held : Held) (disk : Standing) (p : Piece) (f : Filed) (at : ℕ) → AreHeld g held → AreSafe held disk → Grows g held p f → p.at ≡ Some at
+pub can_go_on : (g : Granularity) (held : Held) (disk : DiskShown) (p : FileWrite) (f : Filed) (at : ℕ) → AreHeld g held → AreSafe held disk → Grows g held p f → p.at ≡ Some at
     → HasFile disk.files (file_of (shelf_of held) f.entry) (λ b. (disk.opened (file_of (shelf_of held) f.entry) ≤ at) × (at ≤ length b))
 can_go_on g held disk p f at valid safe grows some =
     let on = goes_on g held p f at valid grows some in
@@ -260,14 +260,14 @@ can_go_on g held disk p f at valid safe grows some =
     subst (λ (n : Name). disk.opened n ≤ on.file.entry.len) on.name (All-contains (λ (h : Filed). disk.opened (file_of (shelf_of held) h.entry) ≤ h.entry.len) held.files on.file safe.unopened on.within) in
     record { bytes = file.bytes; file = file.file; holds = (omega (arith, on.len, unopened), omega (arith, on.len, file.holds)) }
 
--- the name that a piece's file has by the rows that the code sees
-pub piece_name : (g : Granularity) (rows : Shelf) (held : Held) (disk : Standing) (p : Piece) (f : Filed) → IsSafe g rows disk held → Grows g held p f → file_of (shelf_of held) f.entry ≡ file_of rows p.entry
-piece_name g rows held disk p f safe grows = ap (λ (r : Shelf). file_of r f.entry) safe.of_rows ∙ ap (λ (e : Entry). file_of rows e) (sym grows.entry)
+-- the name that a write's file has by the rows that the code sees
+pub write_name : (g : Granularity) (rows : Shelf) (held : Held) (disk : DiskShown) (p : FileWrite) (f : Filed) → IsSafe g rows disk held → Grows g held p f → file_of (shelf_of held) f.entry ≡ file_of rows p.entry
+write_name g rows held disk p f safe grows = ap (λ (r : Shelf). file_of r f.entry) safe.of_rows ∙ ap (λ (e : Entry). file_of rows e) (sym grows.entry)
 
 -- WHAT IS WRITTEN
 
--- a file that has just the piece's bytes, where nothing was listed
-pub made_written : (g : Granularity) (held : Held) (p : Piece) (f : Filed) (later : Files) (after : Name → ℕ) → Grows g held p f → p.at ≡ None → later (file_of (shelf_of held) f.entry) ≡ Some p.bytes.items
+-- a file that has just the write's bytes, where nothing was listed
+pub made_written : (g : Granularity) (held : Held) (p : FileWrite) (f : Filed) (later : Files) (after : Name → ℕ) → Grows g held p f → p.at ≡ None → later (file_of (shelf_of held) f.entry) ≡ Some p.bytes.items
     → after (file_of (shelf_of held) f.entry) ≤ 0 → IsWritten held later after f
 made_written g held p f later after grows none made closed =
     let at = ap start_of none in
@@ -285,8 +285,8 @@ made_written g held p f later after grows none made closed =
     unlisted None is = refl
     unlisted (Some h) is = absurd (cc (is))
 
--- a file that has the listed bytes and the piece's
-pub grown_written : (g : Granularity) (held : Held) (p : Piece) (f : Filed) (at : ℕ) (b : List ℕ) (old : Standing) (later : Files) (after : Name → ℕ) → AreHeld g held → AreSafe held old → MayLeave old.past old.files → Grows g held p f → p.at ≡ Some at
+-- a file that has the listed bytes and the write's
+pub grown_written : (g : Granularity) (held : Held) (p : FileWrite) (f : Filed) (at : ℕ) (b : List ℕ) (old : DiskShown) (later : Files) (after : Name → ℕ) → AreHeld g held → AreSafe held old → MayLeave old.past old.files → Grows g held p f → p.at ≡ Some at
     → old.files (file_of (shelf_of held) f.entry) ≡ Some b → at ≤ length b → later (file_of (shelf_of held) f.entry) ≡ Some (take at b ++ p.bytes.items) → after (file_of (shelf_of held) f.entry) ≤ at → IsWritten held later after f
 grown_written g held p f at b old later after valid safe seen grows some file enough grown open_to =
     let name : Name = file_of (shelf_of held) f.entry in
@@ -309,8 +309,8 @@ grown_written g held p f at b old later after valid safe seen grows some file en
           grown ∙ ap (λ (l : List ℕ). Some l) (sym whole);
     }
 
--- whatever became of the piece's file, it is no shorter than it was listed
-pub still_long : (g : Granularity) (held : Held) (p : Piece) (f : Filed) (files later : Files) → AreHeld g held → AreLong held files → Grows g held p f → ((n : Name) → n ≢ file_of (shelf_of held) f.entry → later n ≡ files n)
+-- whatever became of the write's file, it is no shorter than it was listed
+pub still_long : (g : Granularity) (held : Held) (p : FileWrite) (f : Filed) (files later : Files) → AreHeld g held → AreLong held files → Grows g held p f → ((n : Name) → n ≢ file_of (shelf_of held) f.entry → later n ≡ files n)
     → ((at : ℕ) → p.at ≡ Some at → HasFile later (file_of (shelf_of held) f.entry) (λ b. at ≤ length b)) → AreLong held later
 still_long g held p f files later valid long grows elsewhere here k d lt =
     let h : Filed = get_or held.files k d in
@@ -323,47 +323,47 @@ still_long g held p f files later valid long grows elsewhere here k d lt =
 
 -- PIECE AFTER PIECE
 
--- the piece at a place, and its file
-pub nth_grows : (g : Granularity) (held : Held) (ps : List Piece) (fs : List Filed) (i : ℕ) (p : Piece) → AllZip (Grows g held) ps fs → i < length ps → p ≡ get_or ps i p → (f : Filed) × (i < length fs) × (get_or fs i f ≡ f) × Grows g held p f
+-- the write at a place, and its file
+pub nth_grows : (g : Granularity) (held : Held) (ps : List FileWrite) (fs : List Filed) (i : ℕ) (p : FileWrite) → AllZip (Grows g held) ps fs → i < length ps → p ≡ get_or ps i p → (f : Filed) × (i < length fs) × (get_or fs i f ≡ f) × Grows g held p f
 nth_grows g held [] fs i p each within is = absurd (omega arith)
 nth_grows g held (q ∷ ps) [] i p each within is = absurd each
-nth_grows g held (q ∷ ps) (f ∷ fs) zero p each within is = (f, omega arith, refl, subst (λ (x : Piece). Grows g held x f) (sym is) each.0)
+nth_grows g held (q ∷ ps) (f ∷ fs) zero p each within is = (f, omega arith, refl, subst (λ (x : FileWrite). Grows g held x f) (sym is) each.0)
 nth_grows g held (q ∷ ps) (f ∷ fs) (suc i) p each within is = let more = nth_grows g held ps fs i p each.1 (omega arith) is in (more.0, omega (arith, more.1), more.2, more.3)
 
--- what each piece and its relation to its file say of the file
-all_made_of : (Q : Piece → Type 0) (P : Filed → Type 0) (R : Piece → Filed → Type 0) (ps : List Piece) (fs : List Filed) → ((p : Piece) (f : Filed) → R p f → Q p → P f) → AllZip R ps fs → All Q ps → All P fs
+-- what each write and its relation to its file say of the file
+all_made_of : (Q : FileWrite → Type 0) (P : Filed → Type 0) (R : FileWrite → Filed → Type 0) (ps : List FileWrite) (fs : List Filed) → ((p : FileWrite) (f : Filed) → R p f → Q p → P f) → AllZip R ps fs → All Q ps → All P fs
 all_made_of Q P R [] [] says each all = All-nil P
 all_made_of Q P R [] (f ∷ fs) says each all = absurd each
 all_made_of Q P R (p ∷ ps) [] says each all = absurd each
 all_made_of Q P R (p ∷ ps) (f ∷ fs) says each all = All-cons P f fs (says p f each.0 (All-head Q p ps all)) (all_made_of Q P R ps fs says each.1 (All-tail Q p ps all))
 
 -- what the relation alone says
-pub all_made : (P : Filed → Type 0) (R : Piece → Filed → Type 0) (ps : List Piece) (fs : List Filed) → ((p : Piece) (f : Filed) → R p f → P f) → AllZip R ps fs → All P fs
-all_made P R ps fs says each = all_made_of (λ (p : Piece). Unit {0}) P R ps fs (λ p f made any. says p f made) each (λ k d lt. tt)
+pub all_made : (P : Filed → Type 0) (R : FileWrite → Filed → Type 0) (ps : List FileWrite) (fs : List Filed) → ((p : FileWrite) (f : Filed) → R p f → P f) → AllZip R ps fs → All P fs
+all_made P R ps fs says each = all_made_of (λ (p : FileWrite). Unit {0}) P R ps fs (λ p f made any. says p f made) each (λ k d lt. tt)
 
-pub all_listed : (g : Granularity) (held : Held) (ps : List Piece) (fs : List Filed) → AllZip (Grows g held) ps fs → All (IsListed g held.rows) fs
+pub all_listed : (g : Granularity) (held : Held) (ps : List FileWrite) (fs : List Filed) → AllZip (Grows g held) ps fs → All (IsListed g held.rows) fs
 all_listed g held ps fs each = all_made (IsListed g held.rows) (Grows g held) ps fs (λ p f grows. grows.listed) each
 
-pub all_filed : (g : Granularity) (held : Held) (ps : List Piece) (fs : List Filed) → AllZip (Grows g held) ps fs → IsTrue held.stands → All (IsFiled g held.rows) fs
+pub all_filed : (g : Granularity) (held : Held) (ps : List FileWrite) (fs : List Filed) → AllZip (Grows g held) ps fs → IsTrue held.stands → All (IsFiled g held.rows) fs
 all_filed g held ps fs each stands = all_made (IsFiled g held.rows) (Grows g held) ps fs (λ p f grows. (grows.own stands).filed) each
 
--- what is listed of the piece's file ends where the piece begins
-allowed : (g : Granularity) (rows : Shelf) (held : Held) (p : Piece) (f : Filed) (disk : Standing) → IsSafe g rows disk held → Grows g held p f → AllowTo (shelf_of held) (start_of p.at) (file_of rows p.entry) held.files
-allowed g rows held p f disk safe grows = subst (λ (n : Name). AllowTo (shelf_of held) (start_of p.at) n held.files) (piece_name g rows held disk p f safe grows) (behind_held g held p f safe.valid grows)
+-- what is listed of the write's file ends where the write begins
+allowed : (g : Granularity) (rows : Shelf) (held : Held) (p : FileWrite) (f : Filed) (disk : DiskShown) → IsSafe g rows disk held → Grows g held p f → AllowTo (shelf_of held) (start_of p.at) (file_of rows p.entry) held.files
+allowed g rows held p f disk safe grows = subst (λ (n : Name). AllowTo (shelf_of held) (start_of p.at) n held.files) (write_name g rows held disk p f safe grows) (behind_held g held p f safe.valid grows)
 
--- one piece more leaves what was held
-pub more_behind : (g : Granularity) (rows : Shelf) (held : Held) (p : Piece) (f : Filed) (old : Standing) (mid new : Past) → IsSafe g rows old held → Grows g held p f → Passes (Behind held) old.past mid
+-- one write more leaves what was held
+pub more_behind : (g : Granularity) (rows : Shelf) (held : Held) (p : FileWrite) (f : Filed) (old : DiskShown) (mid new : Past) → IsSafe g rows old held → Grows g held p f → Passes (Behind held) old.past mid
     → Passes (At (file_of rows p.entry) (Keeps (start_of p.at))) mid new → Passes (Behind held) old.past new
 more_behind g rows held p f old mid new safe grows before call =
     behind_then held old.past mid new before (call_behind g held (file_of rows p.entry) (start_of p.at) mid new safe.valid.filed (sym (ap (λ (s : Shelf). s.0) safe.of_rows)) (allowed g rows held p f old safe grows) call)
 
 -- reads still give it
-pub reads_behind : (g : Granularity) (rows : Shelf) (held : Held) (p : Piece) (f : Filed) (disk : Standing) (between later : Files) → IsSafe g rows disk held → Grows g held p f → Behind held disk.files between
+pub reads_behind : (g : Granularity) (rows : Shelf) (held : Held) (p : FileWrite) (f : Filed) (disk : DiskShown) (between later : Files) → IsSafe g rows disk held → Grows g held p f → Behind held disk.files between
     → At (file_of rows p.entry) (Keeps (start_of p.at)) between later → Behind held disk.files later
 reads_behind g rows held p f disk between later safe grows before call =
     behind_on held disk.files between later before (step_behind g held (file_of rows p.entry) (start_of p.at) between later safe.valid.filed (sym (ap (λ (s : Shelf). s.0) safe.of_rows)) (allowed g rows held p f disk safe grows) call)
 
--- the files of the first pieces aren't that of a later one
+-- the files of the first writes aren't that of a later one
 others_apart : (g : Granularity) (held : Held) (fs : List Filed) (i : ℕ) (f : Filed) → KeysDiffer held.rows → All (IsListed g held.rows) fs → PlacesRise fs → i < length fs → get_or fs i f ≡ f → AreApart (shelf_of held) (file_of (shelf_of held) f.entry) (take i fs)
 others_apart g held fs i f keys listed rise within here k e lt is =
     let below : k < i = omega (arith, length-take i fs) in
@@ -383,7 +383,7 @@ apart_written held name f files later opened after apart elsewhere fewer was =
       just = λ stands. same ∙ was.just stands;
     }
 
--- one piece more is written, and those before it still are
+-- one write more is written, and those before it still are
 pub more_written : (g : Granularity) (held : Held) (fs : List Filed) (i : ℕ) (f : Filed) (files later : Files) (opened after : Name → ℕ) → KeysDiffer held.rows → All (IsListed g held.rows) fs → PlacesRise fs → i < length fs → get_or fs i f ≡ f
     → All (IsWritten held files opened) (take i fs) → IsWritten held later after f → ((n : Name) → n ≢ file_of (shelf_of held) f.entry → later n ≡ files n) → ((n : Name) → after n ≤ opened n) → All (IsWritten held later after) (take (i + 1) fs)
 more_written g held fs i f files later opened after keys listed rise within here before one elsewhere fewer =
@@ -394,8 +394,8 @@ more_written g held fs i f files later opened after keys listed rise within here
 
 -- FILE AFTER FILE
 
--- the files of all pieces are written and synced, so they are safe
-pub synced_safe : (g : Granularity) (shelf : Shelf) (held : Held) (ps : List Piece) (fs : List Filed) (disk : Standing) → shelf_of held ≡ shelf → AllZip (Grows g held) ps fs → All (IsWritten held disk.files disk.opened) fs
+-- the files of all writes are written and synced, so they are safe
+pub synced_safe : (g : Granularity) (shelf : Shelf) (held : Held) (ps : List FileWrite) (fs : List Filed) (disk : DiskShown) → shelf_of held ≡ shelf → AllZip (Grows g held) ps fs → All (IsWritten held disk.files disk.opened) fs
     → All (IsSynced shelf disk.files disk.past) ps → AreSafe (having held fs) disk
 synced_safe g shelf held ps fs disk of_rows each written synced =
     let Kept : Filed → Type 0 = λ f. Only disk.past (file_of (shelf_of held) f.entry) (disk.files (file_of (shelf_of held) f.entry)) in
@@ -469,7 +469,7 @@ one_of_place files f h rise f_in h_in same =
     same_Some h f (sym theirs ∙ ap (λ (p : Place). file_at p files) same ∙ mine)
 
 -- they stand ahead of what is listed, as what a move has copied does
-pub copied_beside : (catalogue : JournalState) (m : ManifestState) (shelf : Shelf) (disk : Standing) (held : Held) (limbo : List Filed) → IsStoredAs catalogue m shelf disk held → AreInLimbo m.granularity held limbo → AreSafe (having held limbo) disk
+pub copied_beside : (catalogue : JournalState) (m : ManifestState) (shelf : Shelf) (disk : DiskShown) (held : Held) (limbo : List Filed) → IsStoredAs catalogue m shelf disk held → AreInLimbo m.granularity held limbo → AreSafe (having held limbo) disk
     → HasCopied catalogue m shelf disk held (with_files held limbo)
 copied_beside catalogue m shelf disk held limbo store in_limbo safe = record {
   stored = store;
@@ -496,9 +496,9 @@ holds_both g rows entries held limbo of_rows are valid in_limbo = record {
 -- WHAT IS WRITTEN
 
 -- a written file is longer than the one that was there
-pub longer_than : (g : Granularity) (held : Held) (pieces : List Piece) (fs : List Filed) (f old : Filed) → AllZip (Grows g held) pieces fs → Contains fs f → file_at (filed_at f) held.files ≡ Some old → old.entry.len < f.entry.len
-longer_than g held pieces fs f old each within here =
-    let grows = piece_of (Grows g held) pieces fs f each within in
+pub longer_than : (g : Granularity) (held : Held) (writes : List FileWrite) (fs : List Filed) (f old : Filed) → AllZip (Grows g held) writes fs → Contains fs f → file_at (filed_at f) held.files ≡ Some old → old.entry.len < f.entry.len
+longer_than g held writes fs f old each within here =
+    let grows = write_of (Grows g held) writes fs f each within in
     let at = ap start_of (grows.1.at ∙ ap listed_len here) in
     let entry = ap (λ (e : Entry). e.len) grows.1.entry in
     let len = grows.1.len in
@@ -506,11 +506,11 @@ longer_than g held pieces fs f old each within here =
     omega (arith, at, entry, len, some)
 
 -- and its header is as long
-pub head_stays : (g : Granularity) (held : Held) (pieces : List Piece) (fs : List Filed) (f old : Filed) → AllZip (Grows g held) pieces fs → Contains fs f → file_at (filed_at f) held.files ≡ Some old → f.entry.head_len ≡ old.entry.head_len
-head_stays g held pieces fs f old each within here = let grows = piece_of (Grows g held) pieces fs f each within in grows.1.head old here
+pub head_stays : (g : Granularity) (held : Held) (writes : List FileWrite) (fs : List Filed) (f old : Filed) → AllZip (Grows g held) writes fs → Contains fs f → file_at (filed_at f) held.files ≡ Some old → f.entry.head_len ≡ old.entry.head_len
+head_stays g held writes fs f old each within here = let grows = write_of (Grows g held) writes fs f each within in grows.1.head old here
 
-pub still_over : (g : Granularity) (held : Held) (limbo fs : List Filed) (pieces : List Piece) → AreHeld g held → AreInLimbo g held limbo → MakesFiles g (with_files held limbo) pieces fs → ListsStill (listing_of held) (listing_of (with_files held fs))
-still_over g held limbo fs pieces valid in_limbo makes =
+pub still_over : (g : Granularity) (held : Held) (limbo fs : List Filed) (writes : List FileWrite) → AreHeld g held → AreInLimbo g held limbo → MakesFiles g (with_files held limbo) writes fs → ListsStill (listing_of held) (listing_of (with_files held fs))
+still_over g held limbo fs writes valid in_limbo makes =
     All-map (λ (e : Entry). IsListedTo (listing_of (with_files held fs)) (file_of (shelf_of held) e) e.len) entry_of held.files (λ k d lt.
     let h : Filed = get_or held.files k d in
     let there : Contains held.files h = Contains-get_or held.files k d lt in
@@ -519,14 +519,14 @@ still_over g held limbo fs pieces valid in_limbo makes =
       | inr (f, within, same, now) ↦
           let both = put_all held.files limbo in
           let here : file_at (filed_at f) both ≡ Some h = ap (λ (p : Place). file_at p both) (sym same) ∙ All-contains (λ (x : Filed). file_at (filed_at x) both ≡ Some x) both h (found both (rise_put_all held.files limbo valid.apart)) (listed_stays held.files limbo h valid.apart in_limbo.unlisted there) in
-          let more = longer_than g (with_files held limbo) pieces fs f h makes.each within here in
-          let listed = All-contains (IsListed g held.rows) fs f (all_listed g (with_files held limbo) pieces fs makes.each) within in
+          let more = longer_than g (with_files held limbo) writes fs f h makes.each within here in
+          let listed = All-contains (IsListed g held.rows) fs f (all_listed g (with_files held limbo) writes fs makes.each) within in
           record { entry = f.entry; within = contains_entry (put_all held.files fs) f now; named = sym (same_file g held.store held.rows h f (valid.filed.listed k d lt) listed same); longer = omega (arith, more) }
     ])
 
 -- no name of a file that is listed or in limbo is listed shorter then
-pub none_shorter_over : (g : Granularity) (held : Held) (limbo fs : List Filed) (pieces : List Piece) → AreHeld g held → AreInLimbo g held limbo → MakesFiles g (with_files held limbo) pieces fs → All (ListsNoShorter (shelf_of held) (map entry_of (put_all held.files fs))) (put_all held.files limbo)
-none_shorter_over g held limbo fs pieces valid in_limbo makes k d lt =
+pub none_shorter_over : (g : Granularity) (held : Held) (limbo fs : List Filed) (writes : List FileWrite) → AreHeld g held → AreInLimbo g held limbo → MakesFiles g (with_files held limbo) writes fs → All (ListsNoShorter (shelf_of held) (map entry_of (put_all held.files fs))) (put_all held.files limbo)
+none_shorter_over g held limbo fs writes valid in_limbo makes k d lt =
     let both = put_all held.files limbo in
     let l : Filed = get_or both k d in
     let within : Contains both l = Contains-get_or both k d lt in
@@ -545,30 +545,30 @@ none_shorter_over g held limbo fs pieces valid in_limbo makes k d lt =
     omega (arith, len))
     (λ i e low named.
     let f : Filed = get_or fs i e in
-    let f_is = all_listed g (with_files held limbo) pieces fs makes.each i e low in
+    let f_is = all_listed g (with_files held limbo) writes fs makes.each i e low in
     let same = same_place g held.store held.rows f l valid.keys f_is l_is named in
     let here : file_at (filed_at f) both ≡ Some l = ap (λ (p : Place). file_at p both) same ∙ All-contains (λ (x : Filed). file_at (filed_at x) both ≡ Some x) both l (found both rise) within in
-    let more = longer_than g (with_files held limbo) pieces fs f l makes.each (Contains-get_or fs i e low) here in
+    let more = longer_than g (with_files held limbo) writes fs f l makes.each (Contains-get_or fs i e low) here in
     omega (arith, more)))
 
 -- the plan of a flush beside them
-abbrev pub flushes_over : (g : Granularity) (held : Held) (limbo : List Filed) (batch : List RowSamples) (pieces : List Piece) (n : ℕ) → AreHeld g held → AreInLimbo g held limbo → (plan : Flushes g (with_files held limbo) batch pieces n) → FlushesOver held limbo batch (with_files held plan.files)
-flushes_over g held limbo batch pieces n valid in_limbo plan = record {
+abbrev pub flushes_over : (g : Granularity) (held : Held) (limbo : List Filed) (batch : List RowSamples) (writes : List FileWrite) (n : ℕ) → AreHeld g held → AreInLimbo g held limbo → (plan : Flushes g (with_files held limbo) batch writes n) → FlushesOver held limbo batch (with_files held plan.files)
+flushes_over g held limbo batch writes n valid in_limbo plan = record {
   written = plan.files;
   lists = refl;
-  still = still_over g held limbo plan.files pieces valid in_limbo plan.makes;
-  no_shorter = none_shorter_over g held limbo plan.files pieces valid in_limbo plan.makes;
+  still = still_over g held limbo plan.files writes valid in_limbo plan.makes;
+  no_shorter = none_shorter_over g held limbo plan.files writes valid in_limbo plan.makes;
   flushed = plan.flushed;
   rise = plan.makes.apart;
   ends = plan.ends;
-  longer = λ k d lt old here. longer_than g (with_files held limbo) pieces plan.files (get_or plan.files k d) old plan.makes.each (Contains-get_or plan.files k d lt) here;
-  heads = λ k d lt old here. head_stays g (with_files held limbo) pieces plan.files (get_or plan.files k d) old plan.makes.each (Contains-get_or plan.files k d lt) here;
+  longer = λ k d lt old here. longer_than g (with_files held limbo) writes plan.files (get_or plan.files k d) old plan.makes.each (Contains-get_or plan.files k d lt) here;
+  heads = λ k d lt old here. head_stays g (with_files held limbo) writes plan.files (get_or plan.files k d) old plan.makes.each (Contains-get_or plan.files k d lt) here;
 }
 
 -- THE COMMIT
 
--- what pieces make of what is ahead may be listed of what is held
-pub valid_over : (g : Granularity) (held ahead : Held) (ps : List Piece) (fs : List Filed) → Leads held ahead → AreHeld g held → MakesFiles g ahead ps fs → AreHeld g (with_files held fs)
+-- what writes make of what is ahead may be listed of what is held
+pub valid_over : (g : Granularity) (held ahead : Held) (ps : List FileWrite) (fs : List Filed) → Leads held ahead → AreHeld g held → MakesFiles g ahead ps fs → AreHeld g (with_files held fs)
 valid_over g held ahead ps fs leads valid makes = record {
   keys = valid.keys;
   filed = record {
@@ -579,7 +579,7 @@ valid_over g held ahead ps fs leads valid makes = record {
   apart = rise_put_all held.files fs valid.apart;
 }
 
-pub entries_over : (m : ManifestState) (held ahead : Held) (ps : List Piece) (fs : List Filed) (changes : List Change) → m.entries ≡ map entry_of held.files → changes ≡ map set_of ps → MakesFiles m.granularity ahead ps fs → all_changed m.entries changes ≡ map entry_of (put_all held.files fs)
+pub entries_over : (m : ManifestState) (held ahead : Held) (ps : List FileWrite) (fs : List Filed) (changes : List Change) → m.entries ≡ map entry_of held.files → changes ≡ map set_of ps → MakesFiles m.granularity ahead ps fs → all_changed m.entries changes ≡ map entry_of (put_all held.files fs)
 entries_over m held ahead ps fs changes entries are makes =
     ap (λ (es : List Entry). all_changed es changes) entries
     ∙ ap (λ (cs : List Change). all_changed (map entry_of held.files) cs) are
@@ -592,7 +592,7 @@ put_all_new (x ∷ fs) files f rise (zero, low, is) = subst (λ (y : Filed). Con
 put_all_new (x ∷ fs) files f rise (suc k, low, is) = put_all_new fs (put filed_at x files) f rise.1 (k, omega (arith, low), is)
 
 -- what is safe ahead is safe where it is listed
-safe_over : (held ahead : Held) (fs : List Filed) (disk : Standing) → shelf_of ahead ≡ shelf_of held → ahead.stands ≡ held.stands → PlacesRise fs → AreSafe held disk → AreSafe (with_files ahead fs) disk → AreSafe (with_files held fs) disk
+safe_over : (held ahead : Held) (fs : List Filed) (disk : DiskShown) → shelf_of ahead ≡ shelf_of held → ahead.stands ≡ held.stands → PlacesRise fs → AreSafe held disk → AreSafe (with_files ahead fs) disk → AreSafe (with_files held fs) disk
 safe_over held ahead fs disk shelf stands rise own safe = safe_both held fs disk own (record {
   long = λ k d lt.
       let f : Filed = get_or fs k d in
@@ -609,7 +609,7 @@ safe_over held ahead fs disk shelf stands rise own safe = safe_both held fs disk
 })
 
 -- what was written ahead may be listed
-pub can_relist_over : (catalogue : JournalState) (m : ManifestState) (shelf : Shelf) (old mid : Standing) (held ahead : Held) (ps : List Piece) (fs : List Filed) (changes : List Change) → HasCopied catalogue m shelf old held ahead → MakesFiles m.granularity ahead ps fs
+pub can_relist_over : (catalogue : JournalState) (m : ManifestState) (shelf : Shelf) (old mid : DiskShown) (held ahead : Held) (ps : List FileWrite) (fs : List Filed) (changes : List Change) → HasCopied catalogue m shelf old held ahead → MakesFiles m.granularity ahead ps fs
     → changes ≡ map set_of ps → Passes (Behind ahead) old.past mid.past → AreLong ahead mid.files → ((n : Name) → n.0 ≢ shelf.0 → mid.files n ≡ old.files n) → ((n : Name) → mid.opened n ≤ old.opened n) → AreSafe (with_files ahead fs) mid → CanRelist catalogue m shelf mid held (with_files held fs) changes
 can_relist_over catalogue m shelf old mid held ahead ps fs changes has makes are behind long elsewhere fewer safe =
     let stored = still_copied catalogue m shelf old mid held ahead has behind long elsewhere fewer in
@@ -629,14 +629,14 @@ leaves_ahead ahead files later old new now passes =
     record { now = now.listed; any_moment = passes_weaker (Behind ahead) (KeepsListed (listing_of ahead)) old new passes (λ a c was step. step.listed) }
 
 -- where the manifest alone is changed
-pub ahead_committed : (catalogue : JournalState) (m : ManifestState) (shelf : Shelf) (old : Standing) (between later : Files) (mid new : Past) (held ahead : Held) → HasCopied catalogue m shelf old held ahead → ((n : Name) → (IsOwn m.journal.name n → ⊥) → later n ≡ between n) → Passes (AtOwn m.journal.name Anything) mid new
+pub ahead_committed : (catalogue : JournalState) (m : ManifestState) (shelf : Shelf) (old : DiskShown) (between later : Files) (mid new : Past) (held ahead : Held) → HasCopied catalogue m shelf old held ahead → ((n : Name) → (IsOwn m.journal.name n → ⊥) → later n ≡ between n) → Passes (AtOwn m.journal.name Anything) mid new
     → LeavesListed (listing_of ahead) between later mid new
 ahead_committed catalogue m shelf old between later mid new held ahead has elsewhere passes =
     let tier = has.stored.stored.tier in
     let other : m.journal.name.0 ≢ held.store = not_in held.store m.journal.name (manifest_name held.store) tier.valid.filed.numbered tier.named refl in
     leaves_own (listing_of ahead) m.journal.name Anything between later mid new (λ is. other (is ∙ ap (λ (s : Shelf). s.0) has.leads.same_shelf)) elsewhere passes
 
-pub ahead_long : (catalogue : JournalState) (m : ManifestState) (shelf : Shelf) (disk : Standing) (between later : Files) (held ahead : Held) → HasCopied catalogue m shelf disk held ahead → ((n : Name) → (IsOwn m.journal.name n → ⊥) → later n ≡ between n) → AreLong ahead between → AreLong ahead later
+pub ahead_long : (catalogue : JournalState) (m : ManifestState) (shelf : Shelf) (disk : DiskShown) (between later : Files) (held ahead : Held) → HasCopied catalogue m shelf disk held ahead → ((n : Name) → (IsOwn m.journal.name n → ⊥) → later n ≡ between n) → AreLong ahead between → AreLong ahead later
 ahead_long catalogue m shelf disk between later held ahead has elsewhere long =
     let tier = has.stored.stored.tier in
     let numbered : 1 ≤ ahead.store = (let own = tier.valid.filed.numbered in let same = ap (λ (s : Shelf). s.0) has.leads.same_shelf in omega (arith, own, same)) in

@@ -1,7 +1,7 @@
 -- What was written ahead of what is listed: bytes behind the listed lengths, and files that aren't listed yet.
 use Rattle.std.specs.Prelude.{◌≡◌, ◌≤◌, ℕ, List, [], ◌∷◌, length, map, take, All, Contains, IsTrue}
 use Rattle.gate_journal.specs.Journal.{JournalState}
-use Rattle.gate_journal.specs.Standing.{Standing}
+use Rattle.gate_journal.specs.DiskShown.{DiskShown}
 use Rattle.store_manifest.specs.Manifest.{ManifestState}
 use Rattle.store_manifest.specs.declared.entry.Change.{Change}
 use Rattle.store_manifest.specs.declared.entry.Change.TheVariants.{Drop}
@@ -25,14 +25,14 @@ pub record Leads (held ahead : Held) : Type 0 where
   pub each : All (IsLed held ahead.files) held.files
 
 -- A move has come so far: the store has what it had, and what is to be listed is written and safe.
-pub record HasCopied (catalogue : JournalState) (m : ManifestState) (shelf : Shelf) (disk : Standing) (held ahead : Held) : Type 0 where
+pub record HasCopied (catalogue : JournalState) (m : ManifestState) (shelf : Shelf) (disk : DiskShown) (held ahead : Held) : Type 0 where
   pub stored : IsStoredAs catalogue m shelf disk held
   pub leads : Leads held ahead
   pub safe : IsSafe m.granularity shelf disk ahead
 
 -- These changes of what is stored list the files of what is next, which are all safe on the disk: those that a flush wrote or a move copied,
 -- or what is left without the parts that a move retires.
-pub record CanRelist (catalogue : JournalState) (m : ManifestState) (shelf : Shelf) (disk : Standing) (held next : Held) (changes : List Change) : Type 0 where
+pub record CanRelist (catalogue : JournalState) (m : ManifestState) (shelf : Shelf) (disk : DiskShown) (held next : Held) (changes : List Change) : Type 0 where
   pub stored : IsStoredAs catalogue m shelf disk held
   pub same_shelf : shelf_of next ≡ shelf_of held
   pub same_stands : next.stands ≡ held.stands

@@ -13,7 +13,7 @@ use Rattle.pb_messages.specs.declared.info.PayloadInfo.{PayloadInfo}
 use Rattle.pb_messages.specs.InfoSpelling.{info_text}
 use Rattle.store_manifest.specs.declared.entry.Entry.{Entry}
 use Rattle.pv_catalog.specs.declared.row.Row.{Row}
-use Rattle.durable_write.specs.declared.piece.Piece.{Piece}
+use Rattle.durable_write.specs.declared.file_write.FileWrite.{FileWrite}
 use Rattle.store_manifest.specs.Entries.{Place, put, comes_before}
 use Rattle.pb_lines.specs.File.{IsSample, lines_of}
 use Rattle.durable_write.specs.Held.{Filed, Held, IsFiled, IsListed, AreFiled, ListsStill, entry_of, filed_at, listing_of, bytes_of, samples_of, count_of}
@@ -116,14 +116,14 @@ pub record IsFlushed (old : Held) (batch : List RowSamples) (new : Held) : Type 
 
 -- THE PIECES
 
--- f is a file of the row, made of its listed bytes and the piece's, or of the row's own header and the piece's
-pub record GrowsOwn (g : Granularity) (held : Held) (p : Piece) (f : Filed) : Type 0 where
+-- f is a file of the row, made of its listed bytes and the write's, or of the row's own header and the write's
+pub record GrowsOwn (g : Granularity) (held : Held) (p : FileWrite) (f : Filed) : Type 0 where
   pub filed : IsFiled g held.rows f
   pub bytes : bytes_of f ≡ bytes_at (filed_at f) held.files ++ p.bytes.items
   pub anew : file_at (filed_at f) held.files ≡ None → HasOwnHeader held.rows f
 
--- The piece is what the file of its entry gets behind its listed bytes, and f is the file with it. The header of a file that was there stays as long.
-pub record Grows (g : Granularity) (held : Held) (p : Piece) (f : Filed) : Type 0 where
+-- The write is what the file of its entry gets behind its listed bytes, and f is the file with it. The header of a file that was there stays as long.
+pub record Grows (g : Granularity) (held : Held) (p : FileWrite) (f : Filed) : Type 0 where
   pub entry : p.entry ≡ f.entry
   pub listed : IsListed g held.rows f
   pub head : (old : Filed) → file_at (filed_at f) held.files ≡ Some old → f.entry.head_len ≡ old.entry.head_len
@@ -145,9 +145,9 @@ put_all files (f ∷ fs) = put_all (put filed_at f files) fs
 abbrev pub with_files : Held → List Filed → Held
 with_files held fs = record { store = held.store; rows = held.rows; files = put_all held.files fs; stands = held.stands }
 
--- the pieces make these files, each of another place
-pub record MakesFiles (g : Granularity) (held : Held) (pieces : List Piece) (fs : List Filed) : Type 0 where
-  pub each : AllZip (Grows g held) pieces fs
+-- the writes make these files, each of another place
+pub record MakesFiles (g : Granularity) (held : Held) (writes : List FileWrite) (fs : List Filed) : Type 0 where
+  pub each : AllZip (Grows g held) writes fs
   pub apart : PlacesRise fs
 
 -- Of these rows, what is held has files of these entries: those that are listed, and among them those that are in limbo. There may be
@@ -166,10 +166,10 @@ pub record HoldsBoth (g : Granularity) (rows : List Row) (entries limbo : List E
 abbrev pub EndsRow : List Filed → Filed → Type 0
 EndsRow files f = All (λ (k : Filed). k.entry.series ≡ f.entry.series → k.entry.part.start ≤ f.entry.part.start) files
 
--- The pieces make files, with which the batch is flushed, and `count` samples more are held. Each file ends its row.
-pub record Flushes (g : Granularity) (held : Held) (batch : List RowSamples) (pieces : List Piece) (count : ℕ) : Type 0 where
+-- The writes make files, with which the batch is flushed, and `count` samples more are held. Each file ends its row.
+pub record Flushes (g : Granularity) (held : Held) (batch : List RowSamples) (writes : List FileWrite) (count : ℕ) : Type 0 where
   pub files : List Filed
-  pub makes : MakesFiles g held pieces files
+  pub makes : MakesFiles g held writes files
   pub flushed : IsFlushed held batch (with_files held files)
   pub more : IsTrue held.stands → count_of (put_all held.files files) ≡ count_of held.files + count
   pub ends : All (EndsRow held.files) files

@@ -1,4 +1,4 @@
--- A flush while it is planned: the files that the pieces so far make, and what a row has with them.
+-- A flush while it is planned: the files that the writes so far make, and what a row has with them.
 use Rattle.std.specs.Prelude.{◌≡◌, ◌≢◌, ◌⊎◌, ◌<◌, ◌≤◌, ◌+◌, ℕ, ℤ, Option, None, Some, IfSome, List, [], ◌∷◌, ◌++◌, All, length, filter, nat_eq, nat_le, nat_lt, if◌then◌else◌, slice_get, IsTrue}
 use Rattle.std.specs.List.{AllByRecursion}
 use Rattle.arch_time.specs.YearTime.{IsSampleYear}
@@ -12,7 +12,7 @@ use Rattle.partition_names.specs.declared.part.Part.{Part}
 use Rattle.partition_names.specs.Part.{IsPart, HoldsMoment}
 use Rattle.store_manifest.specs.declared.entry.Entry.{Entry}
 use Rattle.pv_catalog.specs.declared.row.Row.{Row}
-use Rattle.durable_write.specs.declared.piece.Piece.{Piece}
+use Rattle.durable_write.specs.declared.file_write.FileWrite.{FileWrite}
 use Rattle.durable_write.specs.declared.plan.Target.{Target}
 use Rattle.durable_write.specs.declared.plan.Destination.{Destination}
 use Rattle.durable_write.specs.declared.plan.Destination.TheVariants.{Late, Open, Listed, New}
@@ -65,8 +65,8 @@ grown s e = record e { len = e.len + (length s.line + 1); last = s.t; count = e.
 abbrev pub begun : ℕ → Part → ℕ → ℕ → Entry
 begun series part head_len t = record { series = series; part = part; len = head_len; head_len = head_len; first = t; last = t; count = 0 }
 
--- the piece with the sample's line at its end
-pub record IsAppended (s : Sample) (old new : Piece) : Type 0 where
+-- the write with the sample's line at its end
+pub record IsAppended (s : Sample) (old new : FileWrite) : Type 0 where
   pub entry : new.entry ≡ grown s old.entry
   pub at : new.at ≡ old.at
   pub bytes : new.bytes.items ≡ old.bytes.items ++ (s.line ++ 10 ∷ [])
@@ -75,63 +75,63 @@ pub record IsAppended (s : Sample) (old new : Piece) : Type 0 where
 abbrev pub IsTarget : Target → Type 0
 IsTarget target = IfSome target.listed (λ (e : Entry). IsPart target.granularity e.part × (e.series ≡ target.series))
 
--- P of the last piece, if there is one
-abbrev pub OfLast : (Piece → Type 0) → List Piece → Type 0
-OfLast P pieces = (rest : List Piece) (p : Piece) → pieces ≡ rest ++ p ∷ [] → P p
+-- P of the last write, if there is one
+abbrev pub OfLast : (FileWrite → Type 0) → List FileWrite → Type 0
+OfLast P writes = (rest : List FileWrite) (p : FileWrite) → writes ≡ rest ++ p ∷ [] → P p
 
 -- as many entries as one commit of a manifest may set: 49 bytes each in the greatest batch
-abbrev pub most_pieces : ℕ
-most_pieces = 21_913_098
+abbrev pub most_writes : ℕ
+most_writes = 21_913_098
 
--- the pieces are few enough to be listed in one commit, of partitions, and none is of a row behind this one
-pub record IsDraft (g : Granularity) (row : ℕ) (pieces : List Piece) : Type 0 where
-  pub parts : All (λ (p : Piece). IsPart g p.entry.part) pieces
-  pub few : length pieces ≤ most_pieces
-  pub rows : All (λ (p : Piece). p.entry.series ≤ row) pieces
+-- the writes are few enough to be listed in one commit, of partitions, and none is of a row behind this one
+pub record IsDraft (g : Granularity) (row : ℕ) (writes : List FileWrite) : Type 0 where
+  pub parts : All (λ (p : FileWrite). IsPart g p.entry.part) writes
+  pub few : length writes ≤ most_writes
+  pub rows : All (λ (p : FileWrite). p.entry.series ≤ row) writes
 
--- The entry is that of the row's last file: of the last piece if that is of the row, else the last that is listed.
-abbrev pub IsLastEntry : Target → List Piece → Option Entry → Type 0
-IsLastEntry target pieces last = ((rest : List Piece) × (p : Piece) × (pieces ≡ rest ++ p ∷ []) × (p.entry.series ≡ target.series) × (last ≡ Some p.entry)) ⊎ (OfLast (λ p. p.entry.series < target.series) pieces × (last ≡ target.listed))
+-- The entry is that of the row's last file: of the last write if that is of the row, else the last that is listed.
+abbrev pub IsLastEntry : Target → List FileWrite → Option Entry → Type 0
+IsLastEntry target writes last = ((rest : List FileWrite) × (p : FileWrite) × (writes ≡ rest ++ p ∷ []) × (p.entry.series ≡ target.series) × (last ≡ Some p.entry)) ⊎ (OfLast (λ p. p.entry.series < target.series) writes × (last ≡ target.listed))
 
 -- the moment is later than all of the row, and its partition than all of the row's
-pub record IsBehind (target : Target) (pieces : List Piece) (t : ℕ) : Type 0 where
+pub record IsBehind (target : Target) (writes : List FileWrite) (t : ℕ) : Type 0 where
   pub last : Option Entry
-  pub is_last : IsLastEntry target pieces last
+  pub is_last : IsLastEntry target writes last
   pub later : IfSome last (λ (e : Entry). IsPart target.granularity e.part × (e.last < t) × (e.part.end ≤ t))
 
--- the last piece is of the row, and the moment is later than it and in its partition
-pub record IsInLast (target : Target) (pieces : List Piece) (t : ℕ) : Type 0 where
-  pub rest : List Piece
-  pub piece : Piece
-  pub are : pieces ≡ rest ++ piece ∷ []
-  pub own : piece.entry.series ≡ target.series
-  pub later : piece.entry.last < t
-  pub within : t < piece.entry.part.end
+-- the last write is of the row, and the moment is later than it and in its partition
+pub record IsInLast (target : Target) (writes : List FileWrite) (t : ℕ) : Type 0 where
+  pub rest : List FileWrite
+  pub write : FileWrite
+  pub are : writes ≡ rest ++ write ∷ []
+  pub own : write.entry.series ≡ target.series
+  pub later : write.entry.last < t
+  pub within : t < write.entry.part.end
 
--- no piece is of the row, and the moment is later than its last listed file and in its partition
-pub record IsInListed (target : Target) (pieces : List Piece) (t : ℕ) (e : Entry) : Type 0 where
+-- no write is of the row, and the moment is later than its last listed file and in its partition
+pub record IsInListed (target : Target) (writes : List FileWrite) (t : ℕ) (e : Entry) : Type 0 where
   pub listed : target.listed ≡ Some e
-  pub none : OfLast (λ p. p.entry.series < target.series) pieces
+  pub none : OfLast (λ p. p.entry.series < target.series) writes
   pub later : e.last < t
   pub within : t < e.part.end
 
--- what holds of the piece if there is one: it is the last, and of the row
-abbrev pub IsLastPiece : List Piece → ℕ → Piece → Type 0
-IsLastPiece pieces series p = ((rest : List Piece) × (pieces ≡ rest ++ p ∷ [])) × (p.entry.series ≡ series)
+-- what holds of the write if there is one: it is the last, and of the row
+abbrev pub IsLastWrite : List FileWrite → ℕ → FileWrite → Type 0
+IsLastWrite writes series p = ((rest : List FileWrite) × (writes ≡ rest ++ p ∷ [])) × (p.entry.series ≡ series)
 
 -- where a moment lies by the row's last file: in its samples, behind them in its partition, or behind that
 abbrev pub side_of : Entry → ℕ → Destination → Destination
 side_of e t inside = if nat_le t e.last then Late else (if nat_lt t e.part.end then inside else New)
 
 -- where a sample of this moment goes
-abbrev pub GoesTo : Target → List Piece → ℕ → Destination → Type 0
-GoesTo target pieces t Late = (e : Entry) × IsLastEntry target pieces (Some e) × (t ≤ e.last)
-GoesTo target pieces t Open = IsInLast target pieces t
-GoesTo target pieces t (Listed e) = IsInListed target pieces t e
-GoesTo target pieces t New = IsBehind target pieces t
+abbrev pub GoesTo : Target → List FileWrite → ℕ → Destination → Type 0
+GoesTo target writes t Late = (e : Entry) × IsLastEntry target writes (Some e) × (t ≤ e.last)
+GoesTo target writes t Open = IsInLast target writes t
+GoesTo target writes t (Listed e) = IsInListed target writes t e
+GoesTo target writes t New = IsBehind target writes t
 
--- the piece is the header's line of the row's file of the partition that holds the moment
-pub record IsBegun (target : Target) (row : Row) (t : ℕ) (start : Piece) : Type 0 where
+-- the write is the header's line of the row's file of the partition that holds the moment
+pub record IsBegun (target : Target) (row : Row) (t : ℕ) (start : FileWrite) : Type 0 where
   pub part : Part
   pub year : ℤ
   pub is_part : IsPart target.granularity part
@@ -142,27 +142,27 @@ pub record IsBegun (target : Target) (row : Row) (t : ℕ) (start : Piece) : Typ
   pub at : start.at ≡ None
   pub bytes : start.bytes.items ≡ escaped (info_text (header_of row year)) ++ 10 ∷ []
 
--- the piece has the sample, and stands behind the others
-pub record IsPushed (s : Sample) (start : Piece) (old new : List Piece) : Type 0 where
-  pub piece : Piece
-  pub appended : IsAppended s start piece
-  pub are : new ≡ old ++ piece ∷ []
-  pub room : length old < most_pieces
+-- the write has the sample, and stands behind the others
+pub record IsPushed (s : Sample) (start : FileWrite) (old new : List FileWrite) : Type 0 where
+  pub write : FileWrite
+  pub appended : IsAppended s start write
+  pub are : new ≡ old ++ write ∷ []
+  pub room : length old < most_writes
 
--- the last piece has one sample more
-pub record IsExtended (s : Sample) (old new : List Piece) : Type 0 where
-  pub rest : List Piece
-  pub start : Piece
-  pub piece : Piece
+-- the last write has one sample more
+pub record IsExtended (s : Sample) (old new : List FileWrite) : Type 0 where
+  pub rest : List FileWrite
+  pub start : FileWrite
+  pub write : FileWrite
   pub are : old ≡ rest ++ start ∷ []
-  pub appended : IsAppended s start piece
-  pub becomes : new ≡ rest ++ piece ∷ []
+  pub appended : IsAppended s start write
+  pub becomes : new ≡ rest ++ write ∷ []
 
 -- THE ROW'S SAMPLES
 
--- the pieces make these files, each ends its row, and the last of them is the last of its row
-pub record IsPlanned (g : Granularity) (held : Held) (pieces : List Piece) (fs : List Filed) : Type 0 where
-  pub makes : MakesFiles g held pieces fs
+-- the writes make these files, each ends its row, and the last of them is the last of its row
+pub record IsPlanned (g : Granularity) (held : Held) (writes : List FileWrite) (fs : List Filed) : Type 0 where
+  pub makes : MakesFiles g held writes fs
   pub last : (rest : List Filed) (f : Filed) → fs ≡ rest ++ f ∷ [] → IsLast (put_all held.files fs) f.entry.series f
   pub ends : All (EndsRow held.files) fs
 
@@ -183,9 +183,9 @@ pub record HoldsRow (target : Target) (row : Row) (held : Held) : Type 0 where
   pub apart : PlacesRise held.files
   pub ends : EndsAt held.files target.series target.listed
 
--- Whatever is held that has this row: where the old pieces make files, so do the new ones, and the row gains the samples where what
+-- Whatever is held that has this row: where the old writes make files, so do the new ones, and the row gains the samples where what
 -- is held stands.
-pub record Adds (target : Target) (row : Row) (xs : List Sample) (n : ℕ) (old new : List Piece) : Type 0 where
+pub record Adds (target : Target) (row : Row) (xs : List Sample) (n : ℕ) (old new : List FileWrite) : Type 0 where
   pub made : (held : Held) → HoldsRow target row held → (fs : List Filed) → IsPlanned target.granularity held old fs → (more : List Filed) × IsPlanned target.granularity held new more × (IsTrue held.stands → Gains held target.series xs n fs more)
 
 -- each row has the lists over its own, and n samples more are held
@@ -193,12 +193,12 @@ pub record Reaches (held : Held) (parts : List RowSamples) (n : ℕ) (fs : List 
   pub samples : (row : ℕ) → samples_with held fs row ≡ with_batch row (samples_of row held.files) parts
   pub count : count_of (put_all held.files fs) ≡ count_of held.files + n
 
--- Whatever is held of these entries, listed and in limbo: the pieces make files of it, with which the lists are flushed where it stands.
-pub record Plans (g : Granularity) (rows : List Row) (entries limbo : List Entry) (parts : List RowSamples) (n : ℕ) (pieces : List Piece) : Type 0 where
-  pub made : (held : Held) → HoldsBoth g rows entries limbo held → (fs : List Filed) × IsPlanned g held pieces fs × (IsTrue held.stands → Reaches held parts n fs)
+-- Whatever is held of these entries, listed and in limbo: the writes make files of it, with which the lists are flushed where it stands.
+pub record Plans (g : Granularity) (rows : List Row) (entries limbo : List Entry) (parts : List RowSamples) (n : ℕ) (writes : List FileWrite) : Type 0 where
+  pub made : (held : Held) → HoldsBoth g rows entries limbo held → (fs : List Filed) × IsPlanned g held writes fs × (IsTrue held.stands → Reaches held parts n fs)
 
--- the new pieces are a plan of one list more than the old ones
-pub record PlansOn (g : Granularity) (rows : List Row) (entries limbo : List Entry) (part : RowSamples) (n : ℕ) (old new : List Piece) : Type 0 where
+-- the new writes are a plan of one list more than the old ones
+pub record PlansOn (g : Granularity) (rows : List Row) (entries limbo : List Entry) (part : RowSamples) (n : ℕ) (old new : List FileWrite) : Type 0 where
   pub on : (parts : List RowSamples) (m : ℕ) → Plans g rows entries limbo parts m old → Plans g rows entries limbo (parts ++ part ∷ []) (m + n) new
 
 -- one order of the lists for another: those of each row keep their order

@@ -1,14 +1,14 @@
--- What the writing of pieces to their files keeps.
+-- What the writing of files keeps.
 use Rattle.std.specs.Prelude.{◌≡◌, ◌≢◌, ◌≤◌, ℕ, List, All, map, length, Some, IsTrue}
 use Rattle.partition_names.specs.declared.granularity.Granularity.{Granularity}
 use Rattle.disk_model.specs.Files.{Name, Files, HasFile}
 use Rattle.disk_model.specs.Past.{Past, Passes, Only}
 use Rattle.gate_journal.specs.Journal.{JournalState}
-use Rattle.gate_journal.specs.Standing.{Standing}
+use Rattle.gate_journal.specs.DiskShown.{DiskShown}
 use Rattle.store_manifest.specs.Manifest.{ManifestState}
 use Rattle.store_manifest.specs.declared.entry.Change.{Change}
 use Rattle.store_manifest.specs.declared.entry.Change.TheVariants.{Set}
-use Rattle.durable_write.specs.declared.piece.Piece.{Piece}
+use Rattle.durable_write.specs.declared.file_write.FileWrite.{FileWrite}
 use Rattle.durable_write.specs.Held.{Filed, Held, AreIn, Listing, KeepsListed, bytes_of, file_of, entry_of, listing_of, shelf_of, Shelf}
 use Rattle.durable_write.specs.Stored.{AreHeld, AreSafe, IsStored, IsInDoubt}
 
@@ -25,7 +25,7 @@ pub record LeavesListed (listing : Listing) (files later : Files) (old new : Pas
   pub any_moment : Passes (KeepsListed listing) old new
 
 -- what is held is of this store and these rows, and its files are safe on the disk
-pub record IsSafe (g : Granularity) (shelf : Shelf) (disk : Standing) (held : Held) : Type 0 where
+pub record IsSafe (g : Granularity) (shelf : Shelf) (disk : DiskShown) (held : Held) : Type 0 where
   pub of_rows : shelf_of held ≡ shelf
   pub valid : AreHeld g held
   pub safe : AreSafe held disk
@@ -37,26 +37,26 @@ pub record IsWritten (held : Held) (files : Files) (opened : Name → ℕ) (f : 
   pub unopened : opened (file_of (shelf_of held) f.entry) ≤ f.entry.len
   pub just : IsTrue held.stands → files (file_of (shelf_of held) f.entry) ≡ Some (bytes_of f)
 
--- a crash now leaves the piece's file just as it is
-abbrev pub IsSynced : Shelf → Files → Past → Piece → Type 0
+-- a crash now leaves the write's file just as it is
+abbrev pub IsSynced : Shelf → Files → Past → FileWrite → Type 0
 IsSynced shelf files past p = Only past (file_of shelf p.entry) (files (file_of shelf p.entry))
 
--- the name is that of none of the pieces' files
-abbrev pub IsOfNone : Shelf → List Piece → Name → Type 0
-IsOfNone shelf pieces n = All (λ (p : Piece). n ≢ file_of shelf p.entry) pieces
+-- the name is that of none of the writes' files
+abbrev pub IsOfNone : Shelf → List FileWrite → Name → Type 0
+IsOfNone shelf writes n = All (λ (p : FileWrite). n ≢ file_of shelf p.entry) writes
 
--- the change that lists a piece's file
-abbrev pub set_of : Piece → Change
+-- the change that lists a write's file
+abbrev pub set_of : FileWrite → Change
 set_of p = Set p.entry
 
 -- Between calls: the store's rows and its manifest's entries are those of what is stored.
-pub record IsStoredAs (catalogue : JournalState) (manifest : ManifestState) (shelf : Shelf) (disk : Standing) (held : Held) : Type 0 where
+pub record IsStoredAs (catalogue : JournalState) (manifest : ManifestState) (shelf : Shelf) (disk : DiskShown) (held : Held) : Type 0 where
   pub stored : IsStored manifest.granularity catalogue manifest.journal disk held
   pub of_rows : shelf_of held ≡ shelf
   pub entries : manifest.entries ≡ map entry_of held.files
 
 -- After a commit of the manifest that failed: it is in doubt whether the change was made, and the manifest knows the entries from before and after.
-pub record IsDoubtedAs (catalogue : JournalState) (manifest : ManifestState) (shelf : Shelf) (disk : Standing) (before after : Held) : Type 0 where
+pub record IsDoubtedAs (catalogue : JournalState) (manifest : ManifestState) (shelf : Shelf) (disk : DiskShown) (before after : Held) : Type 0 where
   pub in_doubt : IsInDoubt manifest.granularity catalogue manifest.journal disk before after
   pub of_rows : (shelf_of before ≡ shelf) × (shelf_of after ≡ shelf)
   pub entries : (manifest.entries ≡ map entry_of before.files) × (manifest.next ≡ map entry_of after.files)

@@ -6,7 +6,7 @@ ghost use Rattle.disk_model.specs.Past.{Passes};
 ghost use Rattle.gate_journal.specs.Batches.{greatest_batch};
 ghost use Rattle.gate_journal.specs.Generations.{IsOwn};
 ghost use Rattle.gate_journal.specs.Journal.{JournalState};
-ghost use Rattle.gate_journal.specs.Standing.{standing};
+ghost use Rattle.gate_journal.specs.DiskShown.{shown_by};
 ghost use Rattle.partition_names.specs.Part.{IsPart};
 ghost use Rattle.store_manifest.specs.Entries.{all_changed};
 ghost use Rattle.durable_write.specs.Held.{Filed, Held, listing_of};
@@ -16,7 +16,7 @@ ghost use Rattle.durable_write.specs.Writing.{LeavesListed, IsStoredAs, IsDoubte
 ghost use Rattle.durable_write.specs.Ahead.{HasCopied};
 ghost use Rattle.durable_write.specs.Three.{Beside};
 
-use crate::piece::Piece;
+use crate::file_write::FileWrite;
 use crate::relisting::relist;
 use crate::writing::write_all;
 use disk_model::{Disk, DiskErr};
@@ -27,80 +27,80 @@ use store_manifest::{Change, Manifest};
 // How many bytes the manifest's change takes that lists a file.
 const SET_BYTES: usize = 49;
 
-// The changes that list the pieces' files.
-fn changes_of(alloc: Global, pieces: &[Piece]) -> Result<Vec<Change>, AllocError>
-    ensures { IfOk result (λ v. v.items ≡ map set_of pieces.now) }
+// The changes that list the writes' files.
+fn changes_of(alloc: Global, writes: &[FileWrite]) -> Result<Vec<Change>, AllocError>
+    ensures { IfOk result (λ v. v.items ≡ map set_of writes.now) }
 {
-    pieces
+    writes
         .iter()
-        .map(|piece| Change::Set(piece.entry))
+        .map(|write| Change::Set(write.entry))
         .collect(alloc)
 }
 
-/// Writes the pieces to their files, syncs each, and then lists all of them in one commit of the manifest. They go on
+/// Makes the writes, syncs each file, and then lists all of them in one commit of the manifest. They go on
 /// from what is ahead of what is held, as files in limbo are; where nothing is, that is what is held. A crash at any
-/// moment of the call leaves what was held before it, or that with the files of all the pieces.
+/// moment of the call leaves what was held before it, or that with the files of all the writes.
 ///
 /// After `Fault` what was held is stored still, or, where the manifest isn't sound, the store is in doubt whether
 /// the commit was made. After `Memory` what was held is stored still. `Fault` comes only where the disk's count
 /// of faults rose in the call.
-pub fn flush_pieces<D: Disk>(
+pub fn flush_files<D: Disk>(
     alloc: Global,
     disk: &mut D,
     store: u8,
     rows: &[Row],
     manifest: &mut Manifest,
-    pieces: &[Piece],
+    writes: &[FileWrite],
 ) -> Result<(), DiskErr>
     requires sound { IsTrue manifest.old.journal.sound }
-    requires parts { All (λ p. IsPart manifest.old.granularity p.entry.part) pieces.now }
-    requires rows { All (λ p. p.entry.series < length rows.now) pieces.now }
-    requires few { length pieces.now * SET_BYTES ≤ greatest_batch }
+    requires parts { All (λ p. IsPart manifest.old.granularity p.entry.part) writes.now }
+    requires rows { All (λ p. p.entry.series < length rows.now) writes.now }
+    requires few { length writes.now * SET_BYTES ≤ greatest_batch }
     requires stored { IsTrue D.tells → (catalogue : JournalState) × (held : Held) × (ahead : Held) × (fs : List Filed)
-        × HasCopied catalogue manifest.old (store, rows.now) (standing D.Disk disk.old) held ahead
-        × MakesFiles manifest.old.granularity ahead pieces.now fs }
+        × HasCopied catalogue manifest.old (store, rows.now) (shown_by D.Disk disk.old) held ahead
+        × MakesFiles manifest.old.granularity ahead writes.now fs }
 
     ensures any_moment { IsTrue D.tells → (catalogue : JournalState) (held ahead : Held) (fs : List Filed)
-        → HasCopied catalogue manifest.old (store, rows.now) (standing D.Disk disk.old) held ahead
-        → MakesFiles manifest.old.granularity ahead pieces.now fs
+        → HasCopied catalogue manifest.old (store, rows.now) (shown_by D.Disk disk.old) held ahead
+        → MakesFiles manifest.old.granularity ahead writes.now fs
         → Passes (HoldsEither manifest.old.granularity held (with_files held fs)) (D.past disk.old) (D.past disk.new) }
     ensures made { IsTrue D.tells → (catalogue : JournalState) (held ahead : Held) (fs : List Filed)
-        → HasCopied catalogue manifest.old (store, rows.now) (standing D.Disk disk.old) held ahead
-        → MakesFiles manifest.old.granularity ahead pieces.now fs
-        → OnOk result (IsStoredAs catalogue manifest.new (store, rows.now) (standing D.Disk disk.new)
+        → HasCopied catalogue manifest.old (store, rows.now) (shown_by D.Disk disk.old) held ahead
+        → MakesFiles manifest.old.granularity ahead writes.now fs
+        → OnOk result (IsStoredAs catalogue manifest.new (store, rows.now) (shown_by D.Disk disk.new)
         (with_files held fs)) }
     ensures unmade { IsTrue D.tells → (catalogue : JournalState) (held ahead : Held) (fs : List Filed)
-        → HasCopied catalogue manifest.old (store, rows.now) (standing D.Disk disk.old) held ahead
-        → MakesFiles manifest.old.granularity ahead pieces.now fs
+        → HasCopied catalogue manifest.old (store, rows.now) (shown_by D.Disk disk.old) held ahead
+        → MakesFiles manifest.old.granularity ahead writes.now fs
         → OnErr result (manifest.new.journal.sound ≡ true
-        → IsStoredAs catalogue manifest.new (store, rows.now) (standing D.Disk disk.new) held) }
+        → IsStoredAs catalogue manifest.new (store, rows.now) (shown_by D.Disk disk.new) held) }
     ensures in_doubt { IsTrue D.tells → (catalogue : JournalState) (held ahead : Held) (fs : List Filed)
-        → HasCopied catalogue manifest.old (store, rows.now) (standing D.Disk disk.old) held ahead
-        → MakesFiles manifest.old.granularity ahead pieces.now fs
+        → HasCopied catalogue manifest.old (store, rows.now) (shown_by D.Disk disk.old) held ahead
+        → MakesFiles manifest.old.granularity ahead writes.now fs
         → OnErr result (manifest.new.journal.sound ≡ false
-        → IsDoubtedAs catalogue manifest.new (store, rows.now) (standing D.Disk disk.new) held (with_files held fs)) }
+        → IsDoubtedAs catalogue manifest.new (store, rows.now) (shown_by D.Disk disk.new) held (with_files held fs)) }
 
     ensures ahead { IsTrue D.tells → (catalogue : JournalState) (held ahead : Held) (fs : List Filed)
-        → HasCopied catalogue manifest.old (store, rows.now) (standing D.Disk disk.old) held ahead
-        → MakesFiles manifest.old.granularity ahead pieces.now fs
+        → HasCopied catalogue manifest.old (store, rows.now) (shown_by D.Disk disk.old) held ahead
+        → MakesFiles manifest.old.granularity ahead writes.now fs
         → LeavesListed (listing_of ahead) (D.files disk.old) (D.files disk.new) (D.past disk.old) (D.past disk.new) }
     ensures long { IsTrue D.tells → (catalogue : JournalState) (held ahead : Held) (fs : List Filed)
-        → HasCopied catalogue manifest.old (store, rows.now) (standing D.Disk disk.old) held ahead
-        → MakesFiles manifest.old.granularity ahead pieces.now fs → AreLong ahead (D.files disk.new) }
+        → HasCopied catalogue manifest.old (store, rows.now) (shown_by D.Disk disk.old) held ahead
+        → MakesFiles manifest.old.granularity ahead writes.now fs → AreLong ahead (D.files disk.new) }
     ensures listed { IsTrue D.tells → LeavesListed ((store, rows.now), manifest.old.entries)
         (D.files disk.old) (D.files disk.new) (D.past disk.old) (D.past disk.new) }
     ensures elsewhere { IsTrue D.tells → (n : Name) → n.0 ≢ store → (IsOwn manifest.old.journal.name n → ⊥)
         → D.files disk.new n ≡ D.files disk.old n }
-    ensures others { IsTrue D.tells → (n : Name) → IsOfNone (store, rows.now) pieces.now n
+    ensures others { IsTrue D.tells → (n : Name) → IsOfNone (store, rows.now) writes.now n
         → (IsOwn manifest.old.journal.name n → ⊥)
         → D.files disk.new n ≡ D.files disk.old n }
     ensures frame { IsTrue D.tells
         → Passes (Beside store manifest.old.journal.name) (D.past disk.old) (D.past disk.new) }
     ensures no_more { IsTrue D.tells → (n : Name) → D.opened disk.new n ≤ D.opened disk.old n }
-    ensures entries { OnOk result (manifest.new.entries ≡ all_changed manifest.old.entries (map set_of pieces.now)) }
+    ensures entries { OnOk result (manifest.new.entries ≡ all_changed manifest.old.entries (map set_of writes.now)) }
     ensures unchanged { OnErr result (manifest.new.entries ≡ manifest.old.entries) }
     ensures next { OnErr result (manifest.new.journal.sound ≡ false
-        → manifest.new.next ≡ all_changed manifest.old.entries (map set_of pieces.now)) }
+        → manifest.new.next ≡ all_changed manifest.old.entries (map set_of writes.now)) }
     ensures state { (manifest.new.granularity ≡ manifest.old.granularity)
         × (manifest.new.journal.name ≡ manifest.old.journal.name) }
     ensures sound { OnOk result (manifest.new.journal.sound ≡ true) }
@@ -108,8 +108,8 @@ pub fn flush_pieces<D: Disk>(
     ensures faults { D.faults disk.old ≤ D.faults disk.new }
     ensures cause { IsErrOf result DiskErr.Fault → Rose (D.faults disk.old) (D.faults disk.new) }
 {
-    let changes = changes_of(alloc, pieces)?;
-    write_all(alloc, disk, store, rows, pieces)?;
+    let changes = changes_of(alloc, writes)?;
+    write_all(alloc, disk, store, rows, writes)?;
     relist(disk, manifest, &changes)?;
     Ok(())
 }

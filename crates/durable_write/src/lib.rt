@@ -3,7 +3,7 @@
 //!
 //! What an image of a disk holds of one store is said once, in the archive's terms (`Holds`): rows, and per row the
 //! listed partition files with their samples. [`plan_flush`] says which bytes of a batch go to which files, and
-//! [`flush_pieces`] writes all of them behind the listed lengths, then syncs each file, and then commits the manifest.
+//! [`flush_files`] writes all of them behind the listed lengths, then syncs each file, and then commits the manifest.
 //! A crash at any moment leaves what was held before, or that with all of the batch. [`relist`] is the commit alone, of
 //! files that a move has copied, or is to drop.
 //!
@@ -15,15 +15,15 @@
 //! out which, by `Manifest::review`.
 #![tactic(auto)]
 
+mod file_write;
 mod flushing;
 mod name;
-mod piece;
 mod plan;
 mod relisting;
 mod writing;
 
-pub use flushing::flush_pieces;
+pub use file_write::FileWrite;
+pub use flushing::flush_files;
 pub use name::file_name;
-pub use piece::Piece;
-pub use plan::{MOST_PIECES, Plan, header, plan_flush};
+pub use plan::{MOST_WRITES, Plan, header, plan_flush};
 pub use relisting::relist;

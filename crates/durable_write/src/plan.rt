@@ -15,11 +15,11 @@ ghost use Rattle.partition_names.specs.Part.{IsPart};
 ghost use Rattle.store_manifest.specs.declared.entry.Entry.{Entry as EntryValue};
 ghost use Rattle.durable_write.specs.Held.{Held};
 ghost use Rattle.durable_write.specs.Flush.{IsSampleOf, IsOfRow, CanFlush, header_of, HoldsBoth, Flushes};
-ghost use Rattle.durable_write.specs.Plan.{IsAppended, GoesTo, OfLast, IsLastPiece, side_of, IsBegun, IsPushed};
+ghost use Rattle.durable_write.specs.Plan.{IsAppended, GoesTo, OfLast, IsLastWrite, side_of, IsBegun, IsPushed};
 ghost use Rattle.durable_write.specs.Plan.{IsExtended, IsDraft, IsTarget, Adds, IsLastOf, later_of, last_with, PlansOn};
-ghost use Rattle.durable_write.specs.Plan.{KeepsRows, most_pieces};
+ghost use Rattle.durable_write.specs.Plan.{KeepsRows, most_writes};
 
-use crate::piece::Piece;
+use crate::file_write::FileWrite;
 use arch_time::{END, START, split};
 use partition_names::{Granularity, part_of};
 use pb_lines::header_line;
@@ -30,13 +30,13 @@ use std::alloc::{AllocError, Global};
 use store_manifest::{Entry, Manifest};
 
 /// As many entries as one commit of a manifest may set: 49 bytes each in at most 1,073,741,824.
-pub const MOST_PIECES: usize = 21_913_098;
+pub const MOST_WRITES: usize = 21_913_098;
 
 /// The plan of a flush.
 #[derive(Drop)]
 pub struct Plan {
     /// What each file gets.
-    pub pieces: Vec<Piece>,
+    pub writes: Vec<FileWrite>,
     /// How many samples more are listed with them.
     pub count: u64,
 }
@@ -57,7 +57,7 @@ pub(crate) struct Target {
 pub(crate) enum Destination {
     /// Nowhere: it isn't later than the row's last.
     Late,
-    /// Into the last piece.
+    /// Into the last write.
     Open,
     /// Behind the listed bytes of the row's last file.
     Listed(Entry),
@@ -65,7 +65,7 @@ pub(crate) enum Destination {
     New,
 }
 
-/// Plans the flush of a batch: the pieces that its samples make, each file's once, in the order of rows and time.
+/// Plans the flush of a batch: the writes that its samples make, each file's once, in the order of rows and time.
 /// `limbo` has the entries of files that aren't listed but are on the disk still: where a row's last file is one of
 /// them, its samples go on behind that.
 pub fn plan_flush(
@@ -80,19 +80,19 @@ pub fn plan_flush(
     requires limbo { All (λ (e : EntryValue). IsPart manifest.now.granularity e.part) limbo.now }
     ensures flushes { IfOk result (λ plan. (held : Held)
         → HoldsBoth manifest.now.granularity rows.now manifest.now.entries limbo.now held
-        → Flushes manifest.now.granularity held batch.now plan.pieces.items plan.count) }
-    ensures parts { IfOk result (λ plan. All (λ p. IsPart manifest.now.granularity p.entry.part) plan.pieces.items) }
-    ensures rows { IfOk result (λ plan. All (λ p. p.entry.series < length rows.now) plan.pieces.items) }
-    ensures few { IfOk result (λ plan. length plan.pieces.items ≤ most_pieces) }
+        → Flushes manifest.now.granularity held batch.now plan.writes.items plan.count) }
+    ensures parts { IfOk result (λ plan. All (λ p. IsPart manifest.now.granularity p.entry.part) plan.writes.items) }
+    ensures rows { IfOk result (λ plan. All (λ p. p.entry.series < length rows.now) plan.writes.items) }
+    ensures few { IfOk result (λ plan. length plan.writes.items ≤ most_writes) }
 {
     let order = by_row(alloc, batch)?;
-    let mut pieces = Vec::new(alloc);
+    let mut writes = Vec::new(alloc);
     let mut count: u64 = 0;
     for part in &order {
-        let more = add_part(alloc, rows, manifest, limbo, part, &mut pieces)?;
+        let more = add_part(alloc, rows, manifest, limbo, part, &mut writes)?;
         count += more;
     }
-    Ok(Plan { pieces, count })
+    Ok(Plan { writes, count })
 }
 
 // The lists of the batch by their rows; those of one row keep their order.
@@ -119,16 +119,16 @@ fn add_part(
     manifest: &Manifest,
     limbo: &[Entry],
     part: &LentSamples,
-    pieces: &mut Vec<Piece>,
+    writes: &mut Vec<FileWrite>,
 ) -> Result<u64, AllocError>
     requires part { IsOfRow rows.now part.now }
     requires listed { All (λ e. IsPart manifest.now.granularity e.part) manifest.now.entries }
     requires limbo { All (λ (e : EntryValue). IsPart manifest.now.granularity e.part) limbo.now }
-    requires draft { IsDraft manifest.now.granularity part.now.row pieces.old.items }
-    ensures draft { OnOk result (IsDraft manifest.now.granularity part.now.row pieces.new.items) }
+    requires draft { IsDraft manifest.now.granularity part.now.row writes.old.items }
+    ensures draft { OnOk result (IsDraft manifest.now.granularity part.now.row writes.new.items) }
     ensures few { IfOk result (λ n. n ≤ length part.now.samples) }
     ensures added { IfOk result (λ n. PlansOn manifest.now.granularity rows.now manifest.now.entries limbo.now
-        part.now n pieces.old.items pieces.new.items) }
+        part.now n writes.old.items writes.new.items) }
 {
     let listed = last_file(manifest, limbo, part.row);
     let target = Target {
@@ -137,7 +137,7 @@ fn add_part(
         listed,
     };
     let row = &rows[part.row as usize];
-    let count = add_samples(alloc, &target, row, part.samples, pieces)?;
+    let count = add_samples(alloc, &target, row, part.samples, writes)?;
     Ok(count)
 }
 
@@ -180,19 +180,19 @@ fn add_samples(
     target: &Target,
     row: &Row,
     samples: &[Sample],
-    pieces: &mut Vec<Piece>,
+    writes: &mut Vec<FileWrite>,
 ) -> Result<u64, AllocError>
     requires samples { All (IsSampleOf row.now) samples.now }
     requires rising { IsRising samples.now }
-    requires draft { IsDraft target.now.granularity target.now.series pieces.old.items }
+    requires draft { IsDraft target.now.granularity target.now.series writes.old.items }
     requires target { IsTarget target.now }
-    ensures draft { OnOk result (IsDraft target.now.granularity target.now.series pieces.new.items) }
-    ensures added { IfOk result (λ n. Adds target.now row.now samples.now n pieces.old.items pieces.new.items) }
+    ensures draft { OnOk result (IsDraft target.now.granularity target.now.series writes.new.items) }
+    ensures added { IfOk result (λ n. Adds target.now row.now samples.now n writes.old.items writes.new.items) }
     ensures few { IfOk result (λ n. n ≤ length samples.now) }
 {
     let mut count: u64 = 0;
     for sample in samples {
-        if add_sample(alloc, target, row, sample, pieces)? {
+        if add_sample(alloc, target, row, sample, writes)? {
             count += 1;
         }
     }
@@ -205,32 +205,32 @@ fn add_sample(
     target: &Target,
     row: &Row,
     sample: &Sample,
-    pieces: &mut Vec<Piece>,
+    writes: &mut Vec<FileWrite>,
 ) -> Result<bool, AllocError>
     requires sample { IsSampleOf row.now sample.now }
-    requires draft { IsDraft target.now.granularity target.now.series pieces.old.items }
+    requires draft { IsDraft target.now.granularity target.now.series writes.old.items }
     requires target { IsTarget target.now }
-    ensures draft { OnOk result (IsDraft target.now.granularity target.now.series pieces.new.items) }
+    ensures draft { OnOk result (IsDraft target.now.granularity target.now.series writes.new.items) }
     ensures added { IfOk result (λ taken.
-        Adds target.now row.now (sample.now ∷ []) (if taken then 1 else 0) pieces.old.items pieces.new.items) }
+        Adds target.now row.now (sample.now ∷ []) (if taken then 1 else 0) writes.old.items writes.new.items) }
 {
-    match find_destination(target, sample.t, pieces) {
+    match find_destination(target, sample.t, writes) {
         Destination::Late => return Ok(false),
-        Destination::Open => extend_last(sample, pieces)?,
-        Destination::Listed(entry) => push(resume(alloc, entry), sample, pieces)?,
-        Destination::New => push(begin(alloc, target, row, sample.t)?, sample, pieces)?,
+        Destination::Open => extend_last(sample, writes)?,
+        Destination::Listed(entry) => push(resume(alloc, entry), sample, writes)?,
+        Destination::New => push(begin(alloc, target, row, sample.t)?, sample, writes)?,
     }
     Ok(true)
 }
 
 // Where the next sample of a row goes.
-fn find_destination(target: &Target, t: u64, pieces: &[Piece]) -> Destination
-    requires draft { IsDraft target.now.granularity target.now.series pieces.now }
+fn find_destination(target: &Target, t: u64, writes: &[FileWrite]) -> Destination
+    requires draft { IsDraft target.now.granularity target.now.series writes.now }
     requires target { IsTarget target.now }
-    ensures { GoesTo target.now pieces.now t result }
+    ensures { GoesTo target.now writes.now t result }
 {
-    if let Some(piece) = last_of_row(target.series, pieces) {
-        return side_of(&piece.entry, t, Destination::Open);
+    if let Some(write) = last_of_row(target.series, writes) {
+        return side_of(&write.entry, t, Destination::Open);
     }
     match target.listed {
         Some(entry) => {
@@ -241,14 +241,14 @@ fn find_destination(target: &Target, t: u64, pieces: &[Piece]) -> Destination
     }
 }
 
-// The last piece, if it is of the row.
-fn last_of_row(series: u32, pieces: &[Piece]) -> Option<&Piece>
-    ensures some { IfSome result (λ p. IsLastPiece pieces.now series p.now) }
-    ensures none { result ≡ None → OfLast (λ p. p.entry.series ≢ series) pieces.now }
+// The last write, if it is of the row.
+fn last_of_row(series: u32, writes: &[FileWrite]) -> Option<&FileWrite>
+    ensures some { IfSome result (λ p. IsLastWrite writes.now series p.now) }
+    ensures none { result ≡ None → OfLast (λ p. p.entry.series ≢ series) writes.now }
 {
-    let piece = pieces.last()?;
-    if piece.entry.series == series {
-        Some(piece)
+    let write = writes.last()?;
+    if write.entry.series == series {
+        Some(write)
     } else {
         None
     }
@@ -267,22 +267,22 @@ fn side_of(last: &Entry, t: u64, inside: Destination) -> Destination
     }
 }
 
-// A piece behind the listed bytes of a file, with no sample yet.
-fn resume(alloc: Global, entry: Entry) -> Piece
+// A write behind the listed bytes of a file, with no sample yet.
+fn resume(alloc: Global, entry: Entry) -> FileWrite
     ensures entry { result.entry ≡ entry }
     ensures at { result.at ≡ Some entry.len }
     ensures bytes { result.bytes.items ≡ [] }
 {
     let at = entry.len;
-    Piece {
+    FileWrite {
         entry,
         at: Some(at),
         bytes: Vec::new(alloc),
     }
 }
 
-// A piece that makes the row's file of the partition of this moment, with its header and no sample yet.
-fn begin(alloc: Global, target: &Target, row: &Row, t: u64) -> Result<Piece, AllocError>
+// A write that makes the row's file of the partition of this moment, with its header and no sample yet.
+fn begin(alloc: Global, target: &Target, row: &Row, t: u64) -> Result<FileWrite, AllocError>
     requires { (START ≤ t) × (t < END) }
     ensures { IfOk result (IsBegun target.now row.now t) }
 {
@@ -296,7 +296,7 @@ fn begin(alloc: Global, target: &Target, row: &Row, t: u64) -> Result<Piece, All
     let Ok(head_len) = u32::try_from(bytes.len()) else {
         return Err(AllocError);
     };
-    Ok(Piece {
+    Ok(FileWrite {
         entry: Entry {
             series: target.series,
             part,
@@ -338,35 +338,39 @@ fn elements(about: &About) -> Option<i32>
     }
 }
 
-fn extend_last(sample: &Sample, pieces: &mut Vec<Piece>) -> Result<(), AllocError>
-    requires { 1 ≤ length pieces.old.items }
-    ensures { OnOk result (IsExtended sample.now pieces.old.items pieces.new.items) }
+fn extend_last(sample: &Sample, writes: &mut Vec<FileWrite>) -> Result<(), AllocError>
+    requires { 1 ≤ length writes.old.items }
+    ensures { OnOk result (IsExtended sample.now writes.old.items writes.new.items) }
 {
-    let last = pieces.len() - 1;
-    append(&mut pieces[last], sample)?;
+    let last = writes.len() - 1;
+    append(&mut writes[last], sample)?;
     Ok(())
 }
 
-fn push(mut piece: Piece, sample: &Sample, pieces: &mut Vec<Piece>) -> Result<(), AllocError>
-    ensures { OnOk result (IsPushed sample.now piece pieces.old.items pieces.new.items) }
+fn push(
+    mut write: FileWrite,
+    sample: &Sample,
+    writes: &mut Vec<FileWrite>,
+) -> Result<(), AllocError>
+    ensures { OnOk result (IsPushed sample.now write writes.old.items writes.new.items) }
 {
-    if pieces.len() >= MOST_PIECES {
+    if writes.len() >= MOST_WRITES {
         return Err(AllocError);
     }
-    append(&mut piece, sample)?;
-    pieces.push(piece)?;
+    append(&mut write, sample)?;
+    writes.push(write)?;
     Ok(())
 }
 
 // Appends the sample's line and its newline.
-fn append(piece: &mut Piece, sample: &Sample) -> Result<(), AllocError>
-    ensures { OnOk result (IsAppended sample.now piece.old piece.new) }
+fn append(write: &mut FileWrite, sample: &Sample) -> Result<(), AllocError>
+    ensures { OnOk result (IsAppended sample.now write.old write.new) }
 {
     let more = sample.line.bytes().len() as u64 + 1;
-    piece.entry.len = piece.entry.len.checked_add(more).ok_or(AllocError)?;
-    piece.entry.count = piece.entry.count.checked_add(1).ok_or(AllocError)?;
-    piece.entry.last = sample.t;
-    piece.bytes.extend_from_slice(sample.line.bytes())?;
-    piece.bytes.push(b'\n')?;
+    write.entry.len = write.entry.len.checked_add(more).ok_or(AllocError)?;
+    write.entry.count = write.entry.count.checked_add(1).ok_or(AllocError)?;
+    write.entry.last = sample.t;
+    write.bytes.extend_from_slice(sample.line.bytes())?;
+    write.bytes.push(b'\n')?;
     Ok(())
 }

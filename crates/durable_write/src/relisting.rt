@@ -5,7 +5,7 @@ ghost use Rattle.disk_model.specs.Past.{Passes};
 ghost use Rattle.gate_journal.specs.Batches.{greatest_batch};
 ghost use Rattle.gate_journal.specs.Generations.{IsOwn, AtOwn};
 ghost use Rattle.gate_journal.specs.Journal.{JournalState};
-ghost use Rattle.gate_journal.specs.Standing.{standing};
+ghost use Rattle.gate_journal.specs.DiskShown.{shown_by};
 ghost use Rattle.store_manifest.specs.Entries.{AllCanFollow, all_changed};
 ghost use Rattle.store_manifest.specs.Batches.{batch_of};
 ghost use Rattle.durable_write.specs.Held.{Held, Shelf};
@@ -27,22 +27,22 @@ pub fn relist<D: Disk>(
     requires follow { AllCanFollow manifest.old.granularity manifest.old.entries changes.now }
     requires few { length (batch_of changes.now) ≤ greatest_batch }
     requires can { IsTrue D.tells → (catalogue : JournalState) × (shelf : Shelf) × (held : Held) × (next : Held)
-        × CanRelist catalogue manifest.old shelf (standing D.Disk disk.old) held next changes.now }
+        × CanRelist catalogue manifest.old shelf (shown_by D.Disk disk.old) held next changes.now }
 
     ensures any_moment { IsTrue D.tells → (catalogue : JournalState) (shelf : Shelf) (held next : Held)
-        → CanRelist catalogue manifest.old shelf (standing D.Disk disk.old) held next changes.now
+        → CanRelist catalogue manifest.old shelf (shown_by D.Disk disk.old) held next changes.now
         → Passes (HoldsEither manifest.old.granularity held next) (D.past disk.old) (D.past disk.new) }
     ensures made { IsTrue D.tells → (catalogue : JournalState) (shelf : Shelf) (held next : Held)
-        → CanRelist catalogue manifest.old shelf (standing D.Disk disk.old) held next changes.now
-        → OnOk result (IsStoredAs catalogue manifest.new shelf (standing D.Disk disk.new) next) }
+        → CanRelist catalogue manifest.old shelf (shown_by D.Disk disk.old) held next changes.now
+        → OnOk result (IsStoredAs catalogue manifest.new shelf (shown_by D.Disk disk.new) next) }
     ensures unmade { IsTrue D.tells → (catalogue : JournalState) (shelf : Shelf) (held next : Held)
-        → CanRelist catalogue manifest.old shelf (standing D.Disk disk.old) held next changes.now
+        → CanRelist catalogue manifest.old shelf (shown_by D.Disk disk.old) held next changes.now
         → OnErr result (manifest.new.journal.sound ≡ true
-        → IsStoredAs catalogue manifest.new shelf (standing D.Disk disk.new) held) }
+        → IsStoredAs catalogue manifest.new shelf (shown_by D.Disk disk.new) held) }
     ensures in_doubt { IsTrue D.tells → (catalogue : JournalState) (shelf : Shelf) (held next : Held)
-        → CanRelist catalogue manifest.old shelf (standing D.Disk disk.old) held next changes.now
+        → CanRelist catalogue manifest.old shelf (shown_by D.Disk disk.old) held next changes.now
         → OnErr result (manifest.new.journal.sound ≡ false
-        → IsDoubtedAs catalogue manifest.new shelf (standing D.Disk disk.new) held next) }
+        → IsDoubtedAs catalogue manifest.new shelf (shown_by D.Disk disk.new) held next) }
     ensures elsewhere { IsTrue D.tells → (n : Name) → (IsOwn manifest.old.journal.name n → ⊥)
         → D.files disk.new n ≡ D.files disk.old n }
     ensures frame { IsTrue D.tells

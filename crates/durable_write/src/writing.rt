@@ -4,7 +4,7 @@ ghost use Rattle.std.specs.Prelude.{◌≡◌, ◌≢◌, ◌≤◌, ◌<◌, �
 ghost use Rattle.std.specs.Prelude.{IsTrue, Some};
 ghost use Rattle.disk_model.specs.Files.{Name, Rose, At, HasFile};
 ghost use Rattle.disk_model.specs.Past.{Passes};
-ghost use Rattle.gate_journal.specs.Standing.{standing};
+ghost use Rattle.gate_journal.specs.DiskShown.{shown_by};
 ghost use Rattle.store_files.specs.Fronts.{Keeps};
 ghost use Rattle.partition_names.specs.declared.granularity.Granularity.{Granularity};
 ghost use Rattle.durable_write.specs.Held.{Filed, Held, file_of};
@@ -12,7 +12,7 @@ ghost use Rattle.durable_write.specs.Flush.{Grows, MakesFiles, start_of, with_fi
 ghost use Rattle.durable_write.specs.Stored.{AreLong, AreSafe};
 ghost use Rattle.durable_write.specs.Writing.{Behind, IsSafe, IsWritten, IsSynced, IsOfNone};
 
-use crate::piece::Piece;
+use crate::file_write::FileWrite;
 use disk_model::{Disk, DiskErr, FileName};
 use partition_names::file_path;
 use pv_catalog::Row;
@@ -68,123 +68,123 @@ fn make_anew<D: Disk>(disk: &mut D, name: &FileName, bytes: &[u8]) -> Result<(),
     Ok(())
 }
 
-// Writes one piece to its file. The name is only a place to build the file's in.
-fn write_piece<D: Disk>(
+// Makes one write. The name is only a place to build the file's in.
+fn write_file<D: Disk>(
     disk: &mut D,
     name: &mut FileName,
     store: u8,
     rows: &[Row],
-    piece: &Piece,
+    write: &FileWrite,
 ) -> Result<(), DiskErr>
-    requires row { piece.now.entry.series < length rows.now }
+    requires row { write.now.entry.series < length rows.now }
     requires can { IsTrue D.tells → (g : Granularity) × (held : Held) × (f : Filed)
-        × IsSafe g (store, rows.now) (standing D.Disk disk.old) held × Grows g held piece.now f }
+        × IsSafe g (store, rows.now) (shown_by D.Disk disk.old) held × Grows g held write.now f }
     ensures written { IsTrue D.tells → (g : Granularity) (held : Held) (f : Filed)
-        → IsSafe g (store, rows.now) (standing D.Disk disk.old) held → Grows g held piece.now f
+        → IsSafe g (store, rows.now) (shown_by D.Disk disk.old) held → Grows g held write.now f
         → OnOk result (IsWritten held (D.files disk.new) (D.opened disk.new) f) }
     ensures still { IsTrue D.tells → (g : Granularity) (held : Held) (f : Filed)
-        → IsSafe g (store, rows.now) (standing D.Disk disk.old) held → Grows g held piece.now f
+        → IsSafe g (store, rows.now) (shown_by D.Disk disk.old) held → Grows g held write.now f
         → AreLong held (D.files disk.new) }
-    ensures kept { IsTrue D.tells → At (file_of (store, rows.now) piece.now.entry) (Keeps (start_of piece.now.at))
+    ensures kept { IsTrue D.tells → At (file_of (store, rows.now) write.now.entry) (Keeps (start_of write.now.at))
         (D.files disk.old) (D.files disk.new) }
     ensures any_moment { IsTrue D.tells
-        → Passes (At (file_of (store, rows.now) piece.now.entry) (Keeps (start_of piece.now.at)))
+        → Passes (At (file_of (store, rows.now) write.now.entry) (Keeps (start_of write.now.at)))
         (D.past disk.old) (D.past disk.new) }
     ensures no_more { IsTrue D.tells → (n : Name) → D.opened disk.new n ≤ D.opened disk.old n }
     ensures faults { D.faults disk.old ≤ D.faults disk.new }
     ensures cause { IsErrOf result DiskErr.Fault → Rose (D.faults disk.old) (D.faults disk.new) }
 {
-    set_name(name, store, rows, &piece.entry)?;
-    match piece.at {
-        Some(len) => go_on(disk, name, len, &piece.bytes)?,
-        None => make_anew(disk, name, &piece.bytes)?,
+    set_name(name, store, rows, &write.entry)?;
+    match write.at {
+        Some(len) => go_on(disk, name, len, &write.bytes)?,
+        None => make_anew(disk, name, &write.bytes)?,
     }
     Ok(())
 }
 
-// Writes the pieces to their files, one after another, and syncs none.
-fn write_pieces<D: Disk>(
+// Makes the writes, one after another, and syncs none.
+fn write_files<D: Disk>(
     disk: &mut D,
     name: &mut FileName,
     store: u8,
     rows: &[Row],
-    pieces: &[Piece],
+    writes: &[FileWrite],
 ) -> Result<(), DiskErr>
-    requires rows { All (λ p. p.entry.series < length rows.now) pieces.now }
+    requires rows { All (λ p. p.entry.series < length rows.now) writes.now }
     requires can { IsTrue D.tells → (g : Granularity) × (held : Held) × (fs : List Filed)
-        × IsSafe g (store, rows.now) (standing D.Disk disk.old) held × MakesFiles g held pieces.now fs }
+        × IsSafe g (store, rows.now) (shown_by D.Disk disk.old) held × MakesFiles g held writes.now fs }
     ensures any_moment { IsTrue D.tells → (g : Granularity) (held : Held) (fs : List Filed)
-        → IsSafe g (store, rows.now) (standing D.Disk disk.old) held → MakesFiles g held pieces.now fs
+        → IsSafe g (store, rows.now) (shown_by D.Disk disk.old) held → MakesFiles g held writes.now fs
         → Passes (Behind held) (D.past disk.old) (D.past disk.new) }
     ensures behind { IsTrue D.tells → (g : Granularity) (held : Held) (fs : List Filed)
-        → IsSafe g (store, rows.now) (standing D.Disk disk.old) held → MakesFiles g held pieces.now fs
+        → IsSafe g (store, rows.now) (shown_by D.Disk disk.old) held → MakesFiles g held writes.now fs
         → Behind held (D.files disk.old) (D.files disk.new) }
     ensures still { IsTrue D.tells → (g : Granularity) (held : Held) (fs : List Filed)
-        → IsSafe g (store, rows.now) (standing D.Disk disk.old) held → MakesFiles g held pieces.now fs
+        → IsSafe g (store, rows.now) (shown_by D.Disk disk.old) held → MakesFiles g held writes.now fs
         → AreLong held (D.files disk.new) }
     ensures written { IsTrue D.tells → (g : Granularity) (held : Held) (fs : List Filed)
-        → IsSafe g (store, rows.now) (standing D.Disk disk.old) held → MakesFiles g held pieces.now fs
+        → IsSafe g (store, rows.now) (shown_by D.Disk disk.old) held → MakesFiles g held writes.now fs
         → OnOk result (All (IsWritten held (D.files disk.new) (D.opened disk.new)) fs) }
     ensures elsewhere { IsTrue D.tells → (n : Name) → n.0 ≢ store → D.files disk.new n ≡ D.files disk.old n }
-    ensures others { IsTrue D.tells → (n : Name) → IsOfNone (store, rows.now) pieces.now n
+    ensures others { IsTrue D.tells → (n : Name) → IsOfNone (store, rows.now) writes.now n
         → D.files disk.new n ≡ D.files disk.old n }
     ensures no_more { IsTrue D.tells → (n : Name) → D.opened disk.new n ≤ D.opened disk.old n }
     ensures faults { D.faults disk.old ≤ D.faults disk.new }
     ensures cause { IsErrOf result DiskErr.Fault → Rose (D.faults disk.old) (D.faults disk.new) }
 {
-    for piece in pieces {
-        write_piece(disk, name, store, rows, piece)?;
+    for write in writes {
+        write_file(disk, name, store, rows, write)?;
     }
     Ok(())
 }
 
-// The names of the pieces' files.
+// The names of the writes' files.
 fn names_of(
     alloc: Global,
     store: u8,
     rows: &[Row],
-    pieces: &[Piece],
+    writes: &[FileWrite],
 ) -> Result<Vec<FileName>, AllocError>
-    requires { All (λ p. p.entry.series < length rows.now) pieces.now }
-    ensures { IfOk result (λ names. names.items ≡ map (λ p. file_of (store, rows.now) p.entry) pieces.now) }
+    requires { All (λ p. p.entry.series < length rows.now) writes.now }
+    ensures { IfOk result (λ names. names.items ≡ map (λ p. file_of (store, rows.now) p.entry) writes.now) }
 {
     let mut names = Vec::new(alloc);
-    for piece in pieces {
+    for write in writes {
         let mut name = FileName {
             store,
             path: Vec::new(alloc),
         };
-        set_name(&mut name, store, rows, &piece.entry)?;
+        set_name(&mut name, store, rows, &write.entry)?;
         names.push(name)?;
     }
     Ok(names)
 }
 
-// Syncs the pieces' files, many at a time where the disk does: each later crash leaves them as reads give them.
+// Syncs the writes' files, many at a time where the disk does: each later crash leaves them as reads give them.
 fn sync_files<D: Disk>(
     alloc: Global,
     disk: &mut D,
     store: u8,
     rows: &[Row],
-    pieces: &[Piece],
+    writes: &[FileWrite],
 ) -> Result<(), DiskErr>
-    requires { All (λ p. p.entry.series < length rows.now) pieces.now }
+    requires { All (λ p. p.entry.series < length rows.now) writes.now }
     ensures durable { IsTrue D.tells
-        → OnOk result (All (IsSynced (store, rows.now) (D.files disk.old) (D.past disk.new)) pieces.now) }
+        → OnOk result (All (IsSynced (store, rows.now) (D.files disk.old) (D.past disk.new)) writes.now) }
     ensures same { IsTrue D.tells → D.files disk.new ≡ D.files disk.old }
     ensures any_moment { IsTrue D.tells → Passes (λ a b. b ≡ a) (D.past disk.old) (D.past disk.new) }
     ensures opened { IsTrue D.tells → D.opened disk.new ≡ D.opened disk.old }
     ensures faults { D.faults disk.old ≤ D.faults disk.new }
     ensures cause { IsErrOf result DiskErr.Fault → Rose (D.faults disk.old) (D.faults disk.new) }
 {
-    let names = names_of(alloc, store, rows, pieces)?;
+    let names = names_of(alloc, store, rows, writes)?;
     disk.sync_each(&names)?;
     Ok(())
 }
 
-/// Writes the pieces to their files, and then syncs each file: so a folder that gets many new files is synced with the
+/// Makes the writes, and then syncs each file: so a folder that gets many new files is synced with the
 /// first of them. It lists nothing: what was held is still held, at every moment of the call and after each answer. At
-/// `Ok` the files with the pieces are as safe as those that were held.
+/// `Ok` the files with the writes are as safe as those that were held.
 ///
 /// `Fault` comes only where the disk's count of faults rose in the call.
 pub(crate) fn write_all<D: Disk>(
@@ -192,27 +192,27 @@ pub(crate) fn write_all<D: Disk>(
     disk: &mut D,
     store: u8,
     rows: &[Row],
-    pieces: &[Piece],
+    writes: &[FileWrite],
 ) -> Result<(), DiskErr>
-    requires rows { All (λ p. p.entry.series < length rows.now) pieces.now }
+    requires rows { All (λ p. p.entry.series < length rows.now) writes.now }
     requires can { IsTrue D.tells → (g : Granularity) × (held : Held) × (fs : List Filed)
-        × IsSafe g (store, rows.now) (standing D.Disk disk.old) held × MakesFiles g held pieces.now fs }
+        × IsSafe g (store, rows.now) (shown_by D.Disk disk.old) held × MakesFiles g held writes.now fs }
 
     ensures any_moment { IsTrue D.tells → (g : Granularity) (held : Held) (fs : List Filed)
-        → IsSafe g (store, rows.now) (standing D.Disk disk.old) held → MakesFiles g held pieces.now fs
+        → IsSafe g (store, rows.now) (shown_by D.Disk disk.old) held → MakesFiles g held writes.now fs
         → Passes (Behind held) (D.past disk.old) (D.past disk.new) }
     ensures behind { IsTrue D.tells → (g : Granularity) (held : Held) (fs : List Filed)
-        → IsSafe g (store, rows.now) (standing D.Disk disk.old) held → MakesFiles g held pieces.now fs
+        → IsSafe g (store, rows.now) (shown_by D.Disk disk.old) held → MakesFiles g held writes.now fs
         → Behind held (D.files disk.old) (D.files disk.new) }
     ensures still { IsTrue D.tells → (g : Granularity) (held : Held) (fs : List Filed)
-        → IsSafe g (store, rows.now) (standing D.Disk disk.old) held → MakesFiles g held pieces.now fs
+        → IsSafe g (store, rows.now) (shown_by D.Disk disk.old) held → MakesFiles g held writes.now fs
         → AreLong held (D.files disk.new) }
     ensures written { IsTrue D.tells → (g : Granularity) (held : Held) (fs : List Filed)
-        → IsSafe g (store, rows.now) (standing D.Disk disk.old) held → MakesFiles g held pieces.now fs
-        → OnOk result (AreSafe (with_files held fs) (standing D.Disk disk.new)) }
+        → IsSafe g (store, rows.now) (shown_by D.Disk disk.old) held → MakesFiles g held writes.now fs
+        → OnOk result (AreSafe (with_files held fs) (shown_by D.Disk disk.new)) }
 
     ensures elsewhere { IsTrue D.tells → (n : Name) → n.0 ≢ store → D.files disk.new n ≡ D.files disk.old n }
-    ensures others { IsTrue D.tells → (n : Name) → IsOfNone (store, rows.now) pieces.now n
+    ensures others { IsTrue D.tells → (n : Name) → IsOfNone (store, rows.now) writes.now n
         → D.files disk.new n ≡ D.files disk.old n }
     ensures no_more { IsTrue D.tells → (n : Name) → D.opened disk.new n ≤ D.opened disk.old n }
     ensures faults { D.faults disk.old ≤ D.faults disk.new }
@@ -222,7 +222,7 @@ pub(crate) fn write_all<D: Disk>(
         store,
         path: Vec::new(alloc),
     };
-    write_pieces(disk, &mut name, store, rows, pieces)?;
-    sync_files(alloc, disk, store, rows, pieces)?;
+    write_files(disk, &mut name, store, rows, writes)?;
+    sync_files(alloc, disk, store, rows, writes)?;
     Ok(())
 }

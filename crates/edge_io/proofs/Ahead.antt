@@ -9,7 +9,7 @@ use Rattle.edge_io.specs.declared.lines.LineRead.{LineRead}
 use Rattle.edge_io.specs.declared.lines.LineRead.TheVariants.{Line, End, Torn, TooLong, InputTooLong, SourceFault, Memory}
 use Rattle.edge_io.specs.declared.lines.Filled.{Filled}
 use Rattle.edge_io.specs.declared.lines.Filled.TheVariants as filled
-use Rattle.edge_io.specs.Lines.{Reader, ahead, IsTorn, IsTooLong, IsInputTooLong, NoneBelow, IsLineEnd, Stays, Reads, HoldsAnswer, AnswersHeld, Wants, Fills, ReadsOn}
+use Rattle.edge_io.specs.Lines.{LineReader, ahead, IsTorn, IsTooLong, IsInputTooLong, NoneBelow, IsLineEnd, Stays, Reads, HoldsAnswer, AnswersHeld, Wants, Fills, ReadsOn}
 
 -- a line went from the reader to the caller
 pub consumes_line : (a : Option (List ℕ)) (held line rest : List ℕ) (left : Option (List ℕ)) → Keeps a (prepend_known held left) → held ≡ line ++ 10 ∷ rest → Consumes a (prepend_known rest left) (line ++ 10 ∷ [])
@@ -83,7 +83,7 @@ read_fills old new start a b filled.Memory within h =
     (takes_none a b (drop start old) (drop start new) same h.1, same)
 
 -- an answer from what the reader holds is the answer to what is still to come
-pub held_answers : (old mid new : Reader) (a left : Option (List ℕ)) (r : LineRead) → Keeps a (ahead mid left) → Stays old mid → AnswersHeld mid new r → Reads old new a (ahead new left) r
+pub held_answers : (old mid new : LineReader) (a left : Option (List ℕ)) (r : LineRead) → Keeps a (ahead mid left) → Stays old mid → AnswersHeld mid new r → Reads old new a (ahead new left) r
 held_answers old mid new a left Line kept stays h =
     let line = h.0 in (
       record {
@@ -116,7 +116,7 @@ held_answers old mid new a left SourceFault kept stays h = absurd h
 held_answers old mid new a left Memory kept stays h = absurd h
 
 -- a line that a newline follows is given
-pub gives_line : (old new : Reader) (len : ℕ) → old.stop ≡ None → len ≤ 16777216 → len < length old.held → get_or old.held len 0 ≡ 10 → NoneBelow old.held len →
+pub gives_line : (old new : LineReader) (len : ℕ) → old.stop ≡ None → len ≤ 16777216 → len < length old.held → get_or old.held len 0 ≡ 10 → NoneBelow old.held len →
     new.line ≡ take len old.held → new.held ≡ drop (len + 1) old.held → new.number ≡ old.number + 1 → new.passed ≡ old.passed + len + 1 → new.stop ≡ old.stop → new.passed ≤ 2 ^ 40 → AnswersHeld old new Line
 gives_line old new len goes_on short within is none line held number passed stop bound =
     let long = length-take-le len old.held (omega arith) in (
@@ -143,7 +143,7 @@ none_at_end (Some xs) held None h end e = absurd h
 none_at_end (Some xs) held (Some ys) h end e = sym h ∙ ap (λ (v : List ℕ). held ++ v) end ∙ append-nil held ∙ e
 
 -- the answer at the source's end
-pub end_answers : (old mid new : Reader) (a left : Option (List ℕ)) (r : LineRead) → Keeps a (ahead mid left) → Stays old mid → mid.stop ≡ None → Wants mid → IsAtEnd left →
+pub end_answers : (old mid new : LineReader) (a left : Option (List ℕ)) (r : LineRead) → Keeps a (ahead mid left) → Stays old mid → mid.stop ≡ None → Wants mid → IsAtEnd left →
     (length mid.held ≡ 0 → (r ≡ End) × (new ≡ mid)) → (0 < length mid.held → (r ≡ Torn) × (new ≡ record mid { stop = Some Torn })) → Reads old new a (ahead new left) r
 end_answers old mid new a left r kept stays goes_on wants end none some =
     elim (length mid.held) as (λ n. length mid.held ≡ n → Reads old new a (ahead new left) r) [
@@ -159,7 +159,7 @@ end_answers old mid new a left r kept stays goes_on wants end none some =
     ] refl
 
 -- a reader that wants more has no answer
-pub no_answer : (r : Reader) → r.stop ≡ None → Wants r → HoldsAnswer r → ⊥
+pub no_answer : (r : LineReader) → r.stop ≡ None → Wants r → HoldsAnswer r → ⊥
 no_answer r goes_on wants (inl stop) = let none = rw goes_on at stop in cc
 no_answer r goes_on wants (inr (inl newline)) = wants.none newline.0 newline.1 (sym (get_or_default r.held newline.0 10 0 newline.1) ∙ newline.2)
 no_answer r goes_on wants (inr (inr (inl long))) = omega (arith, wants.short, long)
@@ -170,13 +170,13 @@ if_none None P h = h
 if_none (Some x) P h = tt
 
 -- where an answer was in hand, the reader answers before it wants more
-pub never_wants : (old mid : Reader) (P : Type 0) → (HoldsAnswer old → (mid ≡ old) × P) → mid.stop ≡ None → Wants mid → HoldsAnswer old → ⊥
+pub never_wants : (old mid : LineReader) (P : Type 0) → (HoldsAnswer old → (mid ≡ old) × P) → mid.stop ≡ None → Wants mid → HoldsAnswer old → ⊥
 never_wants old mid P unread goes_on wants h = no_answer mid goes_on wants (subst HoldsAnswer (sym (unread h).0) h)
 
-pub Stays-trans : (a b c : Reader) → Stays a b → Stays b c → Stays a c
+pub Stays-trans : (a b c : LineReader) → Stays a b → Stays b c → Stays a c
 Stays-trans a b c h k = record { line = k.line ∙ h.line; number = k.number ∙ h.number; passed = k.passed ∙ h.passed }
 
-pub wants_still : (old new : Reader) → Wants old → new.held ≡ old.held → new.passed ≡ old.passed → Wants new
+pub wants_still : (old new : LineReader) → Wants old → new.held ≡ old.held → new.passed ≡ old.passed → Wants new
 wants_still old new wants held passed = rw (held, passed) (record { none = wants.none; short = wants.short; within = wants.within })
 
 -- the newline that was found in a front

@@ -40,7 +40,7 @@ pub record Both : Type 0 where
   pub output : Output
 
 -- a door over a list: the links that it will give, how many of those given are out, those that came back, whether it has answered `Closed`, and its calls of `next`
-pub record Listing (L : Type 0) : Type 0 where
+pub record ListedLinks (L : Type 0) : Type 0 where
   pub left : List L
   pub out : ℕ
   pub back : List L
@@ -48,11 +48,11 @@ pub record Listing (L : Type 0) : Type 0 where
   pub calls : Calls
 
 -- as many were given as are out or came back
-abbrev pub ledger_of : {L : Type 0} → Listing L → Ledger L
+abbrev pub ledger_of : {L : Type 0} → ListedLinks L → Ledger L
 ledger_of d = record { given = length d.back + d.out; back = d.back }
 
 -- What a call of `next` on a door over a list came to: it fails exactly where its number is listed, and else gives the first link that is left.
-pub record ListGives {L : Type 0} (old : Listing L) (result : Next L) (new : Listing L) : Type 0 where
+pub record ListGives {L : Type 0} (old : ListedLinks L) (result : Next L) (new : ListedLinks L) : Type 0 where
   pub closed : old.closed ≡ true → (result ≡ next.Closed) × (new ≡ old)
   pub failed : old.closed ≡ false → IsNextListed old.calls → (result ≡ next.Failed) × (new ≡ record old { calls = after_call old.calls true })
   pub ended : old.closed ≡ false → (IsNextListed old.calls → ⊥) → old.left ≡ [] → (result ≡ next.Closed) × (new ≡ record old { closed = true; calls = after_call old.calls false })

@@ -19,7 +19,7 @@ abbrev pub most_read : ℕ
 most_read = 65_536
 
 -- A reader of lines: the bytes that it took and has not given, how many it gave, the last line and its number, and where it stopped for good.
-pub record Reader : Type 0 where
+pub record LineReader : Type 0 where
   pub held : List ℕ
   pub passed : ℕ
   pub line : List ℕ
@@ -34,7 +34,7 @@ IsStop InputTooLong = Unit {0}
 IsStop _ = ⊥
 
 -- what is still to come: what the reader holds, and then what the source has left
-abbrev pub ahead : Reader → Option (List ℕ) → Option (List ℕ)
+abbrev pub ahead : LineReader → Option (List ℕ) → Option (List ℕ)
 ahead r left = prepend_known r.held left
 
 -- none of the first n bytes is a newline
@@ -57,13 +57,13 @@ abbrev pub IsNear : ℕ → Option ℕ → Type 0
 IsNear count place = IfSome place (λ k. count ≤ k + most_read)
 
 -- the line, its number and what was given stay
-pub record Stays (old new : Reader) : Type 0 where
+pub record Stays (old new : LineReader) : Type 0 where
   pub line : new.line ≡ old.line
   pub number : new.number ≡ old.number
   pub passed : new.passed ≡ old.passed
 
 -- a line was given
-pub record GivesLine (old new : Reader) : Type 0 where
+pub record GivesLine (old new : LineReader) : Type 0 where
   pub whole : All (λ x. x ≢ 10) new.line
   pub short : length new.line ≤ max_line
   pub number : new.number ≡ old.number + 1
@@ -86,7 +86,7 @@ abbrev pub IsInputTooLong : ℕ → List ℕ → Type 0
 IsInputTooLong p xs = (max_input ≤ p + length xs) × (max_input ≤ p + max_line) × NoneBelow xs (max_input - p)
 
 -- What a call came to, by what was still to come before it and after it.
-abbrev pub Reads : Reader → Reader → Option (List ℕ) → Option (List ℕ) → LineRead → Type 0
+abbrev pub Reads : LineReader → LineReader → Option (List ℕ) → Option (List ℕ) → LineRead → Type 0
 Reads old new before after Line = GivesLine old new × Consumes before after (new.line ++ 10 ∷ [])
 Reads old new before after End = Stays old new × Keeps before after × (new.stop ≡ None) × IsAtEnd before × (old.passed < max_input)
 Reads old new before after Torn = Stays old new × Keeps before after × (new.stop ≡ Some Torn) × IfSome before (IsTorn old.passed)
@@ -103,22 +103,22 @@ IsAnswer _ = Unit {0}
 
 -- Two answers to what is still to come are one, and so are their lines.
 abbrev pub OneAnswer : Type 0
-OneAnswer = (old new other : Reader) (xs : List ℕ) (after left : Option (List ℕ)) (a b : LineRead) → IsAnswer a → IsAnswer b →
+OneAnswer = (old new other : LineReader) (xs : List ℕ) (after left : Option (List ℕ)) (a b : LineRead) → IsAnswer a → IsAnswer b →
     Reads old new (Some xs) after a → Reads old other (Some xs) left b → (a ≡ b) × (new.line ≡ other.line)
 
 -- The next answer is known without a read: the reader stopped, holds a newline or more than a line may have, or took all that counts.
-abbrev pub HoldsAnswer : Reader → Type 0
+abbrev pub HoldsAnswer : LineReader → Type 0
 HoldsAnswer r = IsSome r.stop ⊎ (Contains r.held 10 ⊎ ((max_line < length r.held) ⊎ (r.passed + length r.held ≡ max_input)))
 
 -- an answer from what the reader holds
-abbrev pub AnswersHeld : Reader → Reader → LineRead → Type 0
+abbrev pub AnswersHeld : LineReader → LineReader → LineRead → Type 0
 AnswersHeld old new Line = GivesLine old new × (old.held ≡ new.line ++ 10 ∷ new.held)
 AnswersHeld old new TooLong = (new ≡ record old { stop = Some TooLong }) × (max_line < length old.held) × (old.passed + max_line < max_input) × NoneBelow old.held (max_line + 1)
 AnswersHeld old new InputTooLong = (new ≡ record old { stop = Some InputTooLong }) × (length old.held ≤ max_line) × (old.passed + length old.held ≡ max_input) × NoneBelow old.held (length old.held)
 AnswersHeld old new _ = ⊥
 
 -- no whole line is held, and there is room for more
-pub record Wants (r : Reader) : Type 0 where
+pub record Wants (r : LineReader) : Type 0 where
   pub none : NoneBelow r.held (length r.held)
   pub short : length r.held ≤ max_line
   pub within : r.passed + length r.held < max_input

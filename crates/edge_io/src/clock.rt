@@ -1,7 +1,7 @@
 // Clocks: the trait, a clock in memory, and that of the system.
 ghost use Rattle.std.specs.Prelude.{◌≡◌, ℕ, ◌-◌, ◌^◌, map, drop, get_or, min, Option, None, Some, [], ◌∷◌};
 ghost use Rattle.std.specs.Time.{system_time_nanos};
-ghost use Rattle.edge_io.specs.Moments.{Moments, Gives, Listed, listed, repeating, coming_of, IsSplit};
+ghost use Rattle.edge_io.specs.Moments.{Moments, Gives, ListedMoments, listed, repeating, coming_of, IsSplit};
 
 use std::alloc::Global;
 use std::marker::Model;
@@ -37,9 +37,9 @@ pub struct ListClock {
 
 impl Model for ListClock {
     ghost use Rattle.std.specs.Prelude.{◌≤◌, drop, vec_len, map};
-    ghost use Rattle.edge_io.specs.Moments.{Listed};
+    ghost use Rattle.edge_io.specs.Moments.{ListedMoments};
 
-    ghost Value = { Listed };
+    ghost Value = { ListedMoments };
 
     ghost view = { λ c.
         record { left = drop c.at c.moments.items; end = c.end; splits = map (λ v. v.items) c.splits.items } };

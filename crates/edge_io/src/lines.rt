@@ -6,7 +6,7 @@ ghost use Rattle.std.specs.List.{slice_range};
 ghost use Rattle.std.specs.Simd.Lanes.{mask_l};
 ghost use Rattle.std.specs.Io.KnownBytes.{IsAtEnd, Keeps};
 ghost use Rattle.edge_io.specs.Stream.{Rose};
-ghost use Rattle.edge_io.specs.Lines.{Reader, NoneBelow, IsFirstNewline, IsNear, IsLineEnd, IsStop, Stays, Reads};
+ghost use Rattle.edge_io.specs.Lines.{LineReader, NoneBelow, IsFirstNewline, IsNear, IsLineEnd, IsStop, Stays, Reads};
 ghost use Rattle.edge_io.specs.Lines.{ReadsOn, Fills, HoldsAnswer, AnswersHeld, Wants, ahead, max_input, most_read};
 
 use crate::Source;
@@ -74,9 +74,9 @@ pub struct Lines {
 impl Model for Lines {
     ghost use Rattle.std.specs.Prelude.{◌+◌, ◌-◌, ◌≤◌, drop, vec_len, IfSome};
     ghost use Rattle.std.specs.List.{slice_range};
-    ghost use Rattle.edge_io.specs.Lines.{Reader, IsFirstNewline, IsNear, IsStop, max_input};
+    ghost use Rattle.edge_io.specs.Lines.{LineReader, IsFirstNewline, IsNear, IsStop, max_input};
 
-    ghost Value = { Reader };
+    ghost Value = { LineReader };
 
     ghost view = { λ r. record {
       held = drop r.start r.buf.items;

@@ -6,7 +6,7 @@ ghost use Rattle.std.proofs.Math.Nat.{le-add_right};
 ghost use Rattle.std.specs.Io.KnownBytes.{ReadConsumes, WriteAppends};
 ghost use Rattle.edge_io.specs.Stream.{Rose};
 ghost use Rattle.edge_io.specs.Memory.{after_call, IsNextListed};
-ghost use Rattle.edge_io.specs.Doors.{Listing, ListGives, ledger_of, IsFresh, Gives, TakesBack};
+ghost use Rattle.edge_io.specs.Doors.{ListedLinks, ListGives, ledger_of, IsFresh, Gives, TakesBack};
 
 use crate::memory::Script;
 use crate::{Door, Failed, Link, MemSink, MemSource, Next, Sink, Source};
@@ -134,9 +134,9 @@ pub struct ListDoor<T: Link> {
 impl<T: Link> Model for ListDoor<T> {
     ghost use Rattle.std.specs.Prelude.{◌+◌, ◌≤◌, All, vec_len, vec_capacity};
     ghost use Rattle.std.specs.VecDeque.{deque_len};
-    ghost use Rattle.edge_io.specs.Doors.{Listing, IsFresh};
+    ghost use Rattle.edge_io.specs.Doors.{ListedLinks, IsFresh};
 
-    ghost Value = { Listing T };
+    ghost Value = { ListedLinks T };
 
     ghost view = { λ d.
         record { left = d.left.items; out = d.out; back = d.returned.items; closed = d.closed; calls = d.script } };
@@ -188,7 +188,7 @@ impl<T: Link> Door for ListDoor<T> {
 
     /// The next link of the list. It fails exactly where the call's number is listed.
     fn next(&mut self) -> Next<T>
-        ensures gives { Gives (λ (d : Listing T). d.closed) (λ d. d.calls.faults)
+        ensures gives { Gives (λ (d : ListedLinks T). d.closed) (λ d. d.calls.faults)
             (λ d. Some (ledger_of d)) T.Sink.written T.Source.read_faults T.Sink.write_faults self.old result self.new }
         ensures faults { self.old.calls.faults ≤ self.new.calls.faults }
 
@@ -210,7 +210,7 @@ impl<T: Link> Door for ListDoor<T> {
 
     fn back(&mut self, link: T)
         requires { length self.old.back < length self.old.back + self.old.out }
-        ensures back { TakesBack (λ (d : Listing T). d.closed) (λ d. d.calls.faults)
+        ensures back { TakesBack (λ (d : ListedLinks T). d.closed) (λ d. d.calls.faults)
             (λ d. Some (ledger_of d)) self.old link self.new }
 
         ensures after { (self.new.left ≡ self.old.left)

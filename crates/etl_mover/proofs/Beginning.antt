@@ -18,7 +18,7 @@ use Rattle.store_manifest.specs.declared.entry.Entry.{Entry}
 use Rattle.store_manifest.specs.Entries.{place, comes_before, InOrder, AreEntries}
 use Rattle.store_manifest.specs.Manifest.{ManifestState}
 use Rattle.durable_write.specs.Plan.{IsLastOf}
-use Rattle.etl_mover.specs.Move.{MoveState, HasBegun, IsMove, StillLists, of_series, part_file}
+use Rattle.etl_mover.specs.Move.{Moving, HasBegun, IsMove, StillLists, of_series, part_file}
 use Rattle.store_manifest.proofs.Changes.{order_filter}
 
 -- A running move.
@@ -114,7 +114,7 @@ listed_is g series entries (Some e) are last =
     last_of (x ∷ front) all = last_of front (λ k d lt. all (suc k) d (omega (arith, lt)))
 
 -- it is a move of the two stores
-pub begun_is : (source destination : ManifestState) (number : ℕ) (text : List ℕ) (n : ℕ) (move : MoveState) → HasBegun source destination number text n move → n ≤ 65_536 → Holds destination.granularity source.granularity → AreEntries source.granularity source.entries → AreEntries destination.granularity destination.entries → IsMove source.granularity move
+pub begun_is : (source destination : ManifestState) (number : ℕ) (text : List ℕ) (n : ℕ) (move : Moving) → HasBegun source destination number text n move → n ≤ 65_536 → Holds destination.granularity source.granularity → AreEntries source.granularity source.entries → AreEntries destination.granularity destination.entries → IsMove source.granularity move
 begun_is source destination number text n move is most nested from to = record {
   nested = subst (λ (g : Granularity). Holds g source.granularity) (sym is.granularity) nested;
   parts = subst (All (λ (e : Entry). IsPart source.granularity e.part × (e.series ≡ move.series))) (sym is.parts)
@@ -131,7 +131,7 @@ begun_is source destination number text n move is most nested from to = record {
 }
 
 -- and its parts are the oldest that the source lists
-pub begun_lists : (source destination : ManifestState) (number : ℕ) (text : List ℕ) (n : ℕ) (move : MoveState) → HasBegun source destination number text n move → StillLists move source
+pub begun_lists : (source destination : ManifestState) (number : ℕ) (text : List ℕ) (n : ℕ) (move : Moving) → HasBegun source destination number text n move → StillLists move source
 begun_lists source destination number text n move is = record {
   now = take n (of_series number source.entries);
   others = drop n (of_series number source.entries);

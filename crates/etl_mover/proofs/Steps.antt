@@ -5,7 +5,7 @@ use Rattle.etl_mover.specs.declared.copying.Start.{Start}
 use Rattle.etl_mover.specs.Copying.{SetsLast, last_of, starts, fresh, after, behind}
 use Rattle.std.specs.Prelude.{slice_get, All, Contains, IfSome, nat_eq, nat_lt, if◌then◌else◌, OnOk, OnErr}
 use Rattle.partition_names.specs.declared.granularity.Granularity.{Granularity}
-use Rattle.etl_mover.specs.Move.{MoveState, IsMove, part_file, FewPending, OfNext, IsAhead, StillLists}
+use Rattle.etl_mover.specs.Move.{Moving, IsMove, part_file, FewPending, OfNext, IsAhead, StillLists}
 use Rattle.etl_mover.specs.Step.{Advances, GoesTo, CanRevive, finished, with_pending, Takes, Copies, between, target_file, IsLongUnopened, CopiesPart, SetsPart, written_at, IsToRow, HasTargets}
 use Rattle.disk_model.specs.Files.{Name, Files, HasFile, At}
 use Rattle.std.proofs.lemmas.Bool.{cases_lt, eqb-true}
@@ -28,7 +28,7 @@ use Rattle.durable_write.specs.Flush.{start_of, put_all, with_files}
 use Rattle.etl_mover.proofs.Written.{same_opened}
 use Rattle.std.proofs.lemmas.Bool.Decides.{nat_tests}
 use Rattle.gate_journal.specs.Journal.{JournalState}
-use Rattle.gate_journal.specs.Standing.{Standing, ReadsDisk}
+use Rattle.gate_journal.specs.DiskShown.{DiskShown, ReadsDisk}
 use Rattle.partition_names.specs.Path.{path_of}
 use Rattle.pv_catalog.specs.declared.row.Row.{Row}
 use Rattle.store_manifest.specs.Manifest.{ManifestState}
@@ -52,17 +52,17 @@ same_to g p q to to₂ same is is₂ holds holds₂ = parts.one_part g to to₂ 
 same_start : (last revived : Option Entry) (series : ℕ) (p q : Entry) (to to₂ : Part) → p ≡ q → to ≡ to₂ → starts last series to p.head_len revived ≡ starts last series to₂ q.head_len revived
 same_start last revived series p q to to₂ same same₂ = ap (λ (x : Part). starts last series x p.head_len revived) same₂ ∙ ap (λ (e : Entry). starts last series to₂ e.head_len revived) same
 
-pub one_next : (move : MoveState) (p q : Entry) → slice_get move.parts move.at ≡ Some p → slice_get move.parts move.at ≡ Some q → p ≡ q
+pub one_next : (move : Moving) (p q : Entry) → slice_get move.parts move.at ≡ Some p → slice_get move.parts move.at ≡ Some q → p ≡ q
 one_next move p q one two = let next : ◌≡◌ {A = Option Entry} (Some p) (Some q) = sym one ∙ two in cc (next)
 
-pub one_start : (move : MoveState) (revived : Option Entry) (p q : Entry) (s t : Start) → GoesTo move revived p s → GoesTo move revived q t → (p ≡ q) × (s ≡ t)
+pub one_start : (move : Moving) (revived : Option Entry) (p q : Entry) (s t : Start) → GoesTo move revived p s → GoesTo move revived q t → (p ≡ q) × (s ≡ t)
 one_start move revived p q s t one two =
     let part : p ≡ q = one_next move p q one.at_hand two.at_hand in
     let to : one.to ≡ two.to = same_to move.granularity p q one.to two.to part one.is two.is one.holds two.holds in
     let begins : ◌≡◌ {A = Option Start} (Some s) (Some t) = sym one.begins ∙ (same_start (last_of move.pending move.listed) revived move.series p q one.to two.to part to ∙ two.begins) in
     (part, cc (begins))
 
-pub goes_nowhere : (move : MoveState) (revived : Option Entry) (part p : Entry) (to : Part) (s : Start) → slice_get move.parts move.at ≡ Some part → IsPart move.granularity to → HoldsMoment to part.part.start → starts (last_of move.pending move.listed) move.series to part.head_len revived ≡ None → GoesTo move revived p s → ⊥
+pub goes_nowhere : (move : Moving) (revived : Option Entry) (part p : Entry) (to : Part) (s : Start) → slice_get move.parts move.at ≡ Some part → IsPart move.granularity to → HoldsMoment to part.part.start → starts (last_of move.pending move.listed) move.series to part.head_len revived ≡ None → GoesTo move revived p s → ⊥
 goes_nowhere move revived part p to s next is holds none goes =
     let same : part ≡ p = one_next move part p next goes.at_hand in
     let to_same : to ≡ goes.to = same_to move.granularity part p to goes.to same is goes.is holds goes.holds in
@@ -90,7 +90,7 @@ pub last_all : (P : Entry → Type 0) (xs : List Entry) (o : Option Entry) (e : 
 last_all P [] o e all listed is = subst (λ (x : Option Entry). IfSome x P) is listed
 last_all P (x ∷ xs) o e all listed is = last_all P xs (Some x) e (All-tail P x xs all) (All-head P x xs all) is
 
-pub start_is : (fine : Granularity) (move : MoveState) (revived : Option Entry) (part : Entry) (start : Start) → IsMove fine move → IfSome revived (CanRevive move) → GoesTo move revived part start → IsOfPart move.granularity move.series part start.entry
+pub start_is : (fine : Granularity) (move : Moving) (revived : Option Entry) (part : Entry) (start : Start) → IsMove fine move → IfSome revived (CanRevive move) → GoesTo move revived part start → IsOfPart move.granularity move.series part start.entry
 start_is fine move revived part start is can goes = go (last_of move.pending move.listed) refl goes.begins
   where
     g : Granularity
@@ -133,22 +133,22 @@ in_order_same [] (y ∷ ys) are order = absurd (cc (are))
 in_order_same (x ∷ xs) [] are order = absurd (cc (are))
 in_order_same (x ∷ xs) (y ∷ ys) are order = (after_same (place x) (place y) (cc (are)) xs ys (cc (are)) order.0, in_order_same xs ys (cc (are)) order.1)
 
-pub part_is : (fine : Granularity) (move : MoveState) (part : Entry) → IsMove fine move → slice_get move.parts move.at ≡ Some part → IsPart fine part.part × (part.series ≡ move.series)
+pub part_is : (fine : Granularity) (move : Moving) (part : Entry) → IsMove fine move → slice_get move.parts move.at ≡ Some part → IsPart fine part.part × (part.series ≡ move.series)
 part_is fine move part is next =
     subst (λ (e : Entry). IsPart fine e.part × (e.series ≡ move.series)) (get_or_from_slice_get move.parts move.at part part next) (is.parts move.at part (slice_get_within move.parts move.at part next))
 
-few_then : (move : MoveState) → FewPending move → length move.pending ≤ move.at + 1
+few_then : (move : Moving) → FewPending move → length move.pending ≤ move.at + 1
 few_then move (inl few) = omega (arith, few)
 few_then move (inr (one, next)) = omega (arith, one)
 
 -- no more entries are to be listed than there are parts
-pub pending_few : (fine : Granularity) (move : MoveState) → IsMove fine move → length move.pending ≤ length move.parts
+pub pending_few : (fine : Granularity) (move : Moving) → IsMove fine move → length move.pending ≤ length move.parts
 pending_few fine move is = elim is.most [
   | inl few ↦ omega (arith, few, is.at)
   | inr (one, next) ↦ omega (arith, one, slice_get_within move.parts move.at next.part next.next)
 ]
 
-pub finish_keeps : (fine : Granularity) (move : MoveState) (part : Entry) (len : ℕ) → IsMove fine move → slice_get move.parts move.at ≡ Some part → IsMove fine (finished move part len)
+pub finish_keeps : (fine : Granularity) (move : Moving) (part : Entry) (len : ℕ) → IsMove fine move → slice_get move.parts move.at ≡ Some part → IsMove fine (finished move part len)
 finish_keeps fine move part len is next =
     let new : Entry = record part { len = len } in
     let within : move.at < length move.parts = slice_get_within move.parts move.at part next in
@@ -167,7 +167,7 @@ finish_keeps fine move part len is next =
     }
 
 -- what is to be listed is set in the partition of the part at hand
-module _ (fine : Granularity) (move : MoveState) (part entry : Entry) (pending : List Entry) (is : IsMove fine move) (next : slice_get move.parts move.at ≡ Some part) (of_part : IsOfPart move.granularity move.series part entry) where
+module _ (fine : Granularity) (move : Moving) (part entry : Entry) (pending : List Entry) (is : IsMove fine move) (next : slice_get move.parts move.at ≡ Some part) (of_part : IsOfPart move.granularity move.series part entry) where
   abbrev pub P : Entry → Type 0
   P e = IsPart move.granularity e.part × (e.series ≡ move.series)
 
@@ -216,7 +216,7 @@ module _ (fine : Granularity) (move : MoveState) (part entry : Entry) (pending :
   pub set_keeps : SetsLast entry move.pending pending → IsMove fine (with_pending move pending)
   set_keeps sets = record { nested = is.nested; parts = is.parts; in_order = is.in_order; few = is.few; at = is.at; pending = set_all sets; most = set_few sets; listed = is.listed; files = is.files }
 
-pub advances_keep : (fine : Granularity) (move new : MoveState) (revived : Option Entry) (len : ℕ) → IsMove fine move → IfSome revived (CanRevive move) → Advances move new revived len → IsMove fine new
+pub advances_keep : (fine : Granularity) (move new : Moving) (revived : Option Entry) (len : ℕ) → IsMove fine move → IfSome revived (CanRevive move) → Advances move new revived len → IsMove fine new
 advances_keep fine move new revived len is can goes = elim goes.is [
   | inl same ↦ subst (IsMove fine) (sym same) pending_is
   | inr (part, next, same) ↦ subst (IsMove fine) (sym same) (finish_keeps fine (with_pending move goes.pending) part len pending_is next)
@@ -233,7 +233,7 @@ advances_keep fine move new revived len is can goes = elim goes.is [
 
 -- How a step of copying ends.
 
-pub no_part : (move : MoveState) (revived : Option Entry) (part : Entry) (start : Start) → slice_get move.parts move.at ≡ None → GoesTo move revived part start → ⊥
+pub no_part : (move : Moving) (revived : Option Entry) (part : Entry) (start : Start) → slice_get move.parts move.at ≡ None → GoesTo move revived part start → ⊥
 no_part move revived part start none goes = let no : ◌≡◌ {A = Option Entry} None (Some part) = sym none ∙ goes.at_hand in absurd (cc (no))
 
 none_between : (from len : ℕ) (b : List ℕ) → from ≡ len → between from len b ≡ []
@@ -244,7 +244,7 @@ none_between from len b same = go (len - from) (omega (arith, same)) (drop from 
     go (suc n) is l = absurd (omega (arith, is))
 
 -- nothing of the part was left
-pub ends_covered : (move : MoveState) (start : Start) (p part : Entry) (from len most : ℕ) (b : List ℕ) (disk : Standing) → from ≡ len → CopiesPart move (finished move p len) start part from len most b disk.files disk
+pub ends_covered : (move : Moving) (start : Start) (p part : Entry) (from len most : ℕ) (b : List ℕ) (disk : DiskShown) → from ≡ len → CopiesPart move (finished move p len) start part from len most b disk.files disk
 ends_covered move start p part from len most b disk same = (
   [],
   record {
@@ -261,63 +261,63 @@ few_taken : (from len : ℕ) (b head lines : List ℕ) (most : ℕ) (old new : E
 few_taken from len b head lines most old new within takes = let long = ap length takes.front in omega (arith, long, within, length-take (length lines) (between from len b), length-take (len - from) (drop from b))
 
 -- some of it is left
-pub ends_more : (move new : MoveState) (start : Start) (part : Entry) (from len most n : ℕ) (b lines : List ℕ) (files : Files) (later : Standing) → new ≡ with_pending move new.pending → length lines ≡ n → n < len - from → Copies (target_file move start) start part from len most b move.pending new.pending files later lines
+pub ends_more : (move new : Moving) (start : Start) (part : Entry) (from len most n : ℕ) (b lines : List ℕ) (files : Files) (later : DiskShown) → new ≡ with_pending move new.pending → length lines ≡ n → n < len - from → Copies (target_file move start) start part from len most b move.pending new.pending files later lines
     → CopiesPart move new start part from len most b files later
 ends_more move new start part from len most n b lines files later same long fewer copies = (
   lines,
   copies,
-  (λ is. let at = ap (λ (m : MoveState). m.at) same in absurd (omega (arith, is, at)), λ is. absurd (omega (arith, is, long, fewer))),
+  (λ is. let at = ap (λ (m : Moving). m.at) same in absurd (omega (arith, is, at)), λ is. absurd (omega (arith, is, long, fewer))),
 )
 
 -- or all is copied
-pub ends_whole : (move mid : MoveState) (start : Start) (p part : Entry) (from len most n : ℕ) (b lines : List ℕ) (files : Files) (later : Standing) → from ≤ len → mid ≡ with_pending move mid.pending → length lines ≡ n → len - from ≤ n → Copies (target_file move start) start part from len most b move.pending mid.pending files later lines
+pub ends_whole : (move mid : Moving) (start : Start) (p part : Entry) (from len most n : ℕ) (b lines : List ℕ) (files : Files) (later : DiskShown) → from ≤ len → mid ≡ with_pending move mid.pending → length lines ≡ n → len - from ≤ n → Copies (target_file move start) start part from len most b move.pending mid.pending files later lines
     → CopiesPart move (finished mid p len) start part from len most b files later
 ends_whole move mid start p part from len most n b lines files later within same long all copies = (
   lines,
   copies,
-  (λ is. omega (arith, long, all, within, few_taken from len b (take part.head_len b) lines most start.entry copies.entry within copies.takes), λ is. ap (λ (m : MoveState). m.at + 1) same),
+  (λ is. omega (arith, long, all, within, few_taken from len b (take part.head_len b) lines most start.entry copies.entry within copies.takes), λ is. ap (λ (m : Moving). m.at + 1) same),
 )
 
 -- THE MOVE
 
-pub advances_none : (move : MoveState) (revived : Option Entry) (len : ℕ) → Advances move move revived len
+pub advances_none : (move : Moving) (revived : Option Entry) (len : ℕ) → Advances move move revived len
 advances_none move revived len = record { pending = move.pending; is = inl refl; sets = inl refl }
 
-pub advances_covered : (move : MoveState) (revived : Option Entry) (part : Entry) (len : ℕ) → slice_get move.parts move.at ≡ Some part → Advances move (finished move part len) revived len
+pub advances_covered : (move : Moving) (revived : Option Entry) (part : Entry) (len : ℕ) → slice_get move.parts move.at ≡ Some part → Advances move (finished move part len) revived len
 advances_covered move revived part len next = record { pending = move.pending; is = inr (part, next, refl); sets = inl refl }
 
-sets_in : (move : MoveState) (revived : Option Entry) (part : Entry) (start : Start) (pending : List Entry) → GoesTo move revived part start → SetsPart move start pending
+sets_in : (move : Moving) (revived : Option Entry) (part : Entry) (start : Start) (pending : List Entry) → GoesTo move revived part start → SetsPart move start pending
     → (pending ≡ move.pending) ⊎ ((p : Entry) × (s : Start) × (entry : Entry) × GoesTo move revived p s × (entry.part ≡ s.entry.part) × (entry.series ≡ s.entry.series) × (s.entry.len ≤ entry.len) × SetsLast entry move.pending pending)
 sets_in move revived part start pending goes (inl same) = inl same
 sets_in move revived part start pending goes (inr (e, of, own, longer, sets)) = inr (part, start, e, goes, of, own, longer, sets)
 
-pub advances_more : (move new : MoveState) (revived : Option Entry) (part : Entry) (start : Start) (len : ℕ) → GoesTo move revived part start → new ≡ with_pending move new.pending → SetsPart move start new.pending → Advances move new revived len
+pub advances_more : (move new : Moving) (revived : Option Entry) (part : Entry) (start : Start) (len : ℕ) → GoesTo move revived part start → new ≡ with_pending move new.pending → SetsPart move start new.pending → Advances move new revived len
 advances_more move new revived part start len goes same sets = record { pending = new.pending; is = inl same; sets = sets_in move revived part start new.pending goes sets }
 
-pub advances_whole : (move mid : MoveState) (revived : Option Entry) (part : Entry) (start : Start) (len : ℕ) → GoesTo move revived part start → mid ≡ with_pending move mid.pending → SetsPart move start mid.pending → Advances move (finished mid part len) revived len
+pub advances_whole : (move mid : Moving) (revived : Option Entry) (part : Entry) (start : Start) (len : ℕ) → GoesTo move revived part start → mid ≡ with_pending move mid.pending → SetsPart move start mid.pending → Advances move (finished mid part len) revived len
 advances_whole move mid revived part start len goes same sets = record {
   pending = mid.pending;
-  is = inr (part, goes.at_hand, ap (λ (m : MoveState). finished m part len) same);
+  is = inr (part, goes.at_hand, ap (λ (m : Moving). finished m part len) same);
   sets = sets_in move revived part start mid.pending goes sets;
 }
 
 -- what is copied next stays where the part isn't finished
-pub still_next : (move new : MoveState) (part : Entry) → new ≡ with_pending move new.pending → slice_get move.parts move.at ≡ Some part → slice_get new.parts new.at ≡ Some part
-still_next move new part same next = ap (λ (m : MoveState). slice_get m.parts m.at) same ∙ next
+pub still_next : (move new : Moving) (part : Entry) → new ≡ with_pending move new.pending → slice_get move.parts move.at ≡ Some part → slice_get new.parts new.at ≡ Some part
+still_next move new part same next = ap (λ (m : Moving). slice_get m.parts m.at) same ∙ next
 
-pub not_all : (move new : MoveState) (part : Entry) → new ≡ with_pending move new.pending → slice_get move.parts move.at ≡ Some part → new.at ≡ length new.parts → ⊥
+pub not_all : (move new : Moving) (part : Entry) → new ≡ with_pending move new.pending → slice_get move.parts move.at ≡ Some part → new.at ≡ length new.parts → ⊥
 not_all move new part same next all = let low = slice_get_within new.parts new.at part (still_next move new part same next) in omega (arith, low, all)
 
 -- what holds of one part and place holds of any
-pub by_one : (move : MoveState) (revived : Option Entry) (p q : Entry) (s t : Start) (P : Entry → Start → Type 0) → GoesTo move revived p s → GoesTo move revived q t → P p s → P q t
+pub by_one : (move : Moving) (revived : Option Entry) (p q : Entry) (s t : Start) (P : Entry → Start → Type 0) → GoesTo move revived p s → GoesTo move revived q t → P p s → P q t
 by_one move revived p q s t P one two is = let same = one_start move revived p q s t one two in subst (λ (e : Entry). P e t) same.0 (subst (λ (x : Start). P p x) same.1 is)
 
-pub still_running : (fine : Granularity) (move new : MoveState) (revived : Option Entry) (len : ℕ) (result : Result CopiedEnd DiskErr) → OnOk result (Advances move new revived len) → OnErr result (new ≡ move) → IsMove fine move → IfSome revived (CanRevive move) → IsMove fine new
+pub still_running : (fine : Granularity) (move new : Moving) (revived : Option Entry) (len : ℕ) (result : Result CopiedEnd DiskErr) → OnOk result (Advances move new revived len) → OnErr result (new ≡ move) → IsMove fine move → IfSome revived (CanRevive move) → IsMove fine new
 still_running fine move new revived len (Ok x) goes same is can = advances_keep fine move new revived len is can goes
 still_running fine move new revived len (Err e) goes same is can = subst (IsMove fine) (sym same) is
 
 -- no part is left
-pub all_copied : (fine : Granularity) (move : MoveState) → IsMove fine move → slice_get move.parts move.at ≡ None → move.at ≡ length move.parts
+pub all_copied : (fine : Granularity) (move : Moving) → IsMove fine move → slice_get move.parts move.at ≡ None → move.at ≡ length move.parts
 all_copied fine move is none = elim (cases_lt move.at (length move.parts)) [
   | inl fewer ↦ absurd (some_there move.parts move.at fewer none)
   | inr all ↦ omega (arith, all, is.at)
@@ -333,7 +333,7 @@ all_copied fine move is none = elim (cases_lt move.at (length move.parts)) [
 
 -- WHERE THE DISK IS ONLY READ
 
-pub reads_none : (disk : Standing) → ReadsDisk disk disk
+pub reads_none : (disk : DiskShown) → ReadsDisk disk disk
 reads_none disk = record { same = refl; same_opened = refl; any_moment = passes_none (λ a b. b ≡ a) disk.past (λ a left. refl) }
 
 keeps_itself : (name : Name) (n : ℕ) (a b : Files) → b ≡ a → At name (Keeps n) a b
@@ -343,7 +343,7 @@ keeps_itself name n a b same = record {
 }
 
 -- each file stays as it is
-pub reads_leave : (name : Name) (at : Option ℕ) (old new : Standing) → ((n : ℕ) → at ≡ Some n → IsLongUnopened n name old.files old.opened) → ReadsDisk old new → LeavesFile name at old new
+pub reads_leave : (name : Name) (at : Option ℕ) (old new : DiskShown) → ((n : ℕ) → at ≡ Some n → IsLongUnopened n name old.files old.opened) → ReadsDisk old new → LeavesFile name at old new
 reads_leave name at old new room reads = record {
   any_moment = passes_weaker (λ a b. b ≡ a) (At name (Keeps (start_of at))) old.past new.past reads.any_moment (λ a c left same. keeps_itself name (start_of at) a c same);
   front = (keeps_itself name (start_of at) old.files new.files reads.same).here;
@@ -353,7 +353,7 @@ reads_leave name at old new room reads = record {
 }
 
 -- and a write behind it is as one from before it
-pub reads_then_leave : (name : Name) (at : Option ℕ) (old now new : Standing) → ReadsDisk old now → LeavesFile name at now new → LeavesFile name at old new
+pub reads_then_leave : (name : Name) (at : Option ℕ) (old now new : DiskShown) → ReadsDisk old now → LeavesFile name at now new → LeavesFile name at old new
 reads_then_leave name at old now new reads leaves = record {
   any_moment = keeps_more name (start_of at) old.past now.past new.past (passes_weaker (λ a b. b ≡ a) (At name (Keeps (start_of at))) old.past now.past reads.any_moment (λ a c left same. keeps_itself name (start_of at) a c same)) leaves.any_moment;
   front = λ front some low begins. leaves.front front some low (subst (λ (f : Files). Begins front (f name)) (sym reads.same) begins);
@@ -362,7 +362,7 @@ reads_then_leave name at old now new reads leaves = record {
   fewer = λ n. let same = ap (λ (o : Name → ℕ). o n) reads.same_opened in omega (arith, leaves.fewer n, same);
 }
 
-pub reads_room : (name : Name) (n : ℕ) (old new : Standing) → ReadsDisk old new → IsLongUnopened n name old.files old.opened → HasFile new.files name (λ b. (new.opened name ≤ n) × (n ≤ length b))
+pub reads_room : (name : Name) (n : ℕ) (old new : DiskShown) → ReadsDisk old new → IsLongUnopened n name old.files old.opened → HasFile new.files name (λ b. (new.opened name ≤ n) × (n ≤ length b))
 reads_room name n old new reads was =
     let same = ap (λ (o : Name → ℕ). o name) reads.same_opened in
     record { bytes = was.bytes; file = ap (λ (f : Files). f name) reads.same ∙ was.file; holds = (omega (arith, was.holds.0, same), was.holds.1) }
@@ -370,12 +370,12 @@ reads_room name n old new reads was =
 -- WHAT IS WRITTEN
 
 -- behind a listed length the lines, in a file made anew the header before them
-wrote_at : (name : Name) (at : Option ℕ) (head lines : List ℕ) (files : Files) (later : Standing) → ((len : ℕ) → at ≡ Some len → WritesFile name at lines files later) → (at ≡ None → WritesFile name at (head ++ lines) files later) → WritesFile name at (written_at at head lines) files later
+wrote_at : (name : Name) (at : Option ℕ) (head lines : List ℕ) (files : Files) (later : DiskShown) → ((len : ℕ) → at ≡ Some len → WritesFile name at lines files later) → (at ≡ None → WritesFile name at (head ++ lines) files later) → WritesFile name at (written_at at head lines) files later
 wrote_at name None head lines files later grows makes = makes refl
 wrote_at name (Some len) head lines files later grows makes = grows len refl
 
 -- a call that wrote them after it had read
-pub has_copied : (name : Name) (start : Start) (part entry : Entry) (from len most : ℕ) (b head lines : List ℕ) (old pending : List Entry) (disk mid later : Standing)
+pub has_copied : (name : Name) (start : Start) (part entry : Entry) (from len most : ℕ) (b head lines : List ℕ) (old pending : List Entry) (disk mid later : DiskShown)
     → ReadsDisk disk mid → entry.part ≡ start.entry.part → entry.series ≡ start.entry.series → head ≡ take part.head_len b → Takes (take part.head_len b) (between from len b) most lines start.entry entry
     → ((n : ℕ) → start.at ≡ Some n → WritesFile name start.at lines mid.files later) → (start.at ≡ None → WritesFile name start.at (head ++ lines) mid.files later) → SetsLast entry old pending
     → Copies name start part from len most b old pending disk.files later lines
@@ -392,7 +392,7 @@ has_copied name start part entry from len most b head lines old pending disk mid
 }
 
 -- one that found no line
-pub copied_none : (name : Name) (start : Start) (part entry : Entry) (from len most : ℕ) (b lines : List ℕ) (pending : List Entry) (files : Files) (later : Standing)
+pub copied_none : (name : Name) (start : Start) (part entry : Entry) (from len most : ℕ) (b lines : List ℕ) (pending : List Entry) (files : Files) (later : DiskShown)
     → entry.part ≡ start.entry.part → entry.series ≡ start.entry.series → Takes (take part.head_len b) (between from len b) most lines start.entry entry → length lines ≡ 0 → later.files ≡ files → Copies name start part from len most b pending pending files later lines
 copied_none name start part entry from len most b lines pending files later part_is series_is takes none same = record { entry = entry; part_is = part_is; series_is = series_is; takes = takes; writes = inr (record { none = empty lines none; same = refl; same_files = same }) }
   where
@@ -477,14 +477,14 @@ map_append (x ∷ xs) ys = ap (λ (l : List Entry). x.entry ∷ l) (map_append x
 abbrev pub with_more : Held → List Filed → Held
 with_more held files = record { store = held.store; rows = held.rows; files = files; stands = held.stands }
 
-behind_all : (move new : MoveState) (held ahead : Held) (f : Filed) → IsAhead move held ahead → new.pending ≡ move.pending ++ f.entry ∷ [] → IsAhead new held (with_files ahead (f ∷ []))
+behind_all : (move new : Moving) (held ahead : Held) (f : Filed) → IsAhead move held ahead → new.pending ≡ move.pending ++ f.entry ∷ [] → IsAhead new held (with_files ahead (f ∷ []))
 behind_all move new held ahead f is becomes = record {
   files = is.files ++ f ∷ [];
   are = ap (λ (h : Held). with_files h (f ∷ [])) is.are ∙ ap (with_more held) (sym (put_all-append held.files is.files (f ∷ [])));
   pending = becomes ∙ (ap (λ (l : List Entry). l ++ f.entry ∷ []) is.pending ∙ sym (map_append is.files (f ∷ [])));
 }
 
-in_place : (move new : MoveState) (held ahead : Held) (f l : Filed) (rest : List Entry) (last : Entry) (front : List Filed) → IsAhead move held ahead → move.pending ≡ rest ++ last ∷ [] → new.pending ≡ rest ++ f.entry ∷ [] → (are : ahead ≡ with_files held (front ++ l ∷ [])) → move.pending ≡ map entry_of (front ++ l ∷ []) → ((l.entry ≡ last) → filed_at l ≡ filed_at f)
+in_place : (move new : Moving) (held ahead : Held) (f l : Filed) (rest : List Entry) (last : Entry) (front : List Filed) → IsAhead move held ahead → move.pending ≡ rest ++ last ∷ [] → new.pending ≡ rest ++ f.entry ∷ [] → (are : ahead ≡ with_files held (front ++ l ∷ [])) → move.pending ≡ map entry_of (front ++ l ∷ []) → ((l.entry ≡ last) → filed_at l ≡ filed_at f)
     → IsAhead new held (with_files ahead (f ∷ []))
 in_place move new held ahead f l rest last front is old becomes are pending place =
     let ends = same_last (map entry_of front) rest l.entry last (sym (map_append front (l ∷ [])) ∙ (sym pending ∙ old)) in
@@ -502,7 +502,7 @@ none_last : (xs : List Entry) (x : Entry) → [] ≡ xs ++ x ∷ [] → ⊥
 none_last xs x is = let long = ap length is in omega (arith, long, length-append xs (x ∷ []))
 
 -- once its file has the lines that were copied, the pending entries are ahead with it
-pub ahead_on : (move new : MoveState) (held ahead : Held) (f : Filed) → All (λ (e : Entry). e.series ≡ move.series) move.pending → IsAhead move held ahead → f.entry.series ≡ move.series → SetsLast f.entry move.pending new.pending → IsAhead new held (with_files ahead (f ∷ []))
+pub ahead_on : (move new : Moving) (held ahead : Held) (f : Filed) → All (λ (e : Entry). e.series ≡ move.series) move.pending → IsAhead move held ahead → f.entry.series ≡ move.series → SetsLast f.entry move.pending new.pending → IsAhead new held (with_files ahead (f ∷ []))
 ahead_on move new held ahead f all is own (inr stands) = behind_all move new held ahead f is stands.becomes
 ahead_on move new held ahead f all is own (inl takes) = elim (last_view is.files) [
   | inl none ↦ absurd (none_last takes.rest takes.last (sym (is.pending ∙ ap (map entry_of) none) ∙ takes.are))
@@ -544,7 +544,7 @@ listed_entry m held series (Some x) e are last is =
     let file = contains_map held.files x (subst (λ (l : List Entry). Contains l x) are (filter_within (λ (d : Entry). nat_eq d.series series) m.entries x within)) in
     record { file = file.0; within = file.1; entry = file.2 ∙ same }
 
-last_entry : (m : ManifestState) (held ahead : Held) (move : MoveState) (e : Entry) → m.entries ≡ map entry_of held.files → IsAhead move held ahead → IsLastOf m.entries move.series move.listed → last_of move.pending move.listed ≡ Some e → HasEntry ahead e
+last_entry : (m : ManifestState) (held ahead : Held) (move : Moving) (e : Entry) → m.entries ≡ map entry_of held.files → IsAhead move held ahead → IsLastOf m.entries move.series move.listed → last_of move.pending move.listed ≡ Some e → HasEntry ahead e
 last_entry m held ahead move e are is last same = elim (last_view is.files) [
   | inl none ↦
       let pending : move.pending ≡ [] = is.pending ∙ ap (map entry_of) none in
@@ -558,14 +558,14 @@ last_entry m held ahead move e are is last same = elim (last_view is.files) [
 ]
 
 -- its name in the store
-to_name : (move : MoveState) (shelf : Shelf) (e : Entry) → IsToRow move shelf → e.series ≡ move.series → file_of shelf e ≡ part_file move.destination move.name e
+to_name : (move : Moving) (shelf : Shelf) (e : Entry) → IsToRow move shelf → e.series ≡ move.series → file_of shelf e ≡ part_file move.destination move.name e
 to_name move shelf e row own =
     ap (λ (n : ℕ). (n, path_of (name_of (slice_get shelf.1 e.series)) e.part.name)) (sym row.store)
     ∙ (ap (λ (n : ℕ). (move.destination, path_of (name_of (slice_get shelf.1 n)) e.part.name)) own
     ∙ (ap (λ (o : Option Row). (move.destination, path_of (name_of o) e.part.name)) row.stands ∙ ap (λ (t : List ℕ). (move.destination, path_of t e.part.name)) row.name))
 
 -- each file that may go on stands on the disk
-pub targets : (fine : Granularity) (catalogue : JournalState) (m : ManifestState) (shelf : Shelf) (disk : Standing) (held ahead : Held) (move : MoveState) (revived : Option Entry) → IsMove fine move → HasCopied catalogue m shelf disk held ahead → IsAhead move held ahead → IsLastOf m.entries move.series move.listed → IsToRow move shelf
+pub targets : (fine : Granularity) (catalogue : JournalState) (m : ManifestState) (shelf : Shelf) (disk : DiskShown) (held ahead : Held) (move : Moving) (revived : Option Entry) → IsMove fine move → HasCopied catalogue m shelf disk held ahead → IsAhead move held ahead → IsLastOf m.entries move.series move.listed → IsToRow move shelf
     → ((e : Entry) → revived ≡ Some e → IsLongUnopened e.len (part_file move.destination move.name e) disk.files disk.opened) → HasTargets move revived disk.files disk.opened
 targets fine catalogue m shelf disk held ahead move revived is has at last row old part start n goes some = go (last_of move.pending move.listed) refl goes.begins
   where
@@ -605,7 +605,7 @@ targets fine catalogue m shelf disk held ahead move revived is has at last row o
 -- FROM THE BEGINNING ON
 
 -- nothing is ahead when a move begins
-pub begins_ahead : (catalogue : JournalState) (m : ManifestState) (shelf : Shelf) (disk : Standing) (held : Held) (move : MoveState) → IsStoredAs catalogue m shelf disk held → move.pending ≡ [] → HasCopied catalogue m shelf disk held held × IsAhead move held held
+pub begins_ahead : (catalogue : JournalState) (m : ManifestState) (shelf : Shelf) (disk : DiskShown) (held : Held) (move : Moving) → IsStoredAs catalogue m shelf disk held → move.pending ≡ [] → HasCopied catalogue m shelf disk held held × IsAhead move held held
 begins_ahead catalogue m shelf disk held move stored none = (
   record {
     stored = stored;
@@ -620,12 +620,12 @@ begins_ahead catalogue m shelf disk held move stored none = (
 )
 
 -- the parts stay the partitions that they are
-pub still_lists : (move new : MoveState) (revived : Option Entry) (len : ℕ) (m : ManifestState) → Advances move new revived len → StillLists move m → StillLists new m
+pub still_lists : (move new : Moving) (revived : Option Entry) (len : ℕ) (m : ManifestState) → Advances move new revived len → StillLists move m → StillLists new m
 still_lists move new revived len m goes lists = elim goes.is [
-  | inl same ↦ subst (λ (x : MoveState). StillLists x m) (sym same) (record { now = lists.now; others = lists.others; entries = lists.entries; parts = lists.parts })
+  | inl same ↦ subst (λ (x : Moving). StillLists x m) (sym same) (record { now = lists.now; others = lists.others; entries = lists.entries; parts = lists.parts })
   | inr (part, next, same) ↦
       let here : get_or move.parts move.at part ≡ part = get_or_from_slice_get move.parts move.at part part next in
-      subst (λ (x : MoveState). StillLists x m) (sym same) (record {
+      subst (λ (x : Moving). StillLists x m) (sym same) (record {
         now = lists.now;
         others = lists.others;
         entries = lists.entries;
@@ -633,8 +633,8 @@ still_lists move new revived len m goes lists = elim goes.is [
       })
 ]
 
-pub leaves_here : (s t : Shelf) (e : Entry) (at : Option ℕ) (old new : Standing) → s ≡ t → LeavesFile (file_of s e) at old new → LeavesFile (file_of t e) at old new
+pub leaves_here : (s t : Shelf) (e : Entry) (at : Option ℕ) (old new : DiskShown) → s ≡ t → LeavesFile (file_of s e) at old new → LeavesFile (file_of t e) at old new
 leaves_here s t e at old new same = subst (λ (x : Shelf). LeavesFile (file_of x e) at old new) same
 
-pub writes_here : (s t : Shelf) (e : Entry) (at : Option ℕ) (bytes : List ℕ) (files : Files) (later : Standing) → s ≡ t → WritesFile (file_of s e) at bytes files later → WritesFile (file_of t e) at bytes files later
+pub writes_here : (s t : Shelf) (e : Entry) (at : Option ℕ) (bytes : List ℕ) (files : Files) (later : DiskShown) → s ≡ t → WritesFile (file_of s e) at bytes files later → WritesFile (file_of t e) at bytes files later
 writes_here s t e at bytes files later same = subst (λ (x : Shelf). WritesFile (file_of x e) at bytes files later) same

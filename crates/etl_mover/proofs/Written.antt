@@ -4,7 +4,7 @@ use Rattle.disk_model.specs.Files.{Name, Files, HasFile, Content, At, Overwritte
 use Rattle.disk_model.specs.Past.{Past, Passes, MayLeave, Only}
 use Rattle.std.proofs.lemmas.List.{length-take, length-append, take_all, take_at}
 use Rattle.gate_journal.specs.Journal.{JournalState}
-use Rattle.gate_journal.specs.Standing.{Standing}
+use Rattle.gate_journal.specs.DiskShown.{DiskShown}
 use Rattle.partition_names.specs.declared.granularity.Granularity.{Granularity}
 use Rattle.store_manifest.specs.Manifest.{ManifestState}
 use Rattle.durable_write.specs.Held.{Filed, Held, filed_at, Shelf, IsFiled, IsListed, IsIn, file_of, bytes_of, shelf_of, entry_of}
@@ -27,7 +27,7 @@ use Rattle.disk_model.proofs.Passing.{passes_none}
 use Rattle.partition_names.specs.Part.{IsPart}
 use Rattle.store_manifest.specs.declared.entry.Entry.{Entry}
 use Rattle.durable_write.proofs.Commits.{map-put, can_publish}
-use Rattle.etl_mover.specs.Move.{MoveState, IsAhead, set_entry}
+use Rattle.etl_mover.specs.Move.{Moving, IsAhead, set_entry}
 use Rattle.etl_mover.specs.Lists.{Unmade, published, Stands, Relists, Knows}
 
 -- One file more is written ahead of what is listed.
@@ -115,7 +115,7 @@ module _ (g : Granularity) (base : Held) (at : Option ℕ) (bytes : List ℕ) (f
 
 -- WHAT A CALL WROTE
 
-module _ (catalogue : JournalState) (m : ManifestState) (shelf : Shelf) (old new : Standing) (held base : Held) (at : Option ℕ) (f : Filed) (has : HasCopied catalogue m shelf old held base)
+module _ (catalogue : JournalState) (m : ManifestState) (shelf : Shelf) (old new : DiskShown) (held base : Held) (at : Option ℕ) (f : Filed) (has : HasCopied catalogue m shelf old held base)
     (placed : IsPlaced m.granularity base at f) (call : LeavesFile (file_of (shelf_of base) f.entry) at old new) where
   name : Name
   name = file_of (shelf_of base) f.entry
@@ -213,7 +213,7 @@ entries_with files [] = refl
 entries_with files (f ∷ fs) = ap (λ (es : List Entry). all_changed es (map set_entry (map entry_of fs))) (sym (map-put f files)) ∙ entries_with (put filed_at f files) fs
 
 -- what a move has copied may be listed by its pending entries
-pub may_publish : (catalogue : JournalState) (m : ManifestState) (shelf : Shelf) (disk : Standing) (held ahead : Held) (move : MoveState) → HasCopied catalogue m shelf disk held ahead → IsAhead move held ahead → CanRelist catalogue m shelf disk held ahead (map set_entry move.pending)
+pub may_publish : (catalogue : JournalState) (m : ManifestState) (shelf : Shelf) (disk : DiskShown) (held ahead : Held) (move : Moving) → HasCopied catalogue m shelf disk held ahead → IsAhead move held ahead → CanRelist catalogue m shelf disk held ahead (map set_entry move.pending)
 may_publish catalogue m shelf disk held ahead move has is =
     can_publish catalogue m shelf disk held ahead (map set_entry move.pending) has
     (ap (λ (es : List Entry). all_changed es (map set_entry move.pending)) has.stored.entries
@@ -229,14 +229,14 @@ sets_follow g (e ∷ es) entries parts = (All-head (λ (x : Entry). IsPart g x.p
 -- HOW IT ENDS
 
 -- nothing has changed
-pub nothing_listed : (catalogue : JournalState) (m : ManifestState) (shelf : Shelf) (disk : Standing) (held next : Held) → IsStoredAs catalogue m shelf disk held → Relists catalogue m m shelf disk.past disk held next Unmade
+pub nothing_listed : (catalogue : JournalState) (m : ManifestState) (shelf : Shelf) (disk : DiskShown) (held next : Held) → IsStoredAs catalogue m shelf disk held → Relists catalogue m m shelf disk.past disk held next Unmade
 nothing_listed catalogue m shelf disk held next store = record {
   any_moment = passes_none (HoldsEither m.granularity held next) disk.past (λ a left. inl (stored_left m.granularity catalogue m.journal disk held store.stored a left));
   stands = store;
 }
 
 -- a commit that failed wasn't made, or it isn't known whether it was
-pub failed_listing : (catalogue : JournalState) (m made : ManifestState) (shelf : Shelf) (old : Past) (new : Standing) (held next : Held) (e : DiskErr) → Passes (HoldsEither m.granularity held next) old new.past → (made.journal.sound ≡ true → IsStoredAs catalogue made shelf new held)
+pub failed_listing : (catalogue : JournalState) (m made : ManifestState) (shelf : Shelf) (old : Past) (new : DiskShown) (held next : Held) (e : DiskErr) → Passes (HoldsEither m.granularity held next) old new.past → (made.journal.sound ≡ true → IsStoredAs catalogue made shelf new held)
     → (made.journal.sound ≡ false → IsDoubtedAs catalogue made shelf new held next) → Relists catalogue m made shelf old new held next (published (Err e) made.journal.sound)
 failed_listing catalogue m made shelf old new held next e passes unmade doubted = record { any_moment = passes; stands = go made.journal.sound refl }
   where
@@ -308,7 +308,7 @@ written_long name len bytes mid later was step = go (mid name) (later name) refl
 
 -- WHAT THE CALLS LEAVE
 
-pub settled_leaves : (name : Name) (len : ℕ) (old new : Standing) → IsCutTo name len old.files new.files → Passes (At name (Keeps len)) old.past new.past → new.opened ≡ old.opened → LeavesFile name (Some len) old new
+pub settled_leaves : (name : Name) (len : ℕ) (old new : DiskShown) → IsCutTo name len old.files new.files → Passes (At name (Keeps len)) old.past new.past → new.opened ≡ old.opened → LeavesFile name (Some len) old new
 settled_leaves name len old new cut passes same = record {
   any_moment = passes;
   front = cut.front;
@@ -318,7 +318,7 @@ settled_leaves name len old new cut passes same = record {
 }
 
 -- a cut, and then a write behind it, whatever that answers
-pub appended_leaves : (name : Name) (len : ℕ) (old now new : Standing) → IsCutTo name len old.files now.files → Keeps len (now.files name) (new.files name) → HasFile new.files name (λ b. len ≤ length b) → ((n : Name) → n ≢ name → new.files n ≡ now.files n) → Passes (At name (Keeps len)) old.past now.past → Passes (At name (Keeps len)) now.past new.past → now.opened ≡ old.opened → new.opened ≡ now.opened
+pub appended_leaves : (name : Name) (len : ℕ) (old now new : DiskShown) → IsCutTo name len old.files now.files → Keeps len (now.files name) (new.files name) → HasFile new.files name (λ b. len ≤ length b) → ((n : Name) → n ≢ name → new.files n ≡ now.files n) → Passes (At name (Keeps len)) old.past now.past → Passes (At name (Keeps len)) now.past new.past → now.opened ≡ old.opened → new.opened ≡ now.opened
     → LeavesFile name (Some len) old new
 appended_leaves name len old now new cut front long others first second same same₂ = record {
   any_moment = keeps_more name len old.past now.past new.past first second;
@@ -328,17 +328,17 @@ appended_leaves name len old now new cut front long others first second same sam
   fewer = same_opened old.opened new.opened (same₂ ∙ same);
 }
 
-pub torn_leaves : (name : Name) (len n : ℕ) (old now new : Standing) → IsCutTo name len old.files now.files → At name (Torn len n) now.files new.files → Passes (At name (Keeps len)) old.past now.past → Passes (At name (Keeps len)) now.past new.past → now.opened ≡ old.opened → new.opened ≡ now.opened
+pub torn_leaves : (name : Name) (len n : ℕ) (old now new : DiskShown) → IsCutTo name len old.files now.files → At name (Torn len n) now.files new.files → Passes (At name (Keeps len)) old.past now.past → Passes (At name (Keeps len)) now.past new.past → now.opened ≡ old.opened → new.opened ≡ now.opened
     → LeavesFile name (Some len) old new
 torn_leaves name len n old now new cut torn first second same same₂ =
     appended_leaves name len old now new cut (torn_keeps len n (now.files name) (new.files name) torn.here) (torn_long name len len n now.files new.files cut.long torn) torn.elsewhere first second same same₂
 
-pub written_leaves : (name : Name) (len : ℕ) (bytes : List ℕ) (old now new : Standing) → IsCutTo name len old.files now.files → At name (Overwritten len bytes) now.files new.files → Passes (At name (Keeps len)) old.past now.past → Passes (At name (Keeps len)) now.past new.past → now.opened ≡ old.opened → new.opened ≡ now.opened
+pub written_leaves : (name : Name) (len : ℕ) (bytes : List ℕ) (old now new : DiskShown) → IsCutTo name len old.files now.files → At name (Overwritten len bytes) now.files new.files → Passes (At name (Keeps len)) old.past now.past → Passes (At name (Keeps len)) now.past new.past → now.opened ≡ old.opened → new.opened ≡ now.opened
     → LeavesFile name (Some len) old new
 written_leaves name len bytes old now new cut written first second same same₂ =
     appended_leaves name len old now new cut (written_keeps len bytes (now.files name) (new.files name) written.here) (written_long name len bytes now.files new.files cut.long written) written.elsewhere first second same same₂
 
-pub written_grows : (name : Name) (len : ℕ) (bytes : List ℕ) (files mid : Files) (new : Standing) → HasFile files name (λ b. len ≤ length b) → At name (Cut len) files mid → At name (Overwritten len bytes) mid new.files → Only new.past name (new.files name) → WritesFile name (Some len) bytes files new
+pub written_grows : (name : Name) (len : ℕ) (bytes : List ℕ) (files mid : Files) (new : DiskShown) → HasFile files name (λ b. len ≤ length b) → At name (Cut len) files mid → At name (Overwritten len bytes) mid new.files → Only new.past name (new.files name) → WritesFile name (Some len) bytes files new
 written_grows name len bytes files mid new was cut written durable = record {
   grown = λ n b at file.
       let one : len ≡ n = cc (at) in
@@ -352,7 +352,7 @@ written_grows name len bytes files mid new was cut written durable = record {
 }
 
 -- and of a file that is made anew
-pub made_leaves : (name : Name) (old new : Standing) → At name (Keeps 0) old.files new.files → Passes (At name (Keeps 0)) old.past new.past → new.opened name ≤ old.opened name → ((n : Name) → n ≢ name → new.opened n ≡ old.opened n) → LeavesFile name None old new
+pub made_leaves : (name : Name) (old new : DiskShown) → At name (Keeps 0) old.files new.files → Passes (At name (Keeps 0)) old.past new.past → new.opened name ≤ old.opened name → ((n : Name) → n ≢ name → new.opened n ≡ old.opened n) → LeavesFile name None old new
 made_leaves name old new kept passes low same = record {
   any_moment = passes;
   front = kept.here;
@@ -361,7 +361,7 @@ made_leaves name old new kept passes low same = record {
   fewer = all_names name old.opened new.opened same low;
 }
 
-pub made_makes : (name : Name) (bytes : List ℕ) (files : Files) (new : Standing) → new.files name ≡ Some bytes → new.opened name ≤ 0 → Only new.past name (new.files name) → WritesFile name None bytes files new
+pub made_makes : (name : Name) (bytes : List ℕ) (files : Files) (new : DiskShown) → new.files name ≡ Some bytes → new.opened name ≤ 0 → Only new.past name (new.files name) → WritesFile name None bytes files new
 made_makes name bytes files new made closed durable = record { grown = λ n b at file. absurd (cc (at)); made = λ none. made; closed = λ none. closed; durable = durable }
 
 -- the place where bytes go on

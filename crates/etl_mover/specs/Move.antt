@@ -23,7 +23,7 @@ use Rattle.etl_mover.specs.declared.moving.Stage.TheVariants.{Copying}
 -- The stores from which and to which it moves, the granularity of the destination, the series and its name, the last entry that the
 -- destination lists of it, the entries of the parts in the source with the lengths up to which they are copied once they are, how
 -- many parts are copied, the entries that the destination is to list, how far it has come, and the parts' files.
-pub record MoveState : Type 0 where
+pub record Moving : Type 0 where
   pub source : ℕ
   pub destination : ℕ
   pub granularity : Granularity
@@ -45,7 +45,7 @@ abbrev pub of_series : ℕ → List Entry → List Entry
 of_series series entries = filter (λ e. e.series == series) entries
 
 -- a move of the first n partitions of the series of this number and name begins: nothing is copied yet
-pub record HasBegun (source destination : ManifestState) (number : ℕ) (text : List ℕ) (n : ℕ) (move : MoveState) : Type 0 where
+pub record HasBegun (source destination : ManifestState) (number : ℕ) (text : List ℕ) (n : ℕ) (move : Moving) : Type 0 where
   pub from : (store : ℕ) → store ≤ 9 → source.journal.name ≡ manifest_name store → move.source ≡ store
   pub to : (store : ℕ) → store ≤ 9 → destination.journal.name ≡ manifest_name store → move.destination ≡ store
   pub granularity : move.granularity ≡ destination.granularity
@@ -61,7 +61,7 @@ pub record HasBegun (source destination : ManifestState) (number : ℕ) (text : 
 -- WHAT STAYS TRUE OF IT
 
 -- the last entry that is to be listed is of the partition that holds the part that is copied next
-pub record OfNext (move : MoveState) : Type 0 where
+pub record OfNext (move : Moving) : Type 0 where
   pub rest : List Entry
   pub entry : Entry
   pub part : Entry
@@ -70,11 +70,11 @@ pub record OfNext (move : MoveState) : Type 0 where
   pub holds : HoldsMoment entry.part part.part.start
 
 -- No more entries are to be listed than parts are copied, but for that of the part that is copied next.
-abbrev pub FewPending : MoveState → Type 0
+abbrev pub FewPending : Moving → Type 0
 FewPending move = (length move.pending ≤ move.at) ⊎ ((length move.pending ≡ move.at + 1) × OfNext move)
 
 -- Its parts are partitions of the source in order, each within one of the destination, and what is to be listed is of the destination's.
-pub record IsMove (fine : Granularity) (move : MoveState) : Type 0 where
+pub record IsMove (fine : Granularity) (move : Moving) : Type 0 where
   pub nested : Holds move.granularity fine
   pub parts : All (λ (e : Entry). IsPart fine e.part × (e.series ≡ move.series)) move.parts
   pub in_order : InOrder move.parts
@@ -86,7 +86,7 @@ pub record IsMove (fine : Granularity) (move : MoveState) : Type 0 where
   pub files : move.files ≡ map (part_file move.source move.name) move.parts
 
 -- What is to be listed stands ahead of what the destination lists: the files of the pending entries are put among its own.
-pub record IsAhead (move : MoveState) (held ahead : Held) : Type 0 where
+pub record IsAhead (move : Moving) (held ahead : Held) : Type 0 where
   pub files : List Filed
   pub are : ahead ≡ with_files held files
   pub pending : move.pending ≡ map entry_of files
@@ -94,7 +94,7 @@ pub record IsAhead (move : MoveState) (held ahead : Held) : Type 0 where
 -- THE PUBLICATION
 
 -- all parts are copied
-pub record IsCopied (move : MoveState) : Type 0 where
+pub record IsCopied (move : Moving) : Type 0 where
   pub stage : move.stage ≡ Copying
   pub all : move.at ≡ length move.parts
 
@@ -104,14 +104,14 @@ set_entry e = Set e
 -- WHAT THE SOURCE LISTS
 
 -- the source still lists the parts as its oldest of the series, each as long as it was copied or longer
-pub record StillLists (move : MoveState) (source : ManifestState) : Type 0 where
+pub record StillLists (move : Moving) (source : ManifestState) : Type 0 where
   pub now : List Entry
   pub others : List Entry
   pub entries : of_series move.series source.entries ≡ now ++ others
   pub parts : map (λ (e : Entry). e.part) now ≡ map (λ (e : Entry). e.part) move.parts
 
 -- the move's row has its name
-pub record IsOfRow (move : MoveState) (shelf : Shelf) : Type 0 where
+pub record IsOfRow (move : Moving) (shelf : Shelf) : Type 0 where
   pub row : Row
   pub stands : slice_get shelf.1 move.series ≡ Some row
   pub name : row.name ≡ move.name

@@ -1,7 +1,7 @@
 -- One step of copying: lines of one part of a move go to the destination's file of its partition, ahead of what is listed there.
 use Rattle.std.specs.Prelude.{◌≡◌, ◌≢◌, ◌⊎◌, ◌↔◌, ◌≤◌, ◌+◌, ◌-◌, ℕ, List, [], ◌∷◌, ◌++◌, length, take, drop, Option, None, Some, slice_get, slice_set}
 use Rattle.disk_model.specs.Files.{Name, Files, HasFile}
-use Rattle.gate_journal.specs.Standing.{Standing}
+use Rattle.gate_journal.specs.DiskShown.{DiskShown}
 use Rattle.line_escape.specs.Unescaping.{HasNoNewline}
 use Rattle.series_model.specs.declared.sample.Sample.{Sample}
 use Rattle.pb_messages.specs.declared.info.PayloadInfo.{PayloadInfo}
@@ -15,13 +15,13 @@ use Rattle.durable_write.specs.Held.{Shelf}
 use Rattle.etl_mover.specs.declared.copying.Start.{Start}
 use Rattle.etl_mover.specs.Copying.{last_of, starts, SetsLast}
 use Rattle.etl_mover.specs.Lines.{IsSampleStart, with_lines}
-use Rattle.etl_mover.specs.Move.{MoveState, part_file}
+use Rattle.etl_mover.specs.Move.{Moving, part_file}
 use Rattle.etl_mover.specs.Writing.{WritesFile}
 
 -- WHERE LINES GO
 
 -- The part that is copied next goes on here: in the destination's partition that holds it.
-pub record GoesTo (move : MoveState) (revived : Option Entry) (part : Entry) (start : Start) : Type 0 where
+pub record GoesTo (move : Moving) (revived : Option Entry) (part : Entry) (start : Start) : Type 0 where
   pub at_hand : slice_get move.parts move.at ≡ Some part
   pub to : Part
   pub is : IsPart move.granularity to
@@ -29,24 +29,24 @@ pub record GoesTo (move : MoveState) (revived : Option Entry) (part : Entry) (st
   pub begins : starts (last_of move.pending move.listed) move.series to part.head_len revived ≡ Some start
 
 -- It goes on nowhere: the destination ends in a later partition than the one that holds it.
-pub record GoesNowhere (move : MoveState) (revived : Option Entry) (part : Entry) : Type 0 where
+pub record GoesNowhere (move : Moving) (revived : Option Entry) (part : Entry) : Type 0 where
   pub to : Part
   pub is : IsPart move.granularity to
   pub holds : HoldsMoment to part.part.start
   pub none : starts (last_of move.pending move.listed) move.series to part.head_len revived ≡ None
 
 -- it goes on somewhere, or nowhere
-abbrev pub IsPlacedOrNot : MoveState → Option Entry → Entry → Type 0
+abbrev pub IsPlacedOrNot : Moving → Option Entry → Entry → Type 0
 IsPlacedOrNot move revived part = ((start : Start) × GoesTo move revived part start) ⊎ GoesNowhere move revived part
 
-abbrev pub source_file : MoveState → Entry → Name
+abbrev pub source_file : Moving → Entry → Name
 source_file move part = part_file move.source move.name part
 
-abbrev pub target_file : MoveState → Start → Name
+abbrev pub target_file : Moving → Start → Name
 target_file move start = part_file move.destination move.name start.entry
 
 -- the old entry of a file in limbo is of the series, and of the destination's partition of the part that is copied next
-pub record CanRevive (move : MoveState) (e : Entry) : Type 0 where
+pub record CanRevive (move : Moving) (e : Entry) : Type 0 where
   pub own : e.series ≡ move.series
   pub is : IsPart move.granularity e.part
   pub holds : (part : Entry) → slice_get move.parts move.at ≡ Some part → HoldsMoment e.part part.part.start
@@ -56,18 +56,18 @@ abbrev pub IsLongUnopened : ℕ → Name → Files → (Name → ℕ) → Type 0
 IsLongUnopened len name files opened = HasFile files name (λ b. (opened name ≤ len) × (len ≤ length b))
 
 -- the move goes to the shelf's store, where its row has its name
-pub record IsToRow (move : MoveState) (shelf : Shelf) : Type 0 where
+pub record IsToRow (move : Moving) (shelf : Shelf) : Type 0 where
   pub row : Row
   pub stands : slice_get shelf.1 move.series ≡ Some row
   pub name : row.name ≡ move.name
   pub store : move.destination ≡ shelf.0
 
 -- each file that may go on is as long as it is listed or is to be, and was opened no further
-abbrev pub HasTargets : MoveState → Option Entry → Files → (Name → ℕ) → Type 0
+abbrev pub HasTargets : Moving → Option Entry → Files → (Name → ℕ) → Type 0
 HasTargets move revived files opened = (part : Entry) (start : Start) (n : ℕ) → GoesTo move revived part start → start.at ≡ Some n → IsLongUnopened n (target_file move start) files opened
 
 -- The part's file is as long as it is listed, and so is the destination's file that goes on, which was opened no further.
-pub record CanCopy (move : MoveState) (revived : Option Entry) (len : ℕ) (files : Files) (opened : Name → ℕ) : Type 0 where
+pub record CanCopy (move : Moving) (revived : Option Entry) (len : ℕ) (files : Files) (opened : Name → ℕ) : Type 0 where
   pub source : (part : Entry) → slice_get move.parts move.at ≡ Some part → HasFile files (source_file move part) (λ b. len ≤ length b)
   pub target : HasTargets move revived files opened
 
@@ -104,24 +104,24 @@ written_at None head lines = head ++ lines
 written_at (Some len) head lines = lines
 
 -- the part at the move's place is copied up to this length
-abbrev pub finished : MoveState → Entry → ℕ → MoveState
+abbrev pub finished : Moving → Entry → ℕ → Moving
 finished move part len = record move { parts = slice_set move.parts move.at (record part { len = len }); at = move.at + 1 }
 
-abbrev pub with_pending : MoveState → List Entry → MoveState
+abbrev pub with_pending : Moving → List Entry → Moving
 with_pending move pending = record move { pending = pending }
 
 -- what is to be listed is as it was, or its last entry is of the file where lines go
-abbrev pub SetsPart : MoveState → Start → List Entry → Type 0
+abbrev pub SetsPart : Moving → Start → List Entry → Type 0
 SetsPart move start pending = (pending ≡ move.pending) ⊎ ((e : Entry) × (e.part ≡ start.entry.part) × (e.series ≡ start.entry.series) × (start.entry.len ≤ e.len) × SetsLast e move.pending pending)
 
 -- Of the move what is to be listed may have changed, in the file where the part at hand goes, and the part may be copied whole.
-pub record Advances (move new : MoveState) (revived : Option Entry) (len : ℕ) : Type 0 where
+pub record Advances (move new : Moving) (revived : Option Entry) (len : ℕ) : Type 0 where
   pub pending : List Entry
   pub is : (new ≡ with_pending move pending) ⊎ ((part : Entry) × (slice_get move.parts move.at ≡ Some part) × (new ≡ finished (with_pending move pending) part len))
   pub sets : (pending ≡ move.pending) ⊎ ((part : Entry) × (start : Start) × (entry : Entry) × GoesTo move revived part start × (entry.part ≡ start.entry.part) × (entry.series ≡ start.entry.series) × (start.entry.len ≤ entry.len) × SetsLast entry move.pending pending)
 
 -- The lines are written to the file, which is to be listed with them.
-pub record Writes (name : Name) (start : Start) (head lines : List ℕ) (entry : Entry) (old new : List Entry) (files : Files) (later : Standing) : Type 0 where
+pub record Writes (name : Name) (start : Start) (head lines : List ℕ) (entry : Entry) (old new : List Entry) (files : Files) (later : DiskShown) : Type 0 where
   pub wrote : WritesFile name start.at (written_at start.at head lines) files later
   pub set : SetsLast entry old new
 
@@ -132,7 +132,7 @@ pub record WritesNone (lines : List ℕ) (old new : List Entry) (files later : F
   pub same_files : later ≡ files
 
 -- A step has copied these lines of a part's file with these bytes.
-pub record Copies (name : Name) (start : Start) (part : Entry) (from len most : ℕ) (bytes : List ℕ) (old new : List Entry) (files : Files) (later : Standing) (lines : List ℕ) : Type 0 where
+pub record Copies (name : Name) (start : Start) (part : Entry) (from len most : ℕ) (bytes : List ℕ) (old new : List Entry) (files : Files) (later : DiskShown) (lines : List ℕ) : Type 0 where
   pub entry : Entry
   pub part_is : entry.part ≡ start.entry.part
   pub series_is : entry.series ≡ start.entry.series
@@ -140,6 +140,6 @@ pub record Copies (name : Name) (start : Start) (part : Entry) (from len most : 
   pub writes : Writes name start (take part.head_len bytes) lines entry old new files later ⊎ WritesNone lines old new files later.files
 
 -- And it has copied the part whole exactly where they are the last of it.
-abbrev pub CopiesPart : MoveState → MoveState → Start → Entry → ℕ → ℕ → ℕ → List ℕ → Files → Standing → Type 0
+abbrev pub CopiesPart : Moving → Moving → Start → Entry → ℕ → ℕ → ℕ → List ℕ → Files → DiskShown → Type 0
 CopiesPart move new start part from len most b files later =
     (lines : List ℕ) × Copies (target_file move start) start part from len most b move.pending new.pending files later lines × ((new.at ≡ move.at + 1) ↔ (from + length lines ≡ len))

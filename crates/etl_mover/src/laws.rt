@@ -2,7 +2,7 @@
 ghost use Rattle.std.specs.Prelude.{◌≡◌, ℕ, List, [], ◌∷◌, Option, Some, IfSome, IsTrue};
 ghost use Rattle.disk_model.specs.Past.{Passes};
 ghost use Rattle.gate_journal.specs.Journal.{JournalState};
-ghost use Rattle.gate_journal.specs.Standing.{standing};
+ghost use Rattle.gate_journal.specs.DiskShown.{shown_by};
 ghost use Rattle.partition_names.specs.declared.granularity.Granularity.{Granularity};
 ghost use Rattle.store_manifest.specs.declared.entry.Entry.{Entry};
 ghost use Rattle.store_manifest.specs.Manifest.{ManifestState};
@@ -16,7 +16,7 @@ ghost use Rattle.etl_mover.specs.Copying.{SetsLast};
 ghost use Rattle.etl_mover.specs.Growing.{IsPlaced, BecomesFile};
 ghost use Rattle.etl_mover.specs.Laws.{CopiesOn, RestIsRemaining, FlushedBeside, StillRises, PublishedFromShort};
 ghost use Rattle.etl_mover.specs.Laws.{PublishedFromMedium, AllPublished, RetiredFromShort, RetiredFromMedium};
-ghost use Rattle.etl_mover.specs.Move.{MoveState, IsMove, IsAhead, StillLists, part_file};
+ghost use Rattle.etl_mover.specs.Move.{Moving, IsMove, IsAhead, StillLists, part_file};
 ghost use Rattle.etl_mover.specs.Step.{Advances, HasTargets, IsLongUnopened, IsToRow};
 ghost use Rattle.etl_mover.specs.Writing.{LeavesFile, WritesFile};
 
@@ -44,11 +44,11 @@ pub fn a_move_is_invisible()
 /// stands on the disk: those that are listed or to be listed, and the one in limbo that is revived where that does.
 pub fn a_move_finds_its_files<D: Disk>()
     ensures begun { (disk : D) (catalogue : JournalState) (m : ManifestState) (shelf : Shelf) (held : Held)
-        (move : MoveState) → IsStoredAs catalogue m shelf (standing D.Disk disk) held → move.pending ≡ []
-        → HasCopied catalogue m shelf (standing D.Disk disk) held held × IsAhead move held held }
+        (move : Moving) → IsStoredAs catalogue m shelf (shown_by D.Disk disk) held → move.pending ≡ []
+        → HasCopied catalogue m shelf (shown_by D.Disk disk) held held × IsAhead move held held }
     ensures targets { (disk : D) (fine : Granularity) (catalogue : JournalState) (m : ManifestState) (shelf : Shelf)
-        (held ahead : Held) (move : MoveState) (revived : Option Entry) → IsMove fine move
-        → HasCopied catalogue m shelf (standing D.Disk disk) held ahead → IsAhead move held ahead
+        (held ahead : Held) (move : Moving) (revived : Option Entry) → IsMove fine move
+        → HasCopied catalogue m shelf (shown_by D.Disk disk) held ahead → IsAhead move held ahead
         → IsLastOf m.entries move.series move.listed → IsToRow move shelf
         → ((e : Entry) → revived ≡ Some e → IsLongUnopened e.len (part_file move.destination move.name e) (D.files disk)
         (D.opened disk)) → HasTargets move revived (D.files disk) (D.opened disk) }
@@ -59,20 +59,20 @@ pub fn a_move_finds_its_files<D: Disk>()
 /// are those of the files ahead.
 pub fn a_copy_goes_ahead<D: Disk>()
     ensures stays { (old new : D) (catalogue : JournalState) (m : ManifestState) (shelf : Shelf) (held ahead : Held)
-        (at : Option ℕ) (f : Filed) → HasCopied catalogue m shelf (standing D.Disk old) held ahead
-        → IsPlaced m.granularity ahead at f → LeavesFile (file_of shelf f.entry) at (standing D.Disk old)
-        (standing D.Disk new) → HasCopied catalogue m shelf (standing D.Disk new) held ahead
+        (at : Option ℕ) (f : Filed) → HasCopied catalogue m shelf (shown_by D.Disk old) held ahead
+        → IsPlaced m.granularity ahead at f → LeavesFile (file_of shelf f.entry) at (shown_by D.Disk old)
+        (shown_by D.Disk new) → HasCopied catalogue m shelf (shown_by D.Disk new) held ahead
         × Passes (λ a b. Holds m.granularity b held) (D.past old) (D.past new) }
     ensures copied { (old new : D) (catalogue : JournalState) (m : ManifestState) (shelf : Shelf) (held ahead : Held)
         (at : Option ℕ) (bytes : List ℕ) (f : Filed) → IsTrue D.tells
-        → HasCopied catalogue m shelf (standing D.Disk old) held ahead → BecomesFile m.granularity ahead at bytes f
-        → LeavesFile (file_of shelf f.entry) at (standing D.Disk old) (standing D.Disk new)
-        → WritesFile (file_of shelf f.entry) at bytes (D.files old) (standing D.Disk new)
-        → HasCopied catalogue m shelf (standing D.Disk new) held (with_files ahead (f ∷ [])) }
-    ensures pending { (fine : Granularity) (move new : MoveState) (held ahead : Held) (f : Filed) → IsMove fine move
+        → HasCopied catalogue m shelf (shown_by D.Disk old) held ahead → BecomesFile m.granularity ahead at bytes f
+        → LeavesFile (file_of shelf f.entry) at (shown_by D.Disk old) (shown_by D.Disk new)
+        → WritesFile (file_of shelf f.entry) at bytes (D.files old) (shown_by D.Disk new)
+        → HasCopied catalogue m shelf (shown_by D.Disk new) held (with_files ahead (f ∷ [])) }
+    ensures pending { (fine : Granularity) (move new : Moving) (held ahead : Held) (f : Filed) → IsMove fine move
         → IsAhead move held ahead → f.entry.series ≡ move.series
         → SetsLast f.entry move.pending new.pending
         → IsAhead new held (with_files ahead (f ∷ [])) }
-    ensures listed { (move new : MoveState) (revived : Option Entry) (len : ℕ) (m : ManifestState)
+    ensures listed { (move new : Moving) (revived : Option Entry) (len : ℕ) (m : ManifestState)
         → Advances move new revived len → StillLists move m → StillLists new m }
 {}

@@ -11,7 +11,7 @@ use store_manifest::Entry;
 
 /// What was taken of bytes: how many, and what the entry becomes with the lines in them.
 #[derive(Clone, Copy)]
-pub(crate) struct Taken {
+pub(crate) struct TakenLines {
     pub(crate) len: usize,
     pub(crate) entry: Entry,
 }
@@ -36,11 +36,11 @@ pub(crate) fn take_lines(
     bytes: &[u8],
     entry: &Entry,
     work: &mut Vec<u8>,
-) -> Result<Taken, AllocError>
+) -> Result<TakenLines, AllocError>
     ensures within { IfOk result (λ taken. taken.len ≤ length bytes.now) }
     ensures takes { IfOk result (λ taken. TakesLines ty year.now.year bytes.now entry.now taken.len taken.entry) }
 {
-    let mut taken = Taken {
+    let mut taken = TakenLines {
         len: 0,
         entry: *entry,
     };
@@ -58,7 +58,7 @@ pub(crate) fn take_lines(
         let Some(entry) = with_line(&taken.entry, end + 1, t) else {
             return Err(AllocError);
         };
-        taken = Taken {
+        taken = TakenLines {
             len: taken.len + end + 1,
             entry,
         };

@@ -52,9 +52,9 @@ pub struct Move {
 }
 
 impl Model for Move {
-    ghost use Rattle.etl_mover.specs.Move.{MoveState};
+    ghost use Rattle.etl_mover.specs.Move.{Moving};
 
-    ghost Value = { MoveState };
+    ghost Value = { Moving };
 
     ghost view = { λ m. record {
       source = m.source;

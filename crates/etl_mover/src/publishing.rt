@@ -4,7 +4,7 @@ ghost use Rattle.disk_model.specs.Files.{Name, Rose};
 ghost use Rattle.disk_model.specs.Past.{Passes};
 ghost use Rattle.gate_journal.specs.Generations.{IsOwn, AtOwn};
 ghost use Rattle.gate_journal.specs.Journal.{JournalState};
-ghost use Rattle.gate_journal.specs.Standing.{standing};
+ghost use Rattle.gate_journal.specs.DiskShown.{shown_by};
 ghost use Rattle.partition_names.specs.declared.granularity.Granularity.{Granularity};
 ghost use Rattle.store_manifest.specs.Entries.{all_changed};
 ghost use Rattle.durable_write.specs.Held.{Held, Shelf};
@@ -42,11 +42,11 @@ impl Move {
         requires sound { dest.old.journal.sound ≡ true }
         requires same { dest.old.granularity ≡ self.old.granularity }
         requires can { IsTrue D.tells → (catalogue : JournalState) × (shelf : Shelf) × (held : Held) × (ahead : Held)
-            × HasCopied catalogue dest.old shelf (standing D.Disk disk.old) held ahead × IsAhead self.old held ahead }
+            × HasCopied catalogue dest.old shelf (shown_by D.Disk disk.old) held ahead × IsAhead self.old held ahead }
 
         ensures relists { IsTrue D.tells → (catalogue : JournalState) (shelf : Shelf) (held ahead : Held)
-            → HasCopied catalogue dest.old shelf (standing D.Disk disk.old) held ahead → IsAhead self.old held ahead
-            → Relists catalogue dest.old dest.new shelf (D.past disk.old) (standing D.Disk disk.new) held ahead
+            → HasCopied catalogue dest.old shelf (shown_by D.Disk disk.old) held ahead → IsAhead self.old held ahead
+            → Relists catalogue dest.old dest.new shelf (D.past disk.old) (shown_by D.Disk disk.new) held ahead
             (published result dest.new.journal.sound) }
         ensures commits { Commits dest.old dest.new
             (all_changed dest.old.entries (map set_entry self.old.pending)) (published result dest.new.journal.sound) }

@@ -1,7 +1,7 @@
 // Reads of a part's file, which leave the disk as it is.
 ghost use Rattle.std.specs.Prelude.{◌≡◌, ◌⊎◌, ◌≤◌, ◌<◌, ◌+◌, ℕ, List, Some, length, take, drop, IfOk, IsErrOf, IsTrue};
 ghost use Rattle.disk_model.specs.Files.{HasFile, Rose};
-ghost use Rattle.gate_journal.specs.Standing.{standing, ReadsDisk};
+ghost use Rattle.gate_journal.specs.DiskShown.{shown_by, ReadsDisk};
 ghost use Rattle.etl_mover.specs.Reading.{IsChunk, cut_to_line, most_copied};
 
 use disk_model::{Disk, DiskErr, FileName};
@@ -22,7 +22,7 @@ pub(crate) fn read<D: Disk>(
     requires { IsTrue D.tells → HasFile (D.files disk.old) name.now (λ b. at + len ≤ length b) }
     ensures bytes { IsTrue D.tells → (b : List ℕ) → D.files disk.old name.now ≡ Some b
         → IfOk result (λ v. v.items ≡ take len (drop at b)) }
-    ensures reads { IsTrue D.tells → ReadsDisk (standing D.Disk disk.old) (standing D.Disk disk.new) }
+    ensures reads { IsTrue D.tells → ReadsDisk (shown_by D.Disk disk.old) (shown_by D.Disk disk.new) }
     ensures faults { D.faults disk.old ≤ D.faults disk.new }
     ensures cause { IsErrOf result DiskErr.Fault → Rose (D.faults disk.old) (D.faults disk.new) }
 {
@@ -45,7 +45,7 @@ pub(crate) fn read_lines<D: Disk>(
     requires there { IsTrue D.tells → HasFile (D.files disk.old) name.now (λ b. from + rest ≤ length b) }
     ensures chunk { IsTrue D.tells → (b : List ℕ) → D.files disk.old name.now ≡ Some b
         → IfOk result (λ v. IsChunk (drop from b) rest most_copied v.items) }
-    ensures reads { IsTrue D.tells → ReadsDisk (standing D.Disk disk.old) (standing D.Disk disk.new) }
+    ensures reads { IsTrue D.tells → ReadsDisk (shown_by D.Disk disk.old) (shown_by D.Disk disk.new) }
     ensures faults { D.faults disk.old ≤ D.faults disk.new }
     ensures cause { IsErrOf result DiskErr.Fault → Rose (D.faults disk.old) (D.faults disk.new) }
 {

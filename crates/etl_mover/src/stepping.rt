@@ -3,7 +3,7 @@ ghost use Rattle.std.specs.Prelude.{◌≡◌, ◌≢◌, ◌⊎◌, ◌↔◌, 
 ghost use Rattle.std.specs.Prelude.{take, slice_get, IfOk, IfSome, OnOk, OnErr, IsErrOf, IsTrue};
 ghost use Rattle.std.specs.Option.{option_copied};
 ghost use Rattle.disk_model.specs.Files.{HasFile, Rose};
-ghost use Rattle.gate_journal.specs.Standing.{standing, ReadsDisk};
+ghost use Rattle.gate_journal.specs.DiskShown.{shown_by, ReadsDisk};
 ghost use Rattle.partition_names.specs.declared.granularity.Granularity.{Granularity};
 ghost use Rattle.store_manifest.specs.declared.entry.Entry.{Entry as EntryValue};
 ghost use Rattle.etl_mover.specs.declared.copying.Start.{Start as StartValue};
@@ -53,7 +53,7 @@ fn read_part<D: Disk>(
         × Takes (take part.now.head_len b) (between from len b) most_copied l.lines.items entry.now l.entry) }
     ensures keeps { IfOk result (λ l. (l.entry.part ≡ entry.now.part) × (l.entry.series ≡ entry.now.series)
         × (l.entry.len ≡ entry.now.len + length l.lines.items)) }
-    ensures reads { IsTrue D.tells → ReadsDisk (standing D.Disk disk.old) (standing D.Disk disk.new) }
+    ensures reads { IsTrue D.tells → ReadsDisk (shown_by D.Disk disk.old) (shown_by D.Disk disk.new) }
     ensures faults { D.faults disk.old ≤ D.faults disk.new }
     ensures cause { IsErrOf result DiskErr.Fault → Rose (D.faults disk.old) (D.faults disk.new) }
 {
@@ -135,9 +135,9 @@ impl Move {
         ensures copies { IsTrue D.tells → (b : List ℕ) → D.files disk.old (source_file self.old part.now) ≡ Some b
             → IfOk result (λ n. (lines : List ℕ) × (length lines ≡ n)
             × Copies (target_file self.old start.now) start.now part.now from len most_copied b self.old.pending
-            self.new.pending (D.files disk.old) (standing D.Disk disk.new) lines) }
+            self.new.pending (D.files disk.old) (shown_by D.Disk disk.new) lines) }
         ensures leaves { IsTrue D.tells → LeavesFile (target_file self.old start.now) start.now.at
-            (standing D.Disk disk.old) (standing D.Disk disk.new) }
+            (shown_by D.Disk disk.old) (shown_by D.Disk disk.new) }
         ensures sets { OnOk result (SetsPart self.old start.now self.new.pending) }
         ensures moves { self.new ≡ with_pending self.old self.new.pending }
         ensures unchanged { OnErr result (self.new ≡ self.old) }
@@ -174,9 +174,9 @@ impl Move {
             → IsLongUnopened n (target_file self.old start.now) (D.files disk.old) (D.opened disk.old) }
         ensures copies { IsTrue D.tells → (b : List ℕ) → D.files disk.old (source_file self.old part.now) ≡ Some b
             → OnOk result (CopiesPart self.old self.new start.now part.now from len most_copied b (D.files disk.old)
-            (standing D.Disk disk.new)) }
+            (shown_by D.Disk disk.new)) }
         ensures leaves { IsTrue D.tells → LeavesFile (target_file self.old start.now) start.now.at
-            (standing D.Disk disk.old) (standing D.Disk disk.new) }
+            (shown_by D.Disk disk.old) (shown_by D.Disk disk.new) }
         ensures advances { (revived : Option EntryValue) → GoesTo self.old revived part.now start.now
             → OnOk result (Advances self.old self.new revived len) }
         ensures done { IfOk result (λ copied. (copied ≡ Done) ↔ (self.new.at ≡ length self.new.parts)) }
@@ -209,11 +209,11 @@ impl Move {
         ensures copies { IsTrue D.tells → (p : EntryValue) (start : StartValue) (b : List ℕ)
             → GoesTo self.old revived p start → D.files disk.old (source_file self.old p) ≡ Some b
             → OnOk result (CopiesPart self.old self.new start p from len most_copied b (D.files disk.old)
-            (standing D.Disk disk.new)) }
+            (shown_by D.Disk disk.new)) }
         ensures leaves { IsTrue D.tells → (p : EntryValue) (start : StartValue) → GoesTo self.old revived p start
-            → LeavesFile (target_file self.old start) start.at (standing D.Disk disk.old) (standing D.Disk disk.new) }
+            → LeavesFile (target_file self.old start) start.at (shown_by D.Disk disk.old) (shown_by D.Disk disk.new) }
         ensures nowhere { IsTrue D.tells → ((p : EntryValue) (start : StartValue) → GoesTo self.old revived p start → ⊥)
-            → ReadsDisk (standing D.Disk disk.old) (standing D.Disk disk.new) }
+            → ReadsDisk (shown_by D.Disk disk.old) (shown_by D.Disk disk.new) }
         ensures either { from < len → IsPlacedOrNot self.old revived part.now }
         ensures running { (fine : Granularity) → IsMove fine self.old → IsMove fine self.new }
         ensures advances { OnOk result (Advances self.old self.new revived len) }
@@ -277,13 +277,13 @@ impl Move {
             → GoesTo self.old (option_copied revived.entry) part start
             → D.files disk.old (source_file self.old part) ≡ Some b
             → OnOk result (CopiesPart self.old self.new start part from len most_copied b (D.files disk.old)
-            (standing D.Disk disk.new)) }
+            (shown_by D.Disk disk.new)) }
         ensures leaves { IsTrue D.tells → (part : EntryValue) (start : StartValue)
             → GoesTo self.old (option_copied revived.entry) part start
-            → LeavesFile (target_file self.old start) start.at (standing D.Disk disk.old) (standing D.Disk disk.new) }
+            → LeavesFile (target_file self.old start) start.at (shown_by D.Disk disk.old) (shown_by D.Disk disk.new) }
         ensures nowhere { IsTrue D.tells → ((part : EntryValue) (start : StartValue)
             → GoesTo self.old (option_copied revived.entry) part start → ⊥)
-            → ReadsDisk (standing D.Disk disk.old) (standing D.Disk disk.new) }
+            → ReadsDisk (shown_by D.Disk disk.old) (shown_by D.Disk disk.new) }
         ensures either { (part : EntryValue) → slice_get self.old.parts self.old.at ≡ Some part → from < len
             → IsPlacedOrNot self.old (option_copied revived.entry) part }
         ensures running { (fine : Granularity) → IsMove fine self.old → IsMove fine self.new }

@@ -1,7 +1,7 @@
 // The writing of one destination's file ahead of what is listed.
 ghost use Rattle.std.specs.Prelude.{◌≡◌, ◌≢◌, ◌≤◌, ◌++◌, ℕ, List, None, Some, length, take, OnOk, IsErrOf, IsTrue};
 ghost use Rattle.disk_model.specs.Files.{HasFile, Rose};
-ghost use Rattle.gate_journal.specs.Standing.{standing};
+ghost use Rattle.gate_journal.specs.DiskShown.{shown_by};
 ghost use Rattle.etl_mover.specs.Writing.{LeavesFile, WritesFile};
 
 use disk_model::{Disk, DiskErr, FileName};
@@ -18,11 +18,11 @@ pub(crate) fn write_file<D: Disk>(
 ) -> Result<(), DiskErr>
     requires there { IsTrue D.tells → (len : ℕ) → at ≡ Some len
         → HasFile (D.files disk.old) name.now (λ b. (D.opened disk.old name.now ≤ len) × (len ≤ length b)) }
-    ensures leaves { IsTrue D.tells → LeavesFile name.now at (standing D.Disk disk.old) (standing D.Disk disk.new) }
+    ensures leaves { IsTrue D.tells → LeavesFile name.now at (shown_by D.Disk disk.old) (shown_by D.Disk disk.new) }
     ensures grows { IsTrue D.tells → (len : ℕ) → at ≡ Some len
-        → OnOk result (WritesFile name.now at lines.now (D.files disk.old) (standing D.Disk disk.new)) }
+        → OnOk result (WritesFile name.now at lines.now (D.files disk.old) (shown_by D.Disk disk.new)) }
     ensures makes { IsTrue D.tells → at ≡ None
-        → OnOk result (WritesFile name.now at (head.now ++ lines.now) (D.files disk.old) (standing D.Disk disk.new)) }
+        → OnOk result (WritesFile name.now at (head.now ++ lines.now) (D.files disk.old) (shown_by D.Disk disk.new)) }
     ensures faults { D.faults disk.old ≤ D.faults disk.new }
     ensures cause { IsErrOf result DiskErr.Fault → Rose (D.faults disk.old) (D.faults disk.new) }
 {
@@ -37,9 +37,9 @@ fn go_on<D: Disk>(disk: &mut D, name: &FileName, len: u64, lines: &[u8]) -> Resu
     requires { IsTrue D.tells
         → HasFile (D.files disk.old) name.now (λ b. (D.opened disk.old name.now ≤ len) × (len ≤ length b)) }
     ensures leaves { IsTrue D.tells
-        → LeavesFile name.now (Some len) (standing D.Disk disk.old) (standing D.Disk disk.new) }
+        → LeavesFile name.now (Some len) (shown_by D.Disk disk.old) (shown_by D.Disk disk.new) }
     ensures grows { IsTrue D.tells
-        → OnOk result (WritesFile name.now (Some len) lines.now (D.files disk.old) (standing D.Disk disk.new)) }
+        → OnOk result (WritesFile name.now (Some len) lines.now (D.files disk.old) (shown_by D.Disk disk.new)) }
     ensures faults { D.faults disk.old ≤ D.faults disk.new }
     ensures cause { IsErrOf result DiskErr.Fault → Rose (D.faults disk.old) (D.faults disk.new) }
 {
@@ -55,9 +55,9 @@ fn make_anew<D: Disk>(
     head: &[u8],
     lines: &[u8],
 ) -> Result<(), DiskErr>
-    ensures leaves { IsTrue D.tells → LeavesFile name.now None (standing D.Disk disk.old) (standing D.Disk disk.new) }
+    ensures leaves { IsTrue D.tells → LeavesFile name.now None (shown_by D.Disk disk.old) (shown_by D.Disk disk.new) }
     ensures makes { IsTrue D.tells
-        → OnOk result (WritesFile name.now None (head.now ++ lines.now) (D.files disk.old) (standing D.Disk disk.new)) }
+        → OnOk result (WritesFile name.now None (head.now ++ lines.now) (D.files disk.old) (shown_by D.Disk disk.new)) }
     ensures faults { D.faults disk.old ≤ D.faults disk.new }
     ensures cause { IsErrOf result DiskErr.Fault → Rose (D.faults disk.old) (D.faults disk.new) }
 {

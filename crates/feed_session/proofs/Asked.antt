@@ -10,8 +10,8 @@ use Rattle.feed_session.specs.Asking.{Asking, OffersOnce, StopsIn, both, none, o
 use Rattle.feed_session.specs.Session.{IsFlushed}
 use Rattle.feed_session.specs.declared.asking.SessionStop.{SessionStop}
 use Rattle.feed_session.specs.declared.asking.SessionStop.TheVariants as stopped
-use Rattle.feed_session.specs.declared.tally.Outcome.{Outcome}
-use Rattle.feed_session.specs.declared.tally.Outcome.TheVariants.{Kept, Held, Dropped}
+use Rattle.feed_session.specs.declared.tally.OfferOutcome.{OfferOutcome}
+use Rattle.feed_session.specs.declared.tally.OfferOutcome.TheVariants.{Kept, Held, Dropped}
 use Rattle.feed_session.specs.declared.tally.OfferCounts.{OfferCounts}
 use Rattle.feed_session.proofs.Making.{fails_on, made_beside, made_on, none_both, none_fails_on, tally_on}
 
@@ -67,7 +67,7 @@ module _ {A : Type 0} (number : A → ℕ) (between : A → List Entry → A →
   module _ (joined : (a b c : A) (xs ys : List Entry) → between a xs b → between b ys c → between a (xs ++ ys) c)
       (number_stays : (a b : A) (entries : List Entry) → between a entries b → number b ≡ number a) where
     -- it was answered
-    pub trying_ends : (Are : Outcome → List Done → Type 0) (old mid new : A) (act : Act) (outcome : Outcome) → Trying old act mid → OffersOnce number between mid act (Ok (Some outcome)) new → ((done : List Done) → tally_of done ≡ one_more outcome none → Are outcome done) → Asking number between old (act ∷ []) Are (Ok outcome) new
+    pub trying_ends : (Are : OfferOutcome → List Done → Type 0) (old mid new : A) (act : Act) (outcome : OfferOutcome) → Trying old act mid → OffersOnce number between mid act (Ok (Some outcome)) new → ((done : List Done) → tally_of done ≡ one_more outcome none → Are outcome done) → Asking number between old (act ∷ []) Are (Ok outcome) new
     trying_ends Are old mid new act outcome t o are = record {
       done = t.done ++ o.done;
       left = o.left;
@@ -134,14 +134,14 @@ module _ {A : Type 0} (number : A → ℕ) (between : A → List Entry → A →
 
 -- COUNTS
 
-one_more_both : (outcome : Outcome) (t : OfferCounts) → one_more outcome t ≡ both t (one_more outcome none)
+one_more_both : (outcome : OfferOutcome) (t : OfferCounts) → one_more outcome t ≡ both t (one_more outcome none)
 one_more_both Kept t = rw (add-zero t.held, add-zero t.dropped) refl
 one_more_both Held t = rw (add-zero t.kept, add-zero t.dropped) refl
 one_more_both Dropped t = rw (add-zero t.kept, add-zero t.held) refl
 
 module _ {A : Type 0} (number : A → ℕ) (between : A → List Entry → A → Type 0) where
   -- an offer that was counted
-  pub sample_counted : (old new : A) (asked asked' : List Act) (outcome : Outcome) (tally tally' : OfferCounts) → asked ≡ asked' → tally' ≡ one_more outcome tally → Asking number between old asked (λ (x : Outcome) (done : List Done). tally_of done ≡ one_more x none) (Ok outcome) new → Asking {X = Unit {0}} number between old asked' (λ _ (done : List Done). tally' ≡ both tally (tally_of done)) (Ok tt) new
+  pub sample_counted : (old new : A) (asked asked' : List Act) (outcome : OfferOutcome) (tally tally' : OfferCounts) → asked ≡ asked' → tally' ≡ one_more outcome tally → Asking number between old asked (λ (x : OfferOutcome) (done : List Done). tally_of done ≡ one_more x none) (Ok outcome) new → Asking {X = Unit {0}} number between old asked' (λ _ (done : List Done). tally' ≡ both tally (tally_of done)) (Ok tt) new
   sample_counted old new asked asked' outcome tally tally' same counted a = record {
     done = a.done;
     left = a.left;

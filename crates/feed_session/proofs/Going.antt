@@ -14,7 +14,7 @@ use Rattle.act_model.specs.History.{Done, Entry, Made}
 use Rattle.act_model.proofs.Histories.{made_joined, made_nothing}
 use Rattle.feed_session.specs.Asks.{AreMade, AsksFor, NoneFails, chunk_behind, flush_all}
 use Rattle.feed_session.specs.Asking.{Asking, Closes, Registers, StopsIn, both, end_by, none, tally_of}
-use Rattle.feed_session.specs.Session.{AreTaken, AsksLast, BeginsWith, CountsAll, Ended, EndsIn, IsFlushed, IsTaken, ReadsOf, Taken, acts_of, chunk_after, items_of, moments_of}
+use Rattle.feed_session.specs.Session.{AreTaken, AsksLast, BeginsWith, CountsAll, EndsSession, EndsIn, IsFlushed, IsTaken, ReadsOf, TakenItem, acts_of, chunk_after, items_of, moments_of}
 use Rattle.feed_session.specs.declared.asking.SessionStop.{SessionStop}
 use Rattle.feed_session.specs.declared.asking.SessionStop.TheVariants as stopped
 use Rattle.feed_session.specs.declared.end.Fed.{Fed}
@@ -30,26 +30,26 @@ gives_nothing (Some a) = (tt, λ k. ap a (omega arith))
 
 -- ONE ITEM MORE
 
-pub taken_on : (registers : Bool) (chunk : Option PayloadInfo) (ts : List Taken) (t : Taken) → AreTaken registers chunk ts → IsTaken registers (chunk_after chunk ts) t → AreTaken registers chunk (ts ++ t ∷ [])
+pub taken_on : (registers : Bool) (chunk : Option PayloadInfo) (ts : List TakenItem) (t : TakenItem) → AreTaken registers chunk ts → IsTaken registers (chunk_after chunk ts) t → AreTaken registers chunk (ts ++ t ∷ [])
 taken_on registers chunk [] t p q = (q, tt)
 taken_on registers chunk (x ∷ ts) t p q = (p.0, taken_on registers (chunk_behind chunk x.item) ts t p.1 q)
 
-pub chunk_on : (chunk : Option PayloadInfo) (ts : List Taken) (t : Taken) → chunk_after chunk (ts ++ t ∷ []) ≡ chunk_behind (chunk_after chunk ts) t.item
+pub chunk_on : (chunk : Option PayloadInfo) (ts : List TakenItem) (t : TakenItem) → chunk_after chunk (ts ++ t ∷ []) ≡ chunk_behind (chunk_after chunk ts) t.item
 chunk_on chunk [] t = refl
 chunk_on chunk (x ∷ ts) t = chunk_on (chunk_behind chunk x.item) ts t
 
-pub items_on : (ts : List Taken) (t : Taken) → items_of (ts ++ t ∷ []) ≡ items_of ts ++ t.item ∷ []
-items_on ts t = map-append (λ (x : Taken). x.item) ts (t ∷ [])
+pub items_on : (ts : List TakenItem) (t : TakenItem) → items_of (ts ++ t ∷ []) ≡ items_of ts ++ t.item ∷ []
+items_on ts t = map-append (λ (x : TakenItem). x.item) ts (t ∷ [])
 
-pub moments_on : (ts : List Taken) (t : Taken) → moments_of (ts ++ t ∷ []) ≡ moments_of ts ++ t.moments
-moments_on ts t = flat_map-append (λ (x : Taken). x.moments) ts (t ∷ []) ∙ ap (λ (l : List ℕ). moments_of ts ++ l) (append-nil t.moments)
+pub moments_on : (ts : List TakenItem) (t : TakenItem) → moments_of (ts ++ t ∷ []) ≡ moments_of ts ++ t.moments
+moments_on ts t = flat_map-append (λ (x : TakenItem). x.moments) ts (t ∷ []) ∙ ap (λ (l : List ℕ). moments_of ts ++ l) (append-nil t.moments)
 
-pub acts_on : (ts : List Taken) (t : Taken) → acts_of (ts ++ t ∷ []) ≡ acts_of ts ++ t.done
-acts_on ts t = flat_map-append (λ (x : Taken). x.done) ts (t ∷ []) ∙ ap (λ (l : List Done). acts_of ts ++ l) (append-nil t.done)
+pub acts_on : (ts : List TakenItem) (t : TakenItem) → acts_of (ts ++ t ∷ []) ≡ acts_of ts ++ t.done
+acts_on ts t = flat_map-append (λ (x : TakenItem). x.done) ts (t ∷ []) ∙ ap (λ (l : List Done). acts_of ts ++ l) (append-nil t.done)
 
 -- The items that were read were taken, each with its moments and its acts, and their samples are counted.
 pub record Progress {A : Type 0} (number : A → ℕ) (between : A → List Entry → A → Type 0) (registers : Bool) (first reader : Chunks) (before middle : Option (List ℕ)) (clock clock' : Option Moments) (start now : A) (tally : OfferCounts) : Type 0 where
-  pub taken : List Taken
+  pub taken : List TakenItem
   pub are : AreTaken registers None taken
   pub inside : chunk_after None taken ≡ reader.section.chunk
   pub passed : Passes first reader before middle (items_of taken)
@@ -71,7 +71,7 @@ pub record Takes {A : Type 0} (number : A → ℕ) (between : A → List Entry �
   pub made : Made number between now done next
   pub counted : tally' ≡ both tally (tally_of done)
 
-abbrev pub taken_as : Item → List ℕ → List Done → Taken
+abbrev pub taken_as : Item → List ℕ → List Done → TakenItem
 taken_as item moments done = record { item = item; moments = moments; done = done }
 
 module _ {A : Type 0} (number : A → ℕ) (between : A → List Entry → A → Type 0) where
@@ -102,7 +102,7 @@ module _ {A : Type 0} (number : A → ℕ) (between : A → List Entry → A →
         }
 
     -- the session stopped within what was begun last
-    pub stops : {registers : Bool} {first mid : Chunks} {before middle : Option (List ℕ)} {clock clock' clock'' : Option Moments} {start now next : A} {tally : OfferCounts} (p : Progress number between registers first mid before middle clock clock' start now tally) (end : Fed) (begun : List Item) (moments : List ℕ) (asked : List Act) (done : List Done) (left : List Act) → AsksLast registers mid.section.chunk begun moments asked → AreMade asked done left → EndsIn end begun done → ReadsOf end before (items_of p.taken ++ begun) → Gives clock' clock'' moments → Made number between now done next → CountsAll end (acts_of p.taken) → Ended number between registers end p.taken start next before clock clock''
+    pub stops : {registers : Bool} {first mid : Chunks} {before middle : Option (List ℕ)} {clock clock' clock'' : Option Moments} {start now next : A} {tally : OfferCounts} (p : Progress number between registers first mid before middle clock clock' start now tally) (end : Fed) (begun : List Item) (moments : List ℕ) (asked : List Act) (done : List Done) (left : List Act) → AsksLast registers mid.section.chunk begun moments asked → AreMade asked done left → EndsIn end begun done → ReadsOf end before (items_of p.taken ++ begun) → Gives clock' clock'' moments → Made number between now done next → CountsAll end (acts_of p.taken) → EndsSession number between registers end p.taken start next before clock clock''
     stops {registers} {clock = clock} {clock' = clock'} {clock'' = clock''} {start = start} {now = now} {next = next} p end begun moments asked done left asks are ends reads at made counts = record {
       mine = acts_of p.taken ++ done;
       session = record {
@@ -198,30 +198,30 @@ module _ {A : Type 0} (number : A → ℕ) (between : A → List Entry → A →
     no_more registers chunk = (refl, inl refl)
 
     -- it stopped at an item
-    pub stopped_at : {registers : Bool} {first mid : Chunks} {before middle : Option (List ℕ)} {clock clock' clock'' : Option Moments} {start now next : A} {tally : OfferCounts} (p : Progress number between registers first mid before middle clock clock' start now tally) (item : Item) (moments : List ℕ) (asked : List Act) (Are : Unit {0} → List Done → Type 0) (result : Answer) (s : SessionStop) → result ≡ Err s → AsksFor registers mid.section.chunk item moments asked → Asking number between now asked Are result next → IfSome before (λ bytes. BeginsWith bytes (items_of p.taken ++ item ∷ [])) → Gives clock' clock'' moments → Ended number between registers (end_by s) p.taken start next before clock clock''
+    pub stopped_at : {registers : Bool} {first mid : Chunks} {before middle : Option (List ℕ)} {clock clock' clock'' : Option Moments} {start now next : A} {tally : OfferCounts} (p : Progress number between registers first mid before middle clock clock' start now tally) (item : Item) (moments : List ℕ) (asked : List Act) (Are : Unit {0} → List Done → Type 0) (result : Answer) (s : SessionStop) → result ≡ Err s → AsksFor registers mid.section.chunk item moments asked → Asking number between now asked Are result next → IfSome before (λ bytes. BeginsWith bytes (items_of p.taken ++ item ∷ [])) → Gives clock' clock'' moments → EndsSession number between registers (end_by s) p.taken start next before clock clock''
     stopped_at {before = before} {now = now} {next = next} p item moments asked Are result s is asks a some at =
         let b : Asking number between now asked Are (Err s) next = subst (λ (r : Answer). Asking number between now asked Are r next) is a in
         stops number between joined number_stays p (end_by s) (item ∷ []) moments asked b.done b.left asks b.are (stopped_ends s (item ∷ []) b.done b.ends) (stopped_reads s before (items_of p.taken ++ item ∷ []) some) at b.made (stopped_counts s (acts_of p.taken))
 
     -- it stopped between two items
-    pub stopped_idle : ((a : A) → between a [] a) → {registers : Bool} {first mid : Chunks} {before middle : Option (List ℕ)} {clock clock' : Option Moments} {start now : A} {tally : OfferCounts} (p : Progress number between registers first mid before middle clock clock' start now tally) (end : Fed) → EndsIn end [] [] → ReadsOf end before (items_of p.taken ++ []) → CountsAll end (acts_of p.taken) → Ended number between registers end p.taken start now before clock clock'
+    pub stopped_idle : ((a : A) → between a [] a) → {registers : Bool} {first mid : Chunks} {before middle : Option (List ℕ)} {clock clock' : Option Moments} {start now : A} {tally : OfferCounts} (p : Progress number between registers first mid before middle clock clock' start now tally) (end : Fed) → EndsIn end [] [] → ReadsOf end before (items_of p.taken ++ []) → CountsAll end (acts_of p.taken) → EndsSession number between registers end p.taken start now before clock clock'
     stopped_idle nothing {registers} {mid = mid} {clock' = clock'} {now = now} p end ends reads counts = stops number between joined number_stays p end [] [] [] [] [] (no_more registers mid.section.chunk) refl ends reads (gives_nothing clock') (made_nothing number between nothing now) counts
 
-    pub stopped_nothing : ((a : A) → between a [] a) → {registers : Bool} {first mid : Chunks} {before middle : Option (List ℕ)} {clock clock' : Option Moments} {start now next : A} {tally : OfferCounts} (p : Progress number between registers first mid before middle clock clock' start now tally) (s : SessionStop) → s ≡ stopped.Memory → Made number between now [] next → IfSome before (λ bytes. BeginsWith bytes (items_of p.taken)) → Ended number between registers (end_by s) p.taken start next before clock clock'
+    pub stopped_nothing : ((a : A) → between a [] a) → {registers : Bool} {first mid : Chunks} {before middle : Option (List ℕ)} {clock clock' : Option Moments} {start now next : A} {tally : OfferCounts} (p : Progress number between registers first mid before middle clock clock' start now tally) (s : SessionStop) → s ≡ stopped.Memory → Made number between now [] next → IfSome before (λ bytes. BeginsWith bytes (items_of p.taken)) → EndsSession number between registers (end_by s) p.taken start next before clock clock'
     stopped_nothing nothing {registers} {mid = mid} {before = before} {clock' = clock'} p s is made some =
         stops number between joined number_stays p (end_by s) [] [] [] [] [] (no_more registers mid.section.chunk) refl (subst (λ (x : SessionStop). EndsIn (end_by x) [] []) (sym is) (inl tt)) (stopped_reads s before (items_of p.taken ++ []) (begins_all before (items_of p.taken) some)) (gives_nothing clock') made (stopped_counts s (acts_of p.taken))
 
     -- it was read as far as it goes, and all was flushed
-    pub closed_ends : {registers : Bool} {first mid : Chunks} {before middle : Option (List ℕ)} {clock clock' : Option Moments} {start now next : A} {tally : OfferCounts} (p : Progress number between registers first mid before middle clock clock' start now tally) (end result : Fed) → ((done : List Done) → IsFlushed done → EndsIn end [] done) → ReadsOf end before (items_of p.taken ++ []) → IfSome before (λ bytes. BeginsWith bytes (items_of p.taken)) → CountsAll end (acts_of p.taken) → Closes number between now end result next → Ended number between registers result p.taken start next before clock clock'
+    pub closed_ends : {registers : Bool} {first mid : Chunks} {before middle : Option (List ℕ)} {clock clock' : Option Moments} {start now next : A} {tally : OfferCounts} (p : Progress number between registers first mid before middle clock clock' start now tally) (end result : Fed) → ((done : List Done) → IsFlushed done → EndsIn end [] done) → ReadsOf end before (items_of p.taken ++ []) → IfSome before (λ bytes. BeginsWith bytes (items_of p.taken)) → CountsAll end (acts_of p.taken) → Closes number between now end result next → EndsSession number between registers result p.taken start next before clock clock'
     closed_ends {registers} {mid = mid} {before = before} {clock = clock} {clock' = clock'} {start = start} {next = next} p end result ends reads some counts closes = by_end closes.ends
       where
-        by_end : ((result ≡ end) × IsFlushed closes.done) ⊎ ((s : SessionStop) × (result ≡ end_by s) × StopsIn s closes.done) → Ended number between registers result p.taken start next before clock clock'
-        by_end (inl well) = subst (λ (e : Fed). Ended number between registers e p.taken start next before clock clock') (sym well.0) (stops number between joined number_stays p end [] [] (flush_all ∷ []) closes.done closes.left (refl, inr refl) closes.are (ends closes.done well.1) reads (gives_nothing clock') closes.made counts)
-        by_end (inr stop) = subst (λ (e : Fed). Ended number between registers e p.taken start next before clock clock') (sym stop.1) (stops number between joined number_stays p (end_by stop.0) [] [] (flush_all ∷ []) closes.done closes.left (refl, inr refl) closes.are (stopped_ends stop.0 [] closes.done stop.2) (stopped_reads stop.0 before (items_of p.taken ++ []) (begins_all before (items_of p.taken) some)) (gives_nothing clock') closes.made (stopped_counts stop.0 (acts_of p.taken)))
+        by_end : ((result ≡ end) × IsFlushed closes.done) ⊎ ((s : SessionStop) × (result ≡ end_by s) × StopsIn s closes.done) → EndsSession number between registers result p.taken start next before clock clock'
+        by_end (inl well) = subst (λ (e : Fed). EndsSession number between registers e p.taken start next before clock clock') (sym well.0) (stops number between joined number_stays p end [] [] (flush_all ∷ []) closes.done closes.left (refl, inr refl) closes.are (ends closes.done well.1) reads (gives_nothing clock') closes.made counts)
+        by_end (inr stop) = subst (λ (e : Fed). EndsSession number between registers e p.taken start next before clock clock') (sym stop.1) (stops number between joined number_stays p (end_by stop.0) [] [] (flush_all ∷ []) closes.done closes.left (refl, inr refl) closes.are (stopped_ends stop.0 [] closes.done stop.2) (stopped_reads stop.0 before (items_of p.taken ++ []) (begins_all before (items_of p.taken) some)) (gives_nothing clock') closes.made (stopped_counts stop.0 (acts_of p.taken)))
 
     -- A HEADER
 
-    pub header_stopped : ((a : A) → between a [] a) → {first mid : Chunks} {before middle : Option (List ℕ)} {clock clock' : Option Moments} {start now next : A} {tally : OfferCounts} (p : Progress number between true first mid before middle clock clock' start now tally) (info : PayloadInfo) (line : List ℕ) (result : Answer) (s : SessionStop) → result ≡ Err s → Registers number between now info result next → IfSome before (λ bytes. BeginsWith bytes (items_of p.taken ++ header info line ∷ [])) → IfSome before (λ bytes. BeginsWith bytes (items_of p.taken)) → Ended number between true (end_by s) p.taken start next before clock clock'
+    pub header_stopped : ((a : A) → between a [] a) → {first mid : Chunks} {before middle : Option (List ℕ)} {clock clock' : Option Moments} {start now next : A} {tally : OfferCounts} (p : Progress number between true first mid before middle clock clock' start now tally) (info : PayloadInfo) (line : List ℕ) (result : Answer) (s : SessionStop) → result ≡ Err s → Registers number between now info result next → IfSome before (λ bytes. BeginsWith bytes (items_of p.taken ++ header info line ∷ [])) → IfSome before (λ bytes. BeginsWith bytes (items_of p.taken)) → EndsSession number between true (end_by s) p.taken start next before clock clock'
     header_stopped nothing {clock' = clock'} p info line result s is (inl r) some before_it = stopped_at p (header info line) [] r.asked (λ _ (done : List Done). tally_of done ≡ none) result s is (refl, r.row) r.asking some (gives_nothing clock')
     header_stopped nothing p info line result s is (inr r) some before_it = stopped_nothing nothing p s (same_err result s stopped.Memory is r.0) r.1 before_it
 
@@ -233,7 +233,7 @@ module _ {A : Type 0} (number : A → ℕ) (between : A → List Entry → A →
   header_taken info line result x is (inr r) inside passed = not_both result x stopped.Memory is r.0
 
 -- where memory was wanting for a reader
-pub not_started : {A : Type 0} (number : A → ℕ) (between : A → List Entry → A → Type 0) → ((a : A) → between a [] a) → (registers : Bool) (start : A) (source : Option (List ℕ)) (clock : Option Moments) → Ended number between registers fed.Memory [] start start source clock clock
+pub not_started : {A : Type 0} (number : A → ℕ) (between : A → List Entry → A → Type 0) → ((a : A) → between a [] a) → (registers : Bool) (start : A) (source : Option (List ℕ)) (clock : Option Moments) → EndsSession number between registers fed.Memory [] start start source clock clock
 not_started number between nothing registers start source clock = record {
   mine = [];
   session = record {

@@ -14,7 +14,7 @@ use Rattle.series_model.specs.declared.sample.Sample.{Sample}
 use Rattle.act_model.specs.History.{Done, Entry}
 use Rattle.feed_session.specs.Asking.{both, cut_by, none, tally_of}
 use Rattle.feed_session.specs.Replies.{CutsOff, Tells, acts_in, in_chunk, last_line, lines_of, ok_text, reply_to}
-use Rattle.feed_session.specs.Session.{BeginsWith, CountsAll, EndsIn, ReadsOf, Taken}
+use Rattle.feed_session.specs.Session.{BeginsWith, CountsAll, EndsIn, ReadsOf, TakenItem}
 use Rattle.feed_session.specs.declared.end.Fed.{Fed}
 use Rattle.feed_session.specs.declared.end.Fed.TheVariants as fed
 use Rattle.feed_session.specs.declared.replies.Cut.{Cut}
@@ -41,11 +41,11 @@ same_since a x y t p q =
 
 -- ONE ITEM MORE
 
-pub chunk_acts_on : (chunk : List Done) (ts : List Taken) (t : Taken) → acts_in chunk (ts ++ t ∷ []) ≡ in_chunk (acts_in chunk ts) t
+pub chunk_acts_on : (chunk : List Done) (ts : List TakenItem) (t : TakenItem) → acts_in chunk (ts ++ t ∷ []) ≡ in_chunk (acts_in chunk ts) t
 chunk_acts_on chunk [] t = refl
 chunk_acts_on chunk (x ∷ ts) t = chunk_acts_on (in_chunk chunk x) ts t
 
-pub lines_on : (chunk : List Done) (ts : List Taken) (t : Taken) → lines_of chunk (ts ++ t ∷ []) ≡ lines_of chunk ts ++ reply_to (acts_in chunk ts) t.item
+pub lines_on : (chunk : List Done) (ts : List TakenItem) (t : TakenItem) → lines_of chunk (ts ++ t ∷ []) ≡ lines_of chunk ts ++ reply_to (acts_in chunk ts) t.item
 lines_on chunk [] t = append-nil (reply_to chunk t.item)
 lines_on chunk (x ∷ ts) t = ap (λ (l : List ℕ). reply_to chunk x.item ++ l) (lines_on (in_chunk chunk x) ts t) ∙ sym (append_assoc (reply_to chunk x.item) (lines_of (in_chunk chunk x) ts) (reply_to (acts_in (in_chunk chunk x) ts) t.item))
 
@@ -99,7 +99,7 @@ module _ {A : Type 0} (number : A → ℕ) (between : A → List Entry → A →
 -- HOW IT ENDS
 
 -- A line was cut off.
-pub told_front : (written written' written'' : Option (List ℕ)) (end : Fed) (ts : List Taken) (t : Taken) (chunk begun tally : OfferCounts) → t.item ≡ chunk_end → both begun chunk ≡ tally → both begun (tally_of (acts_in [] ts)) ≡ tally → CutsOff end → Appends written written' (lines_of [] ts) → AppendsFront written' written'' (ok_text chunk) → Tells end (lines_of [] (ts ++ t ∷ [])) end written written''
+pub told_front : (written written' written'' : Option (List ℕ)) (end : Fed) (ts : List TakenItem) (t : TakenItem) (chunk begun tally : OfferCounts) → t.item ≡ chunk_end → both begun chunk ≡ tally → both begun (tally_of (acts_in [] ts)) ≡ tally → CutsOff end → Appends written written' (lines_of [] ts) → AppendsFront written' written'' (ok_text chunk) → Tells end (lines_of [] (ts ++ t ∷ [])) end written written''
 told_front written written' written'' end ts t chunk begun tally is counted since cuts out front =
     let same : chunk ≡ tally_of (acts_in [] ts) = same_since begun chunk (tally_of (acts_in [] ts)) tally counted since in
     let line : reply_to (acts_in [] ts) t.item ≡ ok_text chunk = ap (λ (i : Item). reply_to (acts_in [] ts) i) is ∙ ap ok_text (sym same) in

@@ -13,8 +13,8 @@ use Rattle.feed_session.specs.declared.end.Fed.{Fed}
 use Rattle.feed_session.specs.declared.end.Fed.TheVariants as fed
 use Rattle.feed_session.specs.declared.replies.Cut.{Cut}
 use Rattle.feed_session.specs.declared.replies.Cut.TheVariants as cut
-use Rattle.feed_session.specs.declared.tally.Outcome.{Outcome}
-use Rattle.feed_session.specs.declared.tally.Outcome.TheVariants.{Kept, Held, Dropped}
+use Rattle.feed_session.specs.declared.tally.OfferOutcome.{OfferOutcome}
+use Rattle.feed_session.specs.declared.tally.OfferOutcome.TheVariants.{Kept, Held, Dropped}
 use Rattle.feed_session.specs.declared.tally.OfferCounts.{OfferCounts}
 
 -- how the session ends that stopped so
@@ -45,7 +45,7 @@ abbrev pub both : OfferCounts → OfferCounts → OfferCounts
 both a b = record { kept = a.kept + b.kept; held = a.held + b.held; dropped = a.dropped + b.dropped }
 
 -- one sample more
-abbrev pub one_more : Outcome → OfferCounts → OfferCounts
+abbrev pub one_more : OfferOutcome → OfferCounts → OfferCounts
 one_more Kept t = record t { kept = t.kept + 1 }
 one_more Held t = record t { held = t.held + 1 }
 one_more Dropped t = record t { dropped = t.dropped + 1 }
@@ -72,13 +72,13 @@ abbrev pub Registers : {A : Type 0} → (A → ℕ) → (A → List Entry → A 
 Registers number between old info result new = RegistersRow number between old info result new ⊎ ((result ≡ Err stopped.Memory) × Made number between old [] new)
 
 -- What one try of an offer came to: it was answered, or the intake is full, or the session stops.
-abbrev pub Tried : Act → List Act → Result (Option Outcome) SessionStop → List Done → Type 0
+abbrev pub Tried : Act → List Act → Result (Option OfferOutcome) SessionStop → List Done → Type 0
 Tried act left (Ok (Some outcome)) done = (left ≡ []) × NoneFails done × (tally_of done ≡ one_more outcome none)
 Tried act left (Ok None) done = (left ≡ flush_all ∷ act ∷ []) × NoneFails done × (tally_of done ≡ none)
 Tried act left (Err s) done = StopsIn s done
 
 -- just these acts were made in one try
-pub record OffersOnce {A : Type 0} (number : A → ℕ) (between : A → List Entry → A → Type 0) (old : A) (act : Act) (result : Result (Option Outcome) SessionStop) (new : A) : Type 0 where
+pub record OffersOnce {A : Type 0} (number : A → ℕ) (between : A → List Entry → A → Type 0) (old : A) (act : Act) (result : Result (Option OfferOutcome) SessionStop) (new : A) : Type 0 where
   pub done : List Done
   pub left : List Act
   pub made : Made number between old done new

@@ -10,7 +10,7 @@ use Rattle.act_model.specs.declared.acts.Answer.TheVariants as answer
 use Rattle.act_model.specs.Rows.{RowState, durable}
 use Rattle.act_model.specs.Machine.{Machine}
 use Rattle.act_model.specs.History.{Done, Entry, Goes}
-use Rattle.feed_session.specs.Session.{Ended, Taken, acts_of}
+use Rattle.feed_session.specs.Session.{EndsSession, TakenItem, acts_of}
 use Rattle.feed_session.specs.declared.end.Fed.{Fed}
 use Rattle.feed_session.specs.declared.end.Fed.TheVariants as fed
 
@@ -40,6 +40,6 @@ SaysDurable other = ⊥
 -- durable, where the disk tells its files and they stand as they are listed.
 abbrev pub KeptIsDurable : {A : Type 0} → (A → ℕ) → (A → Machine → Type 0) → (A → List Entry → A → Type 0) → Type 0
 KeptIsDurable {A} number stands between =
-    (registers : Bool) (end : Fed) (taken : List Taken) (old new : A) (source : Option (List ℕ)) (clock clock' : Option Moments) (m : Machine)
-    → SaysDurable end → (e : Ended number between registers end taken old new source clock clock') → stands old m → m.told ≡ true
+    (registers : Bool) (end : Fed) (taken : List TakenItem) (old new : A) (source : Option (List ℕ)) (clock clock' : Option Moments) (m : Machine)
+    → SaysDurable end → (e : EndsSession number between registers end taken old new source clock clock') → stands old m → m.told ≡ true
     → (goes : Goes (stands new) m e.made.entries) × KeptAreDurable (acts_of taken) goes.after

@@ -7,7 +7,7 @@ use Rattle.pb_lines.specs.Fault.{fault_number}
 use Rattle.pb_lines.specs.Stream.{Item, header, sample, chunk_end}
 use Rattle.act_model.specs.History.{Entry, Done}
 use Rattle.feed_session.specs.Asking.{tally_of}
-use Rattle.feed_session.specs.Session.{Ended, Taken}
+use Rattle.feed_session.specs.Session.{EndsSession, TakenItem}
 use Rattle.feed_session.specs.declared.end.Fed.{Fed}
 use Rattle.feed_session.specs.declared.end.Fed.TheVariants as fed
 use Rattle.feed_session.specs.declared.tally.OfferCounts.{OfferCounts}
@@ -21,7 +21,7 @@ abbrev pub ok_line : List Done → List ℕ
 ok_line done = ok_text (tally_of done)
 
 -- the acts of the chunk that was begun last, with those of one item more
-abbrev pub in_chunk : List Done → Taken → List Done
+abbrev pub in_chunk : List Done → TakenItem → List Done
 in_chunk chunk t = with_item t.item
   where
     with_item : Item → List Done
@@ -30,7 +30,7 @@ in_chunk chunk t = with_item t.item
     with_item chunk_end = chunk
 
 -- the acts of the chunk that was begun last
-abbrev pub acts_in : List Done → List Taken → List Done
+abbrev pub acts_in : List Done → List TakenItem → List Done
 acts_in chunk [] = chunk
 acts_in chunk (t ∷ ts) = acts_in (in_chunk chunk t) ts
 
@@ -41,7 +41,7 @@ reply_to chunk (sample x) = []
 reply_to chunk chunk_end = ok_line chunk
 
 -- the lines for all chunks that ended
-abbrev pub lines_of : List Done → List Taken → List ℕ
+abbrev pub lines_of : List Done → List TakenItem → List ℕ
 lines_of chunk [] = []
 lines_of chunk (t ∷ ts) = reply_to chunk t.item ++ lines_of (in_chunk chunk t) ts
 
@@ -53,7 +53,7 @@ last_line fed.DiskFault = codes "fault disk\n"
 last_line other = []
 
 -- the whole text of a session that ended so
-abbrev pub text_of : Fed → List Taken → List ℕ
+abbrev pub text_of : Fed → List TakenItem → List ℕ
 text_of end taken = lines_of [] taken ++ last_line end
 
 -- the link failed, or memory was wanting for a line
@@ -67,18 +67,18 @@ abbrev pub Tells : Fed → List ℕ → Fed → Option (List ℕ) → Option (Li
 Tells end text result old new = ((result ≡ end) × Appends old new text) ⊎ (CutsOff result × AppendsFront old new text)
 
 -- so is the whole text of a session that ended so
-abbrev pub Replies : Fed → List Taken → Fed → Option (List ℕ) → Option (List ℕ) → Type 0
+abbrev pub Replies : Fed → List TakenItem → Fed → Option (List ℕ) → Option (List ℕ) → Type 0
 Replies end taken result old new = Tells end (text_of end taken) result old new
 
 -- Just these acts were made under the actor's number, and just the lines for the chunks that ended were written over their answers.
 pub record FeedsChunks {A : Type 0} (number : A → ℕ) (between : A → List Entry → A → Type 0) (result : Fed) (old new : A) (source : Option (List ℕ)) (clock clock' : Option Moments) (written written' : Option (List ℕ)) : Type 0 where
-  pub taken : List Taken
-  pub ended : Ended number between false result taken old new source clock clock'
+  pub taken : List TakenItem
+  pub ended : EndsSession number between false result taken old new source clock clock'
   pub told : Tells result (lines_of [] taken) result written written'
 
 -- Just these acts were made under the actor's number, and just this was written over their answers.
 pub record Feeds {A : Type 0} (number : A → ℕ) (between : A → List Entry → A → Type 0) (result : Fed) (old new : A) (source : Option (List ℕ)) (clock clock' : Option Moments) (written written' : Option (List ℕ)) : Type 0 where
-  pub taken : List Taken
+  pub taken : List TakenItem
   pub end : Fed
-  pub ended : Ended number between false end taken old new source clock clock'
+  pub ended : EndsSession number between false end taken old new source clock clock'
   pub replies : Replies end taken result written written'

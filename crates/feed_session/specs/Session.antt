@@ -16,35 +16,35 @@ use Rattle.feed_session.specs.declared.end.Fed.TheVariants as fed
 -- ITEMS THAT WERE TAKEN
 
 -- an item, the moments that were read for it, and the acts that were made of it
-pub record Taken : Type 0 where
+pub record TakenItem : Type 0 where
   pub item : Item
   pub moments : List ℕ
   pub done : List Done
 
 -- all that the item asks for was made, and nothing failed
-pub record IsTaken (registers : Bool) (chunk : Option PayloadInfo) (t : Taken) : Type 0 where
+pub record IsTaken (registers : Bool) (chunk : Option PayloadInfo) (t : TakenItem) : Type 0 where
   pub asked : List Act
   pub asks : AsksFor registers chunk t.item t.moments asked
   pub made : AreMade asked t.done []
   pub well : NoneFails t.done
 
 -- so it is with each, one after another
-abbrev pub AreTaken : Bool → Option PayloadInfo → List Taken → Type 0
+abbrev pub AreTaken : Bool → Option PayloadInfo → List TakenItem → Type 0
 AreTaken registers chunk [] = Unit {0}
 AreTaken registers chunk (t ∷ ts) = IsTaken registers chunk t × AreTaken registers (chunk_behind chunk t.item) ts
 
 -- the chunk that goes on behind them
-abbrev pub chunk_after : Option PayloadInfo → List Taken → Option PayloadInfo
+abbrev pub chunk_after : Option PayloadInfo → List TakenItem → Option PayloadInfo
 chunk_after chunk [] = chunk
 chunk_after chunk (t ∷ ts) = chunk_after (chunk_behind chunk t.item) ts
 
-abbrev pub items_of : List Taken → List Item
+abbrev pub items_of : List TakenItem → List Item
 items_of ts = map (λ t. t.item) ts
 
-abbrev pub moments_of : List Taken → List ℕ
+abbrev pub moments_of : List TakenItem → List ℕ
 moments_of ts = flat_map (λ t. t.moments) ts
 
-abbrev pub acts_of : List Taken → List Done
+abbrev pub acts_of : List TakenItem → List Done
 acts_of ts = flat_map (λ t. t.done) ts
 
 -- HOW MANY
@@ -113,7 +113,7 @@ CountsAll other done = Unit {0}
 
 -- A session that ended so: the items that it took of its source, what it began last, the moments that it read of its clock, and all acts
 -- that it made, in order.
-pub record Session (registers : Bool) (end : Fed) (taken : List Taken) (source : Option (List ℕ)) (clock clock' : Option Moments) (mine : List Done) : Type 0 where
+pub record Session (registers : Bool) (end : Fed) (taken : List TakenItem) (source : Option (List ℕ)) (clock clock' : Option Moments) (mine : List Done) : Type 0 where
   pub begun : List Item
   pub moments : List ℕ
   pub asked : List Act
@@ -131,12 +131,12 @@ pub record Session (registers : Bool) (end : Fed) (taken : List Taken) (source :
 -- THE ACTOR
 
 -- just these acts of a session were made under the actor's number
-pub record Ended {A : Type 0} (number : A → ℕ) (between : A → List Entry → A → Type 0) (registers : Bool) (end : Fed) (taken : List Taken) (old new : A) (source : Option (List ℕ)) (clock clock' : Option Moments) : Type 0 where
+pub record EndsSession {A : Type 0} (number : A → ℕ) (between : A → List Entry → A → Type 0) (registers : Bool) (end : Fed) (taken : List TakenItem) (old new : A) (source : Option (List ℕ)) (clock clock' : Option Moments) : Type 0 where
   pub mine : List Done
   pub session : Session registers end taken source clock clock' mine
   pub made : Made number between old mine new
 
 -- a session without replies, which registers variables
 pub record Ingests {A : Type 0} (number : A → ℕ) (between : A → List Entry → A → Type 0) (result : Fed) (old new : A) (source : Option (List ℕ)) (clock clock' : Option Moments) : Type 0 where
-  pub taken : List Taken
-  pub ended : Ended number between true result taken old new source clock clock'
+  pub taken : List TakenItem
+  pub ended : EndsSession number between true result taken old new source clock clock'

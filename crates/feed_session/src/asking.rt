@@ -12,7 +12,7 @@ ghost use Rattle.feed_session.specs.Asking.{tally_of, total};
 ghost use Rattle.feed_session.specs.Session.{IsFlushed};
 
 use crate::end::Fed;
-use crate::tally::{OfferCounts, Outcome};
+use crate::tally::{OfferCounts, OfferOutcome};
 use act_model::{Actor, Flushed, Offered, Registered, Spent, ask_flush, ask_offer, ask_register};
 use pb_lines::{ChunkItem, ChunkReader};
 use pb_messages::{About, Method, PayloadInfo};
@@ -147,7 +147,7 @@ fn offer<A: Actor>(
     t: u64,
     line: &[u8],
     now: u64,
-) -> Result<Outcome, SessionStop>
+) -> Result<OfferOutcome, SessionStop>
     requires stands { (m : Machine) × A.stands actor.old m }
     requires event { IsEvent info.now.ty (record { t = t; line = line.now }) }
     ensures asked { Asking A.number A.between actor.old (offer_of info.now (record { t = t; line = line.now }) now ∷ [])
@@ -177,7 +177,7 @@ fn offer_once<A: Actor>(
     t: u64,
     line: &[u8],
     now: u64,
-) -> Result<Option<Outcome>, SessionStop>
+) -> Result<Option<OfferOutcome>, SessionStop>
     requires stands { (m : Machine) × A.stands actor.old m }
     requires event { IsEvent info.now.ty (record { t = t; line = line.now }) }
     ensures asked { OffersOnce A.number A.between actor.old
@@ -202,7 +202,7 @@ fn ask_once<A: Actor>(
     t: u64,
     line: Blob,
     now: u64,
-) -> Result<Option<Outcome>, SessionStop>
+) -> Result<Option<OfferOutcome>, SessionStop>
     requires stands { (m : Machine) × A.stands actor.old m }
     requires event { IsEvent ty (record { t = t; line = line }) }
     ensures asked { OffersOnce A.number A.between actor.old (Act.Offer name ty t line now) result actor.new }
@@ -210,9 +210,9 @@ fn ask_once<A: Actor>(
     ensures spent { IsErrOf result SessionStop.Spent → A.is_spent actor.new }
 {
     match ask_offer(actor, name, ty, t, line, now) {
-        Ok(Offered::Kept) => Ok(Some(Outcome::Kept)),
-        Ok(Offered::Held) => Ok(Some(Outcome::Held)),
-        Ok(Offered::Dropped(_)) => Ok(Some(Outcome::Dropped)),
+        Ok(Offered::Kept) => Ok(Some(OfferOutcome::Kept)),
+        Ok(Offered::Held) => Ok(Some(OfferOutcome::Held)),
+        Ok(Offered::Dropped(_)) => Ok(Some(OfferOutcome::Dropped)),
         Ok(Offered::IntakeFull { .. }) => Ok(None),
         Ok(Offered::Memory) => Err(SessionStop::Memory),
         Err(Spent) => Err(SessionStop::Spent),

@@ -6,7 +6,7 @@ use crate::end::Fed;
 
 /// What came of an offer.
 #[derive(Clone, Copy)]
-pub(crate) enum Outcome {
+pub(crate) enum OfferOutcome {
     Kept,
     Held,
     Dropped,
@@ -33,14 +33,14 @@ impl OfferCounts {
     }
 
     /// Counts one sample more.
-    pub(crate) fn count(&mut self, outcome: Outcome)
+    pub(crate) fn count(&mut self, outcome: OfferOutcome)
         requires { total self.old < 2 ^ 63 }
         ensures { self.new ≡ one_more outcome self.old }
     {
         match outcome {
-            Outcome::Kept => self.kept += 1,
-            Outcome::Held => self.held += 1,
-            Outcome::Dropped => self.dropped += 1,
+            OfferOutcome::Kept => self.kept += 1,
+            OfferOutcome::Held => self.held += 1,
+            OfferOutcome::Dropped => self.dropped += 1,
         }
     }
 

@@ -80,9 +80,9 @@ impl ReadAt for FolderFile {
 
 /// Files of the operating system in four folders: the site's for store 0, which has the catalogue and the manifests,
 /// and the short, medium and long term's for the stores 1, 2 and 3. A folder that is absent is made before the first
-/// file in it. It keeps the last used file of each store open, and files that were changed until they are synced: where
-/// 256 of them wait, they are synced before the next write. After a sync that failed it syncs nothing more. Many names at
-/// once it syncs in threads.
+/// file in it. It keeps the last used file of each store open, and files that were changed until they are synced:
+/// where 256 of them wait, they are synced before the next write. After a sync that failed it syncs nothing more. Many
+/// names at once it syncs in threads.
 ///
 /// Its first call takes the locks of the folders, which it keeps: one program writes and no other reads or writes, or
 /// some read. Where another has a lock, each call is a fault. So it is where two stores have one folder, where a

@@ -43,7 +43,7 @@ const ADOPTION: &str = "adopt";
 
 // Whether the folders may be used.
 #[derive(Drop)]
-enum Turn {
+enum Claim {
     // No call was made yet that could be.
     Waits,
     // The folders are locked that have a file to lock. Where one has none, this program may make none.
@@ -54,7 +54,7 @@ enum Turn {
 
 // A file that is kept open.
 #[derive(Drop)]
-struct Held {
+struct HeldFile {
     name: FileName,
     file: File,
     // It was changed since it was synced.
@@ -67,11 +67,11 @@ pub struct Folders<R: Files<File = File> + Drop> {
     alloc: Global,
     access: Access,
     roots: Vec<String>,
-    turn: Turn,
+    claim: Claim,
     // All folders have the archive's marks.
     is_marked: bool,
     // Of each store the file that was used last.
-    held: Vec<Option<Held>>,
+    held: Vec<Option<HeldFile>>,
     // Those that were used before, by their paths, which stay open until they are synced.
     changed: BTreeMap<String, File>,
     // The paths of those that were synced to make room for others, and not opened since.
@@ -144,7 +144,7 @@ impl<R: Files<File = File> + Drop> Folders<R> {
             alloc,
             access,
             roots: paths,
-            turn: Turn::Waits,
+            claim: Claim::Waits,
             is_marked: false,
             held,
             changed: BTreeMap::new(alloc),
@@ -197,7 +197,7 @@ impl<R: Files<File = File> + Drop> Folders<R> {
 
     // The size of a path's file, if there is one. A link, a pipe or a folder in its place is refused.
     fn size_of(&self, path: &str) -> io::Result<Option<u64>> {
-        if matches!(self.turn, Turn::Empty) {
+        if matches!(self.claim, Claim::Empty) {
             return Ok(None);
         }
         match fs::symlink_metadata(&self.files, path) {
@@ -219,7 +219,7 @@ impl<R: Files<File = File> + Drop> Folders<R> {
         let name = name.copy(self.alloc)?;
         self.set_aside(name.store)?;
         if let Some(held) = self.held.get_mut(name.store as usize) {
-            *held = Some(Held {
+            *held = Some(HeldFile {
                 name,
                 file,
                 is_changed,
@@ -239,7 +239,7 @@ impl<R: Files<File = File> + Drop> Folders<R> {
     }
 
     // The file that a store holds, where it was changed.
-    fn take_changed(&mut self, store: u8) -> Option<Held> {
+    fn take_changed(&mut self, store: u8) -> Option<HeldFile> {
         let place = self.held.get_mut(store as usize)?;
         place.take_if(|held| held.is_changed)
     }
@@ -300,7 +300,7 @@ impl<R: Files<File = File> + Drop> Folders<R> {
 
     // Whether the folders may be used.
     pub fn is_begun(&self) -> bool {
-        !matches!(self.turn, Turn::Waits)
+        !matches!(self.claim, Claim::Waits)
     }
 
     pub fn create(&mut self, name: &FileName) -> io::Result<()> {
@@ -330,7 +330,7 @@ impl<R: Files<File = File> + Drop> Folders<R> {
         if self.make_folder(folder, root)? {
             let apart = self.stand_apart();
             if apart.is_err() {
-                self.turn = Turn::Waits;
+                self.claim = Claim::Waits;
             }
             apart?;
         }
@@ -469,7 +469,7 @@ impl<R: Files<File = File> + Drop> Folders<R> {
     // synced after a sync failed.
     pub fn sync(&mut self, name: &FileName) -> io::Result<()> {
         self.begin()?;
-        if matches!(self.turn, Turn::Empty) || self.drafts.get(name).is_some() {
+        if matches!(self.claim, Claim::Empty) || self.drafts.get(name).is_some() {
             return Ok(());
         }
         self.may_sync()?;
@@ -581,7 +581,7 @@ impl<R: Files<File = File> + Drop> Folders<R> {
 
     fn listed(&self, store: u8) -> io::Result<Vec<FileName>> {
         let mut names = Vec::new(self.alloc);
-        if matches!(self.turn, Turn::Empty) || !fs::exists(&self.files, self.root(store)?)? {
+        if matches!(self.claim, Claim::Empty) || !fs::exists(&self.files, self.root(store)?)? {
             return Ok(names);
         }
         let mut waiting = Vec::new(self.alloc);

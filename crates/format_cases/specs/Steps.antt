@@ -3,10 +3,10 @@ use Rattle.std.specs.Prelude.{◌≡◌, ℕ, Bool, true, false, List}
 use Rattle.disk_model.specs.Disk.{DiskRecord}
 use Rattle.disk_model.specs.Record.{files_of, opened_of, past_of}
 use Rattle.gate_journal.specs.Journal.{JournalState, IsSettledWith, IsUndecided}
-use Rattle.gate_journal.specs.Standing.{Standing}
+use Rattle.gate_journal.specs.DiskShown.{DiskShown}
 
 -- what the disk shows of itself
-abbrev pub shown : DiskRecord → Standing
+abbrev pub shown : DiskRecord → DiskShown
 shown disk = record { files = files_of disk.calls; opened = opened_of disk.calls; past = past_of disk.calls }
 
 -- it may commit, and its batches are on the disk

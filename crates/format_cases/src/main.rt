@@ -1,9 +1,9 @@
-//! Cases of the formats and of drills, of a disk in memory, and of HTTP, one a line of standard input. What comes of each
-//! is written as a line. The scripts `format_cases`, `disk_cases` and `http_cases` of `interop/` make the cases and the
-//! lines that are wanted, which are compared with this program's.
+//! Cases of the formats and of drills, of a disk in memory, and of HTTP, one a line of standard input. What comes of
+//! each is written as a line. The scripts `format_cases`, `disk_cases` and `http_cases` of `interop/` make the cases
+//! and the lines that are wanted, which are compared with this program's.
 //!
-//! The cases of each script stand behind a line `cases of formats`, `cases of a disk` or `cases of HTTP`, which is written
-//! too. A case of a format is its kind and its arguments.
+//! The cases of each script stand behind a line `cases of formats`, `cases of a disk` or `cases of HTTP`, which is
+//! written too. A case of a format is its kind and its arguments.
 //!
 //! | Case of a disk | What it does |
 //! |---|---|

@@ -51,13 +51,13 @@ impl<'a, D: Disk> ReadAt for DiskFile<'a, D> {
     ghost leaves_none = { λ f. (
       refl,
       refl,
-      reads_none D.Disk f.disk.now f.refused f.count,
+      reads_none _ f.disk.now f.refused f.count,
     ) };
 
     ghost leaves_then = { λ a b c first second. (
       second.0 ∙ first.0,
       second.1 ∙ first.1,
-      reads_then D.Disk a.disk.now a.refused a.count b.disk.now b.refused b.count
+      reads_then _ a.disk.now a.refused a.count b.disk.now b.refused b.count
           c.disk.now c.refused c.count first.2 second.2,
     ) };
 }

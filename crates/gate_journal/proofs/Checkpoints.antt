@@ -14,7 +14,7 @@ use Rattle.gate_journal.specs.declared.journal.Pending.{Pending}
 use Rattle.gate_journal.specs.declared.journal.Pending.TheVariants.{Nothing, Switch, Removal}
 use Rattle.gate_journal.specs.Generations.{generation_name, IsOwn, AtOwn, HasOneOf, generation_batches}
 use Rattle.gate_journal.specs.Plain.{PlainState, IsSettled, IsInDoubt}
-use Rattle.gate_journal.specs.Standing.{Standing}
+use Rattle.gate_journal.specs.DiskShown.{DiskShown}
 use Rattle.gate_journal.proofs.Bytes.{one, length-framed_bytes}
 use Rattle.gate_journal.proofs.Elsewhere.{settled_stays}
 use Rattle.gate_journal.proofs.FileNames.{at_apart, one_generation, is_next}
@@ -26,11 +26,11 @@ use Rattle.gate_journal.proofs.Removing.{removed, removal_passes}
 use Rattle.gate_journal.proofs.Telling.{next_told, length_told}
 
 -- the place of the gate that isn't open tells the generation
-pub told_by_length : (at : PlainState) (disk : Standing) (g n : ℕ) → IsSettled at disk (generation_batches g) → n ≡ at.place + 1 → n / 13 + 1 ≡ g + 1
+pub told_by_length : (at : PlainState) (disk : DiskShown) (g n : ℕ) → IsSettled at disk (generation_batches g) → n ≡ at.place + 1 → n / 13 + 1 ≡ g + 1
 told_by_length at disk g n settled is = let place = settled.place in omega (arith, is, place, length_told g)
 
 -- a file of one batch
-pub first_settled : (next : PlainState) (disk : Standing) (batch bytes : List ℕ) → length batch < 2 ^ 32 → bytes ≡ open_gates (batch ∷ []) ++ 0 ∷ [] → next.place ≡ length batch + 5 → disk.files next.name ≡ Some bytes
+pub first_settled : (next : PlainState) (disk : DiskShown) (batch bytes : List ℕ) → length batch < 2 ^ 32 → bytes ≡ open_gates (batch ∷ []) ++ 0 ∷ [] → next.place ≡ length batch + 5 → disk.files next.name ≡ Some bytes
     → Only disk.past next.name (Some bytes) → disk.opened next.name ≡ 0 → IsSettled next disk (batch ∷ [])
 first_settled next disk batch bytes short is place file only unopened = record {
   bytes = bytes;
@@ -41,7 +41,7 @@ first_settled next disk batch bytes short is place file only unopened = record {
   unopened = unopened;
 }
 
-module _ (journal : JournalState) (disk : Standing) (bs : List (List ℕ)) (s : IsSettledWith journal disk bs)
+module _ (journal : JournalState) (disk : DiskShown) (bs : List (List ℕ)) (s : IsSettledWith journal disk bs)
     (n : ℕ) (counted : n ≡ s.generation + 1) (next : Name) (small : n < 2 ^ 64) (named : next ≡ generation_name journal.name n) where
   pub at_not_next : journal.at.name ≢ next
   at_not_next same = at_apart journal.name n small (sym named ∙ sym same ∙ s.named.at)
@@ -79,7 +79,7 @@ module _ (journal : JournalState) (disk : Standing) (bs : List (List ℕ)) (s : 
     pub only_makes : (mid : Past) → Passes (Anyhow next) disk.past mid → Passes (OnlyMakes journal.name k) disk.past mid
     only_makes mid passes = passes_weaker (Anyhow next) (OnlyMakes journal.name k) disk.past mid passes (λ a c was step. makes a c step.elsewhere)
 
-  module _ (batch bytes : List ℕ) (long : length batch ≤ 1073741824) (is_file : bytes ≡ open_gates (batch ∷ []) ++ 0 ∷ []) (new : Standing)
+  module _ (batch bytes : List ℕ) (long : length batch ≤ 1073741824) (is_file : bytes ≡ open_gates (batch ∷ []) ++ 0 ∷ []) (new : DiskShown)
       (passes : Passes (Switches journal.at.name next (generation_batches s.generation) (to_le_bytes w64 n) bytes) disk.past new.past)
       (elsewhere : (m : Name) → m ≢ journal.at.name → m ≢ next → new.files m ≡ disk.files m) (others_opened : (m : Name) → m ≢ next → new.opened m ≡ disk.opened m) (next_unopened : new.opened next ≡ 0) where
     short : length batch < 2 ^ 32
@@ -209,7 +209,7 @@ module _ (journal : JournalState) (disk : Standing) (bs : List (List ℕ)) (s : 
 
       -- and then the old file is removed
       module _ (told : IsSettled at new (generation_batches s.generation ++ to_le_bytes w64 n ∷ [])) (made : new.files next ≡ Some bytes) (durable : Only new.past next (Some bytes))
-          (last : Standing) (removal : Passes (Anyhow journal.current.name) new.past last.past) (only_it : (m : Name) → m ≢ journal.current.name → last.files m ≡ new.files m)
+          (last : DiskShown) (removal : Passes (Anyhow journal.current.name) new.past last.past) (only_it : (m : Name) → m ≢ journal.current.name → last.files m ≡ new.files m)
           (only_opened : (m : Name) → m ≢ journal.current.name → last.opened m ≡ new.opened m) (none_opened : last.opened journal.current.name ≡ 0) where
         abbrev over : Pending → JournalState
         over pending = state_of journal.name at first pending
@@ -263,7 +263,7 @@ module _ (journal : JournalState) (disk : Standing) (bs : List (List ℕ)) (s : 
 
 -- NOTHING IS WRITTEN
 
-pub nothing_commits : (journal : JournalState) (at : Standing) (bs cs : List (List ℕ)) (result : Result (Unit {0}) DiskErr) → IsErrOf result Memory → IsSettledWith journal at bs → CommitsBatches bs cs result journal journal at at
+pub nothing_commits : (journal : JournalState) (at : DiskShown) (bs cs : List (List ℕ)) (result : Result (Unit {0}) DiskErr) → IsErrOf result Memory → IsSettledWith journal at bs → CommitsBatches bs cs result journal journal at at
 nothing_commits journal at bs cs result failed s = rw failed (record {
   made = tt;
   doubt = λ fault. absurd (cc fault);
@@ -273,7 +273,7 @@ nothing_commits journal at bs cs result failed s = rw failed (record {
   opened = λ n other. refl;
 })
 
-pub nothing_goes : (k : ℕ) (journal : JournalState) (at : Standing) (result : Result (Unit {0}) DiskErr) → IsErrOf result Memory → GoesOver k result journal journal at at
+pub nothing_goes : (k : ℕ) (journal : JournalState) (at : DiskShown) (result : Result (Unit {0}) DiskErr) → IsErrOf result Memory → GoesOver k result journal journal at at
 nothing_goes k journal at result failed = rw failed (record {
   next = tt;
   gone = tt;

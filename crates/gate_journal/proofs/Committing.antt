@@ -8,7 +8,7 @@ use Rattle.gate_journal.specs.declared.journal.Pending.{Pending}
 use Rattle.gate_journal.specs.declared.journal.Pending.TheVariants.{Nothing, Switch, Removal}
 use Rattle.gate_journal.specs.Generations.{IsOwn, AtOwn, HasOneOf, HasBatchesOf, generation_batches}
 use Rattle.gate_journal.specs.Plain.{PlainState, IsEither, BeforeOrAfter, NoShorter, IsSettled, IsInDoubt}
-use Rattle.gate_journal.specs.Standing.{Standing}
+use Rattle.gate_journal.specs.DiskShown.{DiskShown}
 use Rattle.gate_journal.proofs.Elsewhere.{settled_stays}
 use Rattle.gate_journal.proofs.Holding.{holds_at, settled_seen, same_left, names_apart, at_is_own, current_is_own, not_short}
 use Rattle.gate_journal.proofs.Begin.{journal_has}
@@ -39,7 +39,7 @@ no_shorter_there g None (Some c) grown there = absurd grown
 no_shorter_there g (Some b) None grown there = absurd grown
 no_shorter_there g (Some b) (Some c) grown there = λ later short. there later (omega (arith, grown, short))
 
-module _ (journal : JournalState) (disk : Standing) (bs : List (List ℕ)) (s : IsSettledWith journal disk bs) (batch : List ℕ) where
+module _ (journal : JournalState) (disk : DiskShown) (bs : List (List ℕ)) (s : IsSettledWith journal disk bs) (batch : List ℕ) where
   either_holds : (c : Files) → c journal.at.name ≡ disk.files journal.at.name → IsEither bs batch (c journal.current.name) → IsThere s.generation (c journal.current.name)
       → HasBatchesOf journal.name c bs ⊎ HasBatchesOf journal.name c (bs ++ batch ∷ [])
   either_holds c at_same either there =
@@ -66,7 +66,7 @@ module _ (journal : JournalState) (disk : Standing) (bs : List (List ℕ)) (s : 
         elsewhere = λ n other. step.elsewhere n (λ is. other (subst (IsOwn journal.name) (sym is) (current_is_own journal disk bs s)));
       })
 
-  module _ (current : PlainState) (pending : Pending) (new : Standing) (same_name : current.name ≡ journal.current.name)
+  module _ (current : PlainState) (pending : Pending) (new : DiskShown) (same_name : current.name ≡ journal.current.name)
       (at_same : new.files journal.at.name ≡ disk.files journal.at.name) (same_opened : new.opened ≡ disk.opened) (one : Passes (At journal.current.name (BeforeOrAfter bs batch)) disk.past new.past) where
     abbrev after : JournalState
     after = state_of journal.name journal.at current pending
@@ -105,7 +105,7 @@ module _ (journal : JournalState) (disk : Standing) (bs : List (List ℕ)) (s : 
         subst (λ (p : Pending). IsOpen p after new bs (bs ++ batch ∷ [])) (sym nothing) is
 
 -- a call that did nothing
-pub settled_same : {D : Type 0} (shows : D → Standing) (old new : D) (journal after : JournalState) (bs : List (List ℕ)) → after ≡ journal → new ≡ old
+pub settled_same : {D : Type 0} (shows : D → DiskShown) (old new : D) (journal after : JournalState) (bs : List (List ℕ)) → after ≡ journal → new ≡ old
     → IsSettledWith journal (shows old) bs → IsSettledWith after (shows new) bs
 settled_same {D} shows old new journal after bs same_state same settled =
     subst (λ (d : D). IsSettledWith after (shows d) bs) (sym same) (subst (λ (j : JournalState). IsSettledWith j (shows old) bs) (sym same_state) settled)

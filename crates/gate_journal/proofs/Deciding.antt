@@ -12,7 +12,7 @@ use Rattle.gate_journal.specs.declared.journal.Pending.{Pending}
 use Rattle.gate_journal.specs.declared.journal.Pending.TheVariants.{Nothing, Switch, Removal}
 use Rattle.gate_journal.specs.Generations.{IsOwn, AtOwn, HasOneOf, HasBatchesOf, generation_batches}
 use Rattle.gate_journal.specs.Plain.{PlainState, IsSettled, IsInDoubt}
-use Rattle.gate_journal.specs.Standing.{Standing}
+use Rattle.gate_journal.specs.DiskShown.{DiskShown}
 use Rattle.gate_journal.proofs.Results.{if_ok}
 use Rattle.gate_journal.proofs.Elsewhere.{settled_stays, journal_left}
 use Rattle.gate_journal.proofs.Files.{Anyhow}
@@ -28,10 +28,10 @@ Same a b = b ≡ a
 stays_same : (n : Name) (a c : Files) → Same a c → c n ≡ a n
 stays_same n a c same = ap (λ (f : Files). f n) same
 
-pub open_as : (pending other : Pending) (journal : JournalState) (disk : Standing) (before after : List (List ℕ)) → pending ≡ other → IsOpen pending journal disk before after → IsOpen other journal disk before after
+pub open_as : (pending other : Pending) (journal : JournalState) (disk : DiskShown) (before after : List (List ℕ)) → pending ≡ other → IsOpen pending journal disk before after → IsOpen other journal disk before after
 open_as pending other journal disk before after is = subst (λ (p : Pending). IsOpen p journal disk before after) is
 
-module _ (journal : JournalState) (disk : Standing) (before after : List (List ℕ)) where
+module _ (journal : JournalState) (disk : DiskShown) (before after : List (List ℕ)) where
   pub uncommitted_left : IsUncommitted journal disk before after → (image : Files) → MayLeave disk.past image → HasBatchesOf journal.name image before ⊎ HasBatchesOf journal.name image after
   uncommitted_left u image left =
       let holds = λ (cs : List (List ℕ)) (has : HasBatches (image journal.current.name) cs).
@@ -78,7 +78,7 @@ module _ (journal : JournalState) (disk : Standing) (before after : List (List �
   undecided_none doubt = own_none journal.name (HasOneOf journal.name before after) disk.past (λ a was. open_left journal.pending doubt a was)
 
   -- the current generation's file was reviewed
-  module _ (u : IsUncommitted journal disk before after) (current : PlainState) (pending : Pending) (new : Standing) (same_name : current.name ≡ journal.current.name) (same : new.files ≡ disk.files) (same_opened : new.opened ≡ disk.opened) (passes : Passes Same disk.past new.past) where
+  module _ (u : IsUncommitted journal disk before after) (current : PlainState) (pending : Pending) (new : DiskShown) (same_name : current.name ≡ journal.current.name) (same : new.files ≡ disk.files) (same_opened : new.opened ≡ disk.opened) (passes : Passes Same disk.past new.past) where
     abbrev reviewed : JournalState
     reviewed = state_of journal.name journal.at current pending
 
@@ -148,7 +148,7 @@ module _ (journal : JournalState) (disk : Standing) (before after : List (List �
       | inr half ↦ let wrong : true ≡ false = sym sound ∙ half.unsound in absurd (cc wrong)
     ]
 
-    pub unswitched_reviews : (pending : Pending) → journal.pending ≡ Switch next → journal.at.sound ≡ true → Reviews before after (Ok false) journal (state_of journal.name journal.at journal.current pending) was was
+    pub unswitched_reviews : (pending : Pending) → journal.pending ≡ Switch next → journal.at.sound ≡ true → Reviews before after (Ok false) journal (state_of journal.name journal.at journal.current pending) disk disk
     unswitched_reviews pending is sound = record {
       made = λ told. absurd (cc told);
       unmade = λ untold. unswitched pending sound;
@@ -158,7 +158,7 @@ module _ (journal : JournalState) (disk : Standing) (before after : List (List �
       opened = λ n other. refl;
     }
 
-    module _ (is : journal.pending ≡ Switch next) (half : IsHalfSwitched journal next disk w.generation after) (at : PlainState) (new : Standing) (same_name : at.name ≡ journal.at.name) (same : new.files ≡ disk.files) (same_opened : new.opened ≡ disk.opened) (passes : Passes Same disk.past new.past) where
+    module _ (is : journal.pending ≡ Switch next) (half : IsHalfSwitched journal next disk w.generation after) (at : PlainState) (new : DiskShown) (same_name : at.name ≡ journal.at.name) (same : new.files ≡ disk.files) (same_opened : new.opened ≡ disk.opened) (passes : Passes Same disk.past new.past) where
       unopened_still : (n : Name) → IsOwn journal.name n → new.opened n ≡ 0
       unopened_still n own = ap (λ (f : Name → ℕ). f n) same_opened ∙ w.named.unopened n own
 
@@ -228,7 +228,7 @@ module _ (journal : JournalState) (disk : Standing) (before after : List (List �
 
       -- and then the old file is removed
       module _ (told : IsSettled at new (generation_batches w.generation ++ to_le_bytes w64 (w.generation + 1) ∷ []))
-          (last : Standing) (removal : Passes (Anyhow journal.current.name) new.past last.past) (only_it : (m : Name) → m ≢ journal.current.name → last.files m ≡ new.files m)
+          (last : DiskShown) (removal : Passes (Anyhow journal.current.name) new.past last.past) (only_it : (m : Name) → m ≢ journal.current.name → last.files m ≡ new.files m)
           (only_opened : (m : Name) → m ≢ journal.current.name → last.opened m ≡ new.opened m) (none_opened : last.opened journal.current.name ≡ 0) where
         abbrev over : Pending → JournalState
         over pending = state_of journal.name at next pending
@@ -266,7 +266,7 @@ module _ (journal : JournalState) (disk : Standing) (before after : List (List �
         })
 
   -- the file of the generation before is removed once more
-  module _ (old : PlainState) (r : IsRemoving journal old disk after) (file : Name) (is_file : file ≡ old.name) (new : Standing) (doubt : IsUndecided journal disk before after)
+  module _ (old : PlainState) (r : IsRemoving journal old disk after) (file : Name) (is_file : file ≡ old.name) (new : DiskShown) (doubt : IsUndecided journal disk before after)
       (removal : Passes (Anyhow file) disk.past new.past) (only_it : (n : Name) → n ≢ file → new.files n ≡ disk.files n) (only_opened : (n : Name) → n ≢ file → new.opened n ≡ disk.opened n) (none_opened : new.opened file ≡ 0) where
     abbrev removed_still : IsSettledWith journal new after
     removed_still = removed journal disk after r.settled r.generation r.before file (is_file ∙ r.named) new removal only_it only_opened none_opened

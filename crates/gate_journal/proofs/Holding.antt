@@ -7,7 +7,7 @@ use Rattle.gate_journal.specs.Batches.{HasBatches, IsShort}
 use Rattle.gate_journal.specs.Journal.{JournalState, IsThere, IsSettledWith}
 use Rattle.gate_journal.specs.Generations.{at_name, generation_name, IsOwn, generation_batches, HasBatchesOf}
 use Rattle.gate_journal.specs.Plain.{PlainState, IsSettled}
-use Rattle.gate_journal.specs.Standing.{Standing}
+use Rattle.gate_journal.specs.DiskShown.{DiskShown}
 use Rattle.gate_journal.proofs.Begin.{batches_short}
 use Rattle.gate_journal.proofs.Elsewhere.{settled_stays, journal_left}
 use Rattle.gate_journal.proofs.FileNames.{at_apart}
@@ -27,14 +27,14 @@ holds_at name at current image g bs small is_at is_current told batches there = 
   there = subst (λ (n : Name). IsThere g (image n)) is_current there;
 }
 
-pub settled_seen : (journal : PlainState) (disk : Standing) (bs : List (List ℕ)) → IsSettled journal disk bs → HasBatches (disk.files journal.name) bs
+pub settled_seen : (journal : PlainState) (disk : DiskShown) (bs : List (List ℕ)) → IsSettled journal disk bs → HasBatches (disk.files journal.name) bs
 settled_seen journal disk bs settled = subst (λ (c : Content). HasBatches c bs) (sym settled.file) (inr settled.reads)
 
 -- what a crash leaves of a settled file is what reads give
-pub same_left : (journal : PlainState) (disk : Standing) (bs : List (List ℕ)) → IsSettled journal disk bs → (image : Files) → MayLeave disk.past image → image journal.name ≡ disk.files journal.name
+pub same_left : (journal : PlainState) (disk : DiskShown) (bs : List (List ℕ)) → IsSettled journal disk bs → (image : Files) → MayLeave disk.past image → image journal.name ≡ disk.files journal.name
 same_left journal disk bs settled image left = settled.durable image left ∙ sym settled.file
 
-module _ (journal : JournalState) (disk : Standing) (bs : List (List ℕ)) (s : IsSettledWith journal disk bs) where
+module _ (journal : JournalState) (disk : DiskShown) (bs : List (List ℕ)) (s : IsSettledWith journal disk bs) where
   pub names_apart : journal.at.name ≢ journal.current.name
   names_apart same = at_apart journal.name s.generation s.named.small (sym s.named.current ∙ sym same ∙ s.named.at)
 
@@ -60,7 +60,7 @@ module _ (journal : JournalState) (disk : Standing) (bs : List (List ℕ)) (s : 
       (subst (λ (x : Content). HasBatches x bs) (sym current_is) (settled_seen journal.current disk bs s.current)) (subst (IsThere s.generation) (sym current_is) s.there)
 
   -- while the two files stay, so does the journal
-  abbrev pub settled_with_stays : (new : Standing) (R : Files → Files → Type 0) → Passes R disk.past new.past
+  abbrev pub settled_with_stays : (new : DiskShown) (R : Files → Files → Type 0) → Passes R disk.past new.past
       → ((a c : Files) → R a c → c journal.at.name ≡ a journal.at.name) → ((a c : Files) → R a c → c journal.current.name ≡ a journal.current.name)
       → new.files journal.at.name ≡ disk.files journal.at.name → new.files journal.current.name ≡ disk.files journal.current.name
       → ((n : Name) → IsOwn journal.name n → new.opened n ≡ 0)
@@ -74,7 +74,7 @@ module _ (journal : JournalState) (disk : Standing) (bs : List (List ℕ)) (s : 
   }
 
 -- it doesn't matter what else the journal knows
-abbrev pub settled_as : (one other : JournalState) (disk : Standing) (bs : List (List ℕ)) → other.name ≡ one.name → other.at ≡ one.at → other.current ≡ one.current
+abbrev pub settled_as : (one other : JournalState) (disk : DiskShown) (bs : List (List ℕ)) → other.name ≡ one.name → other.at ≡ one.at → other.current ≡ one.current
     → IsSettledWith one disk bs → IsSettledWith other disk bs
 settled_as one other disk bs same_name same_at same_current s = record {
   generation = s.generation;

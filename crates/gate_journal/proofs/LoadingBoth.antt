@@ -9,7 +9,7 @@ use Rattle.gate_journal.specs.declared.journal.Pending.{Pending}
 use Rattle.gate_journal.specs.Generations.{at_name, generation_name, generation_batches, IsOwn, HasBatchesOf, IsBadOf, AtOwn, KeepsBatches, IsBefore}
 use Rattle.gate_journal.specs.Load.{StaysOrShort}
 use Rattle.gate_journal.specs.Plain.{PlainState, IsSettled}
-use Rattle.gate_journal.specs.Standing.{Standing}
+use Rattle.gate_journal.specs.DiskShown.{DiskShown}
 use Rattle.gate_journal.proofs.Elsewhere.{settled_stays, journal_left}
 use Rattle.gate_journal.proofs.FileNames.{at_apart, one_generation, is_next}
 use Rattle.gate_journal.proofs.Files.{Anyhow}
@@ -90,7 +90,7 @@ module _ (name : Name) (g : ℕ) (small : g < 2 ^ 64) where
         elsewhere = λ n other. clears n (λ before. other (before_own n before));
       }
 
-  module _ (at current : PlainState) (pending : Pending) (is_at : at.name ≡ at_name name) (is_current : current.name ≡ generation_name name g) (first mid last : Standing)
+  module _ (at current : PlainState) (pending : Pending) (is_at : at.name ≡ at_name name) (is_current : current.name ≡ generation_name name g) (first mid last : DiskShown)
       (bs : List (List ℕ)) (at_settled : IsSettled at first (generation_batches g)) (loaded : At (generation_name name g) StaysOrShort first.files mid.files) (loads : Passes (At (generation_name name g) StaysOrShort) first.past mid.past)
       (opened_current : (n : Name) → n ≢ generation_name name g → mid.opened n ≡ first.opened n) where
     at_not_current : at.name ≢ generation_name name g
@@ -132,7 +132,7 @@ module _ (name : Name) (g : ℕ) (small : g < 2 ^ 64) where
         }
 
 -- the journal that is loaded has none before
-pub loaded_none_before : (name : Name) (g : ℕ) → g < 2 ^ 64 → (journal : JournalState) (disk : Standing) → journal.name ≡ name → journal.current.name ≡ generation_name name g
+pub loaded_none_before : (name : Name) (g : ℕ) → g < 2 ^ 64 → (journal : JournalState) (disk : DiskShown) → journal.name ≡ name → journal.current.name ≡ generation_name name g
     → ((n : Name) → IsBefore name g n → (disk.files n ≡ None) × Only disk.past n None) → HasNoneBefore journal disk
 loaded_none_before name g small journal disk is current gone h small_h named =
     let same = one_generation name (h + 1) g small_h small (ap (λ (m : Name). generation_name m (h + 1)) (sym is) ∙ sym named ∙ current) in

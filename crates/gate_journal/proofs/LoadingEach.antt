@@ -8,7 +8,7 @@ use Rattle.gate_journal.specs.Journal.{IsThere}
 use Rattle.gate_journal.specs.Generations.{at_name, generation_name, generation_batches, IsOwn, HasBatchesOf, AtOwn, IsBefore}
 use Rattle.gate_journal.specs.Load.{StaysOrShort, IsCurrent, IsSpent, IsLoaded, OnlyLoads, OnlyClears}
 use Rattle.gate_journal.specs.Plain.{PlainState, IsSettled}
-use Rattle.gate_journal.specs.Standing.{Standing}
+use Rattle.gate_journal.specs.DiskShown.{DiskShown}
 use Rattle.gate_journal.proofs.Begin.{stays_has}
 use Rattle.gate_journal.proofs.Elsewhere.{settled_stays, journal_left}
 use Rattle.gate_journal.proofs.FileNames.{at_apart}
@@ -121,7 +121,7 @@ module _ (name : Name) (g : ℕ) (small : g < 2 ^ 64) where
   pub first_passes : (old new : Past) → Passes (At (at_name name) StaysOrShort) old new → Passes (AtOwn name (OnlyLoads name)) old new
   first_passes old new passes = passes_weaker (At (at_name name) StaysOrShort) (AtOwn name (OnlyLoads name)) old new passes (λ a c was step. both_loads a c (both_first a c step))
 
-  module _ (at : PlainState) (is_at : at.name ≡ at_name name) (files : Files) (old : Past) (first mid : Standing) (at_first : IsSettled at first (generation_batches g)) (before : At (at_name name) StaysOrShort files first.files)
+  module _ (at : PlainState) (is_at : at.name ≡ at_name name) (files : Files) (old : Past) (first mid : DiskShown) (at_first : IsSettled at first (generation_batches g)) (before : At (at_name name) StaysOrShort files first.files)
       (loads_at : Passes (At (at_name name) StaysOrShort) old first.past) (stays : At (generation_name name g) StaysOrShort first.files mid.files) (loads_current : Passes (At (generation_name name g) StaysOrShort) first.past mid.past)
       (opened_current : (n : Name) → n ≢ generation_name name g → mid.opened n ≡ first.opened n) where
     at_not_current : at.name ≢ generation_name name g

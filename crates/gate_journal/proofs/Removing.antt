@@ -4,13 +4,13 @@ use Rattle.disk_model.specs.Files.{Name, Files}
 use Rattle.disk_model.specs.Past.{Past, MayLeave, Passes, Only}
 use Rattle.gate_journal.specs.Journal.{JournalState, IsSettledWith, HasNoneBefore}
 use Rattle.gate_journal.specs.Generations.{generation_name, IsOwn, AtOwn, HasBatchesOf}
-use Rattle.gate_journal.specs.Standing.{Standing}
+use Rattle.gate_journal.specs.DiskShown.{DiskShown}
 use Rattle.gate_journal.proofs.FileNames.{at_apart, one_generation, is_next}
 use Rattle.gate_journal.proofs.Files.{Anyhow}
 use Rattle.gate_journal.proofs.Holding.{holds_behind, settled_with_stays}
 use Rattle.gate_journal.proofs.Owned.{own_then, leaves_at}
 
-module _ (journal : JournalState) (disk : Standing) (bs : List (List ℕ)) (s : IsSettledWith journal disk bs)
+module _ (journal : JournalState) (disk : DiskShown) (bs : List (List ℕ)) (s : IsSettledWith journal disk bs)
     (g : ℕ) (before : g + 1 ≡ s.generation) (old : Name) (named : old ≡ generation_name journal.name g) where
   pub small : g < 2 ^ 64
   small = let whole = s.named.small in omega (arith, before, whole)
@@ -31,7 +31,7 @@ module _ (journal : JournalState) (disk : Standing) (bs : List (List ℕ)) (s : 
       (λ a b c so_far was step. keeps a b c so_far was (holds_behind journal disk bs s b c was (step.elsewhere journal.at.name at_not_old) (step.elsewhere journal.current.name current_not_old)))
       (leaves_at journal.name old (λ a b. Unit {0}) old_is_own)
 
-  module _ (new : Standing) (passes : Passes (Anyhow old) disk.past new.past) (elsewhere : (n : Name) → n ≢ old → new.files n ≡ disk.files n)
+  module _ (new : DiskShown) (passes : Passes (Anyhow old) disk.past new.past) (elsewhere : (n : Name) → n ≢ old → new.files n ≡ disk.files n)
       (others_opened : (n : Name) → n ≢ old → new.opened n ≡ disk.opened n) (old_unopened : new.opened old ≡ 0) where
     pub all_unopened : (n : Name) → IsOwn journal.name n → new.opened n ≡ 0
     all_unopened n own = elim (is_next journal.name n g small own) [
@@ -45,7 +45,7 @@ module _ (journal : JournalState) (disk : Standing) (bs : List (List ℕ)) (s : 
         (elsewhere journal.at.name at_not_old) (elsewhere journal.current.name current_not_old) all_unopened
 
 -- the file of the generation before is gone
-pub none_before : (journal : JournalState) (disk : Standing) (g : ℕ) (old : Name) → g + 1 < 2 ^ 64 → journal.current.name ≡ generation_name journal.name (g + 1) → old ≡ generation_name journal.name g
+pub none_before : (journal : JournalState) (disk : DiskShown) (g : ℕ) (old : Name) → g + 1 < 2 ^ 64 → journal.current.name ≡ generation_name journal.name (g + 1) → old ≡ generation_name journal.name g
     → (disk.files old ≡ None) × Only disk.past old None → HasNoneBefore journal disk
 none_before journal disk g old small named is gone h small_h named_h =
     let same = one_generation journal.name (h + 1) (g + 1) small_h small (sym named_h ∙ named) in

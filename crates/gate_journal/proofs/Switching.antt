@@ -5,14 +5,14 @@ use Rattle.disk_model.specs.Past.{Past, MayLeave, Passes, Only}
 use Rattle.disk_model.proofs.Passing.{passes_then, passes_weaker, only_elsewhere}
 use Rattle.gate_journal.specs.Journal.{Switches, IsLeft}
 use Rattle.gate_journal.specs.Plain.{PlainState, IsJournal, BeforeOrAfter, IsSettled}
-use Rattle.gate_journal.specs.Standing.{Standing}
+use Rattle.gate_journal.specs.DiskShown.{DiskShown}
 use Rattle.gate_journal.proofs.Elsewhere.{settled_stays}
 use Rattle.gate_journal.proofs.Files.{Anyhow}
 
-pub settled_journal : (journal : PlainState) (disk : Standing) (bs : List (List ℕ)) → IsSettled journal disk bs → (image : Files) → MayLeave disk.past image → IsJournal bs (image journal.name)
+pub settled_journal : (journal : PlainState) (disk : DiskShown) (bs : List (List ℕ)) → IsSettled journal disk bs → (image : Files) → MayLeave disk.past image → IsJournal bs (image journal.name)
 settled_journal journal disk bs settled image left = subst (IsJournal bs) (sym (settled.durable image left)) settled.reads
 
-module _ (at : PlainState) (disk : Standing) (bs : List (List ℕ)) (settled : IsSettled at disk bs) (next : Name) (apart : at.name ≢ next) (batch bytes : List ℕ) (mid : Standing) (one : Passes (Anyhow next) disk.past mid.past) where
+module _ (at : PlainState) (disk : DiskShown) (bs : List (List ℕ)) (settled : IsSettled at disk bs) (next : Name) (apart : at.name ≢ next) (batch bytes : List ℕ) (mid : DiskShown) (one : Passes (Anyhow next) disk.past mid.past) where
   pub making_passes : Passes (Switches at.name next bs batch bytes) disk.past mid.past
   making_passes = passes_weaker (Anyhow next) (Switches at.name next bs batch bytes) disk.past mid.past one (λ a c was step. record {
     here = inl (subst (IsJournal bs) (sym (step.elsewhere at.name apart)) (settled_journal at disk bs settled a was));
@@ -48,7 +48,7 @@ pub passes_same : {S : Type 0} (past : S → Past) (R : Files → Files → Type
 passes_same {S} past R old mid new same passes = subst (λ (d : S). Passes R old (past d)) (sym same) passes
 
 -- nothing was committed to it
-pub left_same : {S : Type 0} (shows : S → Standing) (mid new : S) (at after : PlainState) (bs : List (List ℕ)) → new ≡ mid → after ≡ at
+pub left_same : {S : Type 0} (shows : S → DiskShown) (mid new : S) (at after : PlainState) (bs : List (List ℕ)) → new ≡ mid → after ≡ at
     → IsSettled at (shows mid) bs → IsLeft at after (shows new) bs
 left_same {S} shows mid new at after bs same same_state settled = record {
   same = same_state;

@@ -8,7 +8,7 @@ use Rattle.gate_journal.specs.declared.journal.Pending.{Pending}
 use Rattle.gate_journal.specs.declared.journal.Pending.TheVariants.{Nothing, Switch, Removal}
 use Rattle.gate_journal.specs.Generations.{IsOwn, generation_batches}
 use Rattle.gate_journal.specs.Plain.{PlainState, IsSettled, IsInDoubt}
-use Rattle.gate_journal.specs.Standing.{Standing}
+use Rattle.gate_journal.specs.DiskShown.{DiskShown}
 use Rattle.gate_journal.proofs.Elsewhere.{settled_stays, doubt_stays}
 use Rattle.gate_journal.proofs.Holding.{settled_with_stays, at_is_own, current_is_own}
 use Rattle.gate_journal.proofs.Owned.{left_now}
@@ -17,7 +17,7 @@ use Rattle.gate_journal.proofs.Owned.{left_now}
 abbrev pub Keeps : Name → Files → Files → Type 0
 Keeps name a b = (n : Name) → IsOwn name n → b n ≡ a n
 
-module _ (journal : JournalState) (old new : Standing) (passes : Passes (Keeps journal.name) old.past new.past) (same : (n : Name) → IsOwn journal.name n → new.files n ≡ old.files n)
+module _ (journal : JournalState) (old new : DiskShown) (passes : Passes (Keeps journal.name) old.past new.past) (same : (n : Name) → IsOwn journal.name n → new.files n ≡ old.files n)
     (fewer : (n : Name) → IsOwn journal.name n → new.opened n ≤ old.opened n) where
   pub settled_unmoved : (bs : List (List ℕ)) → IsSettledWith journal old bs → IsSettledWith journal new bs
   settled_unmoved bs s =
@@ -76,7 +76,7 @@ module _ (journal : JournalState) (old new : Standing) (passes : Passes (Keeps j
   undecided_unmoved before after = open_unmoved journal.pending before after
 
 -- no reader of its files is opened
-pub open_unopened : (pending : Pending) (journal : JournalState) (disk : Standing) (before after : List (List ℕ)) → IsOpen pending journal disk before after → (n : Name) → IsOwn journal.name n → disk.opened n ≡ 0
+pub open_unopened : (pending : Pending) (journal : JournalState) (disk : DiskShown) (before after : List (List ℕ)) → IsOpen pending journal disk before after → (n : Name) → IsOwn journal.name n → disk.opened n ≡ 0
 open_unopened Nothing journal disk before after u n own = u.named.unopened n own
 open_unopened (Switch next) journal disk before after w n own = w.named.unopened n own
 open_unopened (Removal old_file) journal disk before after r n own = r.settled.named.unopened n own

@@ -1,6 +1,6 @@
 pub mod Batches
 pub mod Commits
-pub mod Standing
+pub mod DiskShown
 pub mod Journal
 pub mod FirstBad
 pub mod Generations

@@ -3,7 +3,7 @@ use Rattle.std.specs.Prelude.{◌≡◌, ◌⊎◌, ◌+◌, ◌≤◌, ℕ, Boo
 use Rattle.disk_model.specs.Files.{Name, Content, Files, OnFile}
 use Rattle.disk_model.specs.Past.{MayLeave, Only}
 use Rattle.gate_journal.specs.Batches.{open_gates, Reads}
-use Rattle.gate_journal.specs.Standing.{Standing}
+use Rattle.gate_journal.specs.DiskShown.{DiskShown}
 
 -- the name of its file, the place of its closed gate, how far behind that the next gate of the last commit stands, and whether
 -- it may commit
@@ -31,7 +31,7 @@ abbrev pub NoShorter : Content → Content → Type 0
 NoShorter = OnFile (λ old new. length old ≤ length new)
 
 -- The file has these batches, all of it is on the disk, and the journal knows the place of its closed gate.
-pub record IsSettled (journal : PlainState) (disk : Standing) (bs : List (List ℕ)) : Type 0 where
+pub record IsSettled (journal : PlainState) (disk : DiskShown) (bs : List (List ℕ)) : Type 0 where
   pub bytes : List ℕ
   pub file : disk.files journal.name ≡ Some bytes
   pub reads : Reads bytes bs
@@ -41,7 +41,7 @@ pub record IsSettled (journal : PlainState) (disk : Standing) (bs : List (List �
 
 -- After a commit that failed: the file, as reads give it and as a crash now may leave it, has the batches without the new one or
 -- with it, and the journal knows the place of the gate that decides.
-pub record IsInDoubt (journal : PlainState) (disk : Standing) (bs : List (List ℕ)) (batch : List ℕ) : Type 0 where
+pub record IsInDoubt (journal : PlainState) (disk : DiskShown) (bs : List (List ℕ)) (batch : List ℕ) : Type 0 where
   pub seen : IsEither bs batch (disk.files journal.name)
   pub left : (image : Files) → MayLeave disk.past image → IsEither bs batch (image journal.name)
   pub place : journal.place ≡ length (open_gates bs)

@@ -11,7 +11,7 @@ ghost use Rattle.gate_journal.specs.Plain.{IsSettled};
 ghost use Rattle.gate_journal.specs.Load.{StaysOrShort};
 ghost use Rattle.gate_journal.specs.Window.{IsPiece};
 ghost use Rattle.gate_journal.specs.declared.load_plain.PlainErr.TheVariants.{Disk as OfDisk, BadJournal};
-ghost use Rattle.gate_journal.specs.Standing.{standing};
+ghost use Rattle.gate_journal.specs.DiskShown.{shown_by};
 
 use crate::BatchFold;
 use crate::plain::{CLOSED, OPEN, PlainJournal};
@@ -71,7 +71,7 @@ impl PlainJournal {
 
         ensures took { IfOk result (λ j. (bs : List (List ℕ)) × F.took fold.new bs
             × (IsTrue D.tells → HasBatches (D.files disk.old name.now) bs
-            × IsSettled j (standing D.Disk disk.new) bs)) }
+            × IsSettled j (shown_by D.Disk disk.new) bs)) }
         ensures journal { IfOk result (λ j. (j.name ≡ name.now) × (j.sound ≡ true)) }
         ensures bad { IsTrue D.tells → (at : ℕ) → result ≡ Err (BadJournal at)
             → IsBadJournal (D.files disk.old name.now) at }

@@ -5,7 +5,7 @@ ghost use Rattle.disk_model.specs.Files.{Name, Rose, HasFile, At, Overwritten, T
 ghost use Rattle.disk_model.specs.Past.{Passes};
 ghost use Rattle.gate_journal.specs.Batches.{framed_bytes, committed, greatest_batch};
 ghost use Rattle.gate_journal.specs.Plain.{PlainState, BeforeOrAfter, NoShorter, IsSettled, IsInDoubt};
-ghost use Rattle.gate_journal.specs.Standing.{standing};
+ghost use Rattle.gate_journal.specs.DiskShown.{shown_by};
 
 use disk_model::{Disk, DiskErr, FileName, write_synced};
 use std::alloc::{AllocError, Global};
@@ -81,20 +81,20 @@ impl PlainJournal {
         requires sound { IsTrue self.old.sound }
         requires not_empty { 1 ≤ length batch.now }
         requires not_long { length batch.now ≤ greatest_batch }
-        requires settled { IsTrue D.tells → (bs : List (List ℕ)) × IsSettled self.old (standing D.Disk disk.old) bs }
+        requires settled { IsTrue D.tells → (bs : List (List ℕ)) × IsSettled self.old (shown_by D.Disk disk.old) bs }
 
-        ensures added { IsTrue D.tells → (bs : List (List ℕ)) → IsSettled self.old (standing D.Disk disk.old) bs
-            → OnOk result (IsSettled self.new (standing D.Disk disk.new) (bs ++ batch.now ∷ [])) }
+        ensures added { IsTrue D.tells → (bs : List (List ℕ)) → IsSettled self.old (shown_by D.Disk disk.old) bs
+            → OnOk result (IsSettled self.new (shown_by D.Disk disk.new) (bs ++ batch.now ∷ [])) }
 
         // A crash at any moment of the call leaves the batches from before it, without the new one or with it, and of
         // every other name what it might have left before.
-        ensures any_moment { IsTrue D.tells → (bs : List (List ℕ)) → IsSettled self.old (standing D.Disk disk.old) bs
+        ensures any_moment { IsTrue D.tells → (bs : List (List ℕ)) → IsSettled self.old (shown_by D.Disk disk.old) bs
             → Passes (At self.old.name (BeforeOrAfter bs batch.now)) (D.past disk.old) (D.past disk.new) }
 
         ensures no_shorter { IsTrue D.tells → Passes (At self.old.name NoShorter) (D.past disk.old) (D.past disk.new) }
 
-        ensures in_doubt { IsTrue D.tells → (bs : List (List ℕ)) → IsSettled self.old (standing D.Disk disk.old) bs
-            → IsErrOf result DiskErr.Fault → IsInDoubt self.new (standing D.Disk disk.new) bs batch.now }
+        ensures in_doubt { IsTrue D.tells → (bs : List (List ℕ)) → IsSettled self.old (shown_by D.Disk disk.old) bs
+            → IsErrOf result DiskErr.Fault → IsInDoubt self.new (shown_by D.Disk disk.new) bs batch.now }
         ensures bytes { IsTrue D.tells → (b : List ℕ) → D.files disk.old self.old.name ≡ Some b
             → OnOk result (D.files disk.new self.old.name ≡ Some (committed self.old.place batch.now b)) }
         ensures elsewhere { IsTrue D.tells → (n : Name) → n ≢ self.old.name → D.files disk.new n ≡ D.files disk.old n }
@@ -124,20 +124,20 @@ impl PlainJournal {
     pub(crate) fn review<D: Disk>(&mut self, disk: &mut D) -> Result<bool, DiskErr>
         requires unsound { self.old.sound ≡ false }
         requires in_doubt { IsTrue D.tells → (bs : List (List ℕ)) × (batch : List ℕ)
-            × IsInDoubt self.old (standing D.Disk disk.old) bs batch }
+            × IsInDoubt self.old (shown_by D.Disk disk.old) bs batch }
 
         ensures made { IsTrue D.tells → (bs : List (List ℕ)) → (batch : List ℕ)
-            → IsInDoubt self.old (standing D.Disk disk.old) bs batch
-            → IfOk result (λ made. IsTrue made → IsSettled self.new (standing D.Disk disk.new) (bs ++ batch ∷ [])) }
+            → IsInDoubt self.old (shown_by D.Disk disk.old) bs batch
+            → IfOk result (λ made. IsTrue made → IsSettled self.new (shown_by D.Disk disk.new) (bs ++ batch ∷ [])) }
         ensures unmade { IsTrue D.tells → (bs : List (List ℕ)) → (batch : List ℕ)
-            → IsInDoubt self.old (standing D.Disk disk.old) bs batch
-            → IfOk result (λ made. made ≡ false → IsSettled self.new (standing D.Disk disk.new) bs) }
+            → IsInDoubt self.old (shown_by D.Disk disk.old) bs batch
+            → IfOk result (λ made. made ≡ false → IsSettled self.new (shown_by D.Disk disk.new) bs) }
         ensures exactly { IsTrue D.tells → (b : List ℕ) → D.files disk.old self.old.name ≡ Some b
             → IfOk result (λ made. IsTrue made
             ↔ ((slice_index b self.old.place ≡ 1) × (self.old.place + self.old.pending < length b))) }
         ensures doubtful { IsTrue D.tells → (bs : List (List ℕ)) → (batch : List ℕ)
-            → IsInDoubt self.old (standing D.Disk disk.old) bs batch
-            → OnErr result (IsInDoubt self.new (standing D.Disk disk.new) bs batch) }
+            → IsInDoubt self.old (shown_by D.Disk disk.old) bs batch
+            → OnErr result (IsInDoubt self.new (shown_by D.Disk disk.new) bs batch) }
 
         ensures any_moment { IsTrue D.tells → Passes (λ a b. b ≡ a) (D.past disk.old) (D.past disk.new) }
         ensures same { IsTrue D.tells → D.files disk.new ≡ D.files disk.old }

@@ -4,8 +4,8 @@ use Rattle.std.specs.Prelude.{◌≡◌, ℕ, List}
 use Rattle.httparse.specs.Grammar.{RequestHead, ReadsRequest, HasNoRequest, NeverHasRequest, MayBecomeRequest}
 use Rattle.httparse.specs.Spans.{IsWithin, span_bytes}
 use Rattle.std.specs.Prelude.{length}
-use Rattle.http_front.specs.declared.head.Seen.{Seen}
-use Rattle.http_front.specs.declared.head.Seen.TheVariants as seen
+use Rattle.http_front.specs.declared.head.HeadSeen.{HeadSeen}
+use Rattle.http_front.specs.declared.head.HeadSeen.TheVariants as seen
 
 -- the bytes begin with a head of this method, target and minor version
 pub record BeginsWith (bytes method target : List ℕ) (minor : ℕ) : Type 0 where
@@ -20,7 +20,7 @@ pub record BeginsWith (bytes method target : List ℕ) (minor : ℕ) : Type 0 wh
 abbrev pub IsUnfinished : List ℕ → Type 0
 IsUnfinished bytes = HasNoRequest bytes × MayBecomeRequest bytes
 
-abbrev pub Looked : List ℕ → Seen → Type 0
+abbrev pub Looked : List ℕ → HeadSeen → Type 0
 Looked bytes (seen.Head method target minor) = IsWithin (length bytes) method × IsWithin (length bytes) target × BeginsWith bytes (span_bytes bytes method) (span_bytes bytes target) minor
 Looked bytes seen.More = IsUnfinished bytes
 Looked bytes seen.Bad = NeverHasRequest bytes

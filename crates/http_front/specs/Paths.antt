@@ -7,12 +7,12 @@ use Rattle.http_front.specs.declared.path.Path.{Path}
 use Rattle.http_front.specs.declared.path.Path.TheVariants.{RawData, JsonData, AllPvs, PvStatus, PvDetails, ArchivePv, PausePv, ResumePv, RenamePv, FlushAll}
 
 -- A row of the table: its number, the path's text, and the parameters that are read.
-pub record Row : Type 0 where
+pub record PathRow : Type 0 where
   pub number : ℕ
   pub text : List ℕ
   pub columns : List Param
 
-abbrev pub row_of : Path → Row
+abbrev pub row_of : Path → PathRow
 row_of RawData = record { number = 0; text = codes "/retrieval/data/getData.raw"; columns = PvOrBins ∷ From ∷ To ∷ [] }
 row_of JsonData = record { number = 1; text = codes "/retrieval/data/getData.json"; columns = PvOrBins ∷ From ∷ To ∷ [] }
 row_of AllPvs = record { number = 2; text = codes "/mgmt/bpl/getAllPVs"; columns = [] }

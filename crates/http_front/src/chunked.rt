@@ -7,7 +7,7 @@ ghost use Rattle.arrayvec.specs.ArrayVec.{array_vec_len};
 ghost use Rattle.edge_io.specs.Stream.{Rose};
 
 use crate::coding::{CHUNK, CODED, gather, put_chunk, put_end, send};
-use crate::ghost_text::{GhostText, Piece};
+use crate::ghost_text::{GhostText, TextPiece};
 use arrayvec::ArrayVec;
 use edge_io::{Failed, Sink};
 use std::snapshot::Snapshot;
@@ -116,7 +116,7 @@ impl<'a, K: Sink> ChunkedSink<'a, K> {
         self.room.clear();
         self.from = 0;
         put_chunk(&mut self.room, self.held.as_slice());
-        self.taken = self.taken.then(&Piece(self.held.as_slice()));
+        self.taken = self.taken.then(&TextPiece(self.held.as_slice()));
         self.held.clear();
     }
 
@@ -145,7 +145,7 @@ impl<'a, K: Sink> ChunkedSink<'a, K> {
         self.room.clear();
         self.from = 0;
         put_end(&mut self.room, self.held.as_slice());
-        self.taken = self.taken.chunked(&Piece(self.held.as_slice()));
+        self.taken = self.taken.chunked(&TextPiece(self.held.as_slice()));
         self.held.clear();
         self.in_chunks = false;
     }
@@ -165,7 +165,7 @@ impl<'a, K: Sink> ChunkedSink<'a, K> {
         ensures failed { OnErr result (Rose (K.write_faults self.old.link.now) (K.write_faults self.new.link.now)) }
     {
         let count = self.link.write(bytes)?;
-        self.taken = self.taken.then(&Piece(&bytes[..count]));
+        self.taken = self.taken.then(&TextPiece(&bytes[..count]));
         Ok(count)
     }
 

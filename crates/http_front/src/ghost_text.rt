@@ -17,7 +17,7 @@ impl Model for GhostText {
 
 /// A piece of a text.
 #[derive(Clone, Copy, Drop)]
-pub struct Piece<'a>(pub &'a [u8]);
+pub struct TextPiece<'a>(pub &'a [u8]);
 
 impl GhostText {
     /// No bytes.
@@ -29,7 +29,7 @@ impl GhostText {
 
     /// The text with a piece behind it.
     #[inline(always)]
-    pub fn then(&self, _piece: &Piece<'_>) -> GhostText
+    pub fn then(&self, _piece: &TextPiece<'_>) -> GhostText
         ensures { result.bytes ≡ self.now.bytes ++ _piece.now.0.now }
     {
         GhostText {}
@@ -37,7 +37,7 @@ impl GhostText {
 
     /// The chunks of the text with a piece behind it.
     #[inline(always)]
-    pub fn chunked(&self, _piece: &Piece<'_>) -> GhostText
+    pub fn chunked(&self, _piece: &TextPiece<'_>) -> GhostText
         ensures { result.bytes ≡ chunked (self.now.bytes ++ _piece.now.0.now) }
     {
         GhostText {}

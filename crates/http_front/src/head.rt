@@ -9,7 +9,7 @@ use httparse::spans::{HeaderSpan, Span, parse_request};
 
 /// What bytes come to.
 #[derive(Clone, Copy, Drop)]
-pub enum Seen {
+pub enum HeadSeen {
     /// They begin with a head of this method, target and minor version.
     Head {
         method: Span,
@@ -23,18 +23,18 @@ pub enum Seen {
 }
 
 /// Looks for a head in front of the bytes. A head of 16,384 bytes has fewer than 8,192 fields.
-pub fn look(bytes: &[u8], fields: &mut [HeaderSpan]) -> Seen
+pub fn look(bytes: &[u8], fields: &mut [HeaderSpan]) -> HeadSeen
     requires room { MOST_FIELDS ≤ length fields.old }
     requires short { length bytes.now ≤ most_bytes }
     ensures looked { Looked bytes.now result }
 {
     match parse_request(bytes, fields) {
-        Ok(Status::Complete(head)) => Seen::Head {
+        Ok(Status::Complete(head)) => HeadSeen::Head {
             method: head.method,
             target: head.path,
             minor: head.version,
         },
-        Ok(Status::Partial) => Seen::More,
-        Err(_) => Seen::Bad,
+        Ok(Status::Partial) => HeadSeen::More,
+        Err(_) => HeadSeen::Bad,
     }
 }

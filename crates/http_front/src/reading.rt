@@ -7,7 +7,7 @@ ghost use Rattle.http_front.specs.Reading.{NoHeadYet, most_bytes};
 ghost use Rattle.http_front.specs.declared.reading.Due.TheVariants.{Nothing, Newline, End, Limit};
 
 use crate::call::answer_of;
-use crate::head::{Seen, look};
+use crate::head::{HeadSeen, look};
 use crate::request::{HttpErr, Request};
 use edge_io::{Failed, Source};
 use httparse::spans::{EMPTY_HEADER_SPAN, HeaderSpan};
@@ -120,13 +120,13 @@ fn judge(
         return None;
     }
     match look(taken, fields) {
-        Seen::Head {
+        HeadSeen::Head {
             method,
             target,
             minor,
         } => Some(answer_of(alloc, method.of(taken), target.of(taken), minor)),
-        Seen::Bad => Some(Err(HttpErr::BadHead)),
-        Seen::More => more_or_none(due),
+        HeadSeen::Bad => Some(Err(HttpErr::BadHead)),
+        HeadSeen::More => more_or_none(due),
     }
 }
 

@@ -16,7 +16,7 @@ pub(crate) struct Tail {
 }
 
 impl Model for Tail {
-    ghost use Rattle.std.specs.Prelude.{◌-◌, vec_len, vec_capacity};
+    ghost use Rattle.std.specs.Prelude.{◌≡◌, ◌-◌, vec_len, vec_capacity};
     ghost use Rattle.intake.specs.Tails.{TailState, size_of};
 
     ghost Value = { TailState };
@@ -79,8 +79,9 @@ impl Tail {
     {
         let before = self.bytes;
         self.samples.retain(|sample| t < sample.t);
-        self.bytes = all_bytes(&self.samples);
-        before - self.bytes
+        let left = all_bytes(&self.samples);
+        self.bytes = left;
+        before - left
     }
 }
 

@@ -6,7 +6,7 @@ ghost use Rattle.json_out.specs.Line.{event_in};
 ghost use Rattle.json_out.specs.Json.{event_text, fields_text, head_text};
 
 use crate::object::put_object;
-use crate::value::{Element, put_number, put_value};
+use crate::value::{JsonElement, put_number, put_value};
 use act_model::OutErr;
 use arch_time::NANOS_PER_SECOND;
 use line_escape::{EscapeErr, unescaped};
@@ -93,7 +93,7 @@ fn put_moment(t: u64, out: &mut Vec<u8>) -> Result<(), AllocError>
 }
 
 // Appends an element behind what tells its name.
-fn put_labelled<T: Element>(
+fn put_labelled<T: JsonElement>(
     alloc: Global,
     label: &[u8],
     element: &T,

@@ -12,7 +12,7 @@
 //! of the text above, so no tree of values is made.
 //!
 //! `put_string`, `put_number` and `put_array` append values of other JSON texts to bytes; what an array
-//! may have is an `Element`.
+//! may have is a `JsonElement`.
 //!
 //! Model: the sink, what is gathered for it, and of the text the samples' type and whether one was given.
 //!
@@ -30,4 +30,4 @@ mod output;
 mod value;
 
 pub use output::JsonOut;
-pub use value::{Element, Number, put_array, put_number, put_string};
+pub use value::{JsonElement, Number, put_array, put_number, put_string};

@@ -12,7 +12,7 @@ use series_model::Blob;
 use std::alloc::{AllocError, Global};
 
 /// What an array may have as an element: a number, the bits of a floating-point number, or a string.
-pub trait Element {
+pub trait JsonElement {
     /// Its JSON text.
     ghost text: { Self → List ℕ };
 
@@ -25,7 +25,7 @@ pub trait Element {
 #[derive(Clone, Copy, Debug, PartialEq, Eq)]
 pub struct Number(pub u64);
 
-impl Element for Number {
+impl JsonElement for Number {
     ghost text = { λ number. decimal number.0 };
 
     fn put(&self, _alloc: Global, out: &mut Vec<u8>) -> Result<(), AllocError> {
@@ -34,7 +34,7 @@ impl Element for Number {
 }
 
 /// A byte is a number in decimal.
-impl Element for u8 {
+impl JsonElement for u8 {
     ghost text = { decimal };
 
     fn put(&self, _alloc: Global, out: &mut Vec<u8>) -> Result<(), AllocError> {
@@ -43,7 +43,7 @@ impl Element for u8 {
 }
 
 /// A number in decimal.
-impl Element for i32 {
+impl JsonElement for i32 {
     ghost text = { signed_decimal };
 
     fn put(&self, _alloc: Global, out: &mut Vec<u8>) -> Result<(), AllocError> {
@@ -52,7 +52,7 @@ impl Element for i32 {
 }
 
 /// The bits of a floating-point number of single precision, in a string.
-impl Element for u32 {
+impl JsonElement for u32 {
     ghost text = { bits_text 8 };
 
     fn put(&self, _alloc: Global, out: &mut Vec<u8>) -> Result<(), AllocError> {
@@ -61,7 +61,7 @@ impl Element for u32 {
 }
 
 /// The bits of a floating-point number of double precision, in a string.
-impl Element for u64 {
+impl JsonElement for u64 {
     ghost text = { bits_text 16 };
 
     fn put(&self, _alloc: Global, out: &mut Vec<u8>) -> Result<(), AllocError> {
@@ -70,7 +70,7 @@ impl Element for u64 {
 }
 
 /// A string of the bytes.
-impl Element for Blob {
+impl JsonElement for Blob {
     ghost text = { string_text };
 
     fn put(&self, alloc: Global, out: &mut Vec<u8>) -> Result<(), AllocError> {
@@ -171,7 +171,7 @@ fn hex_digit(digit: u8) -> u8
 }
 
 /// Appends an array of the elements in order. After want of memory a part of it may stand in `out`.
-pub fn put_array<T: Element>(
+pub fn put_array<T: JsonElement>(
     alloc: Global,
     items: &[T],
     out: &mut Vec<u8>,
@@ -188,7 +188,11 @@ pub fn put_array<T: Element>(
 }
 
 // Appends the elements, each behind a comma.
-fn put_others<T: Element>(alloc: Global, items: &[T], out: &mut Vec<u8>) -> Result<(), AllocError>
+fn put_others<T: JsonElement>(
+    alloc: Global,
+    items: &[T],
+    out: &mut Vec<u8>,
+) -> Result<(), AllocError>
     ensures { OnOk result (out.new.items ≡ out.old.items ++ flat_map (λ x. 44 ∷ T.text x) items.now) }
 {
     for item in items {

@@ -4,8 +4,8 @@ use Rattle.std.specs.Option.{is_some, unwrap_or}
 use Rattle.store_manifest.specs.declared.entry.Entry.{Entry}
 use Rattle.moves.specs.declared.parts.MoveRule.{MoveRule}
 use Rattle.moves.specs.Parts.{parts_of}
-use Rattle.moves.specs.declared.series.Turn.TheVariants.{On}
-use Rattle.moves.specs.Search.{IsTurn, turned, answer}
+use Rattle.moves.specs.declared.series.SearchStep.TheVariants.{On}
+use Rattle.moves.specs.Search.{IsSearchStep, search_step, answer}
 use Rattle.moves.specs.Series.{IsToMove, IsPassed, of_series, parts_in}
 
 -- so many partitions of a series move, by its own entries
@@ -44,13 +44,13 @@ busy parts running k n (Some m) some runs so_far = record {
 }
 
 -- it goes on where a series is looked at and isn't free
-pub goes_on : (parts : ℕ → ℕ) (running : ℕ → Option ℕ) (k n : ℕ) (number first next : Option ℕ) → n ≡ parts k → number ≡ running k → IsTurn n number first (On next) → IsToMove parts running k (answer first) → IsToMove parts running (k + 1) (answer next)
+pub goes_on : (parts : ℕ → ℕ) (running : ℕ → Option ℕ) (k n : ℕ) (number first next : Option ℕ) → n ≡ parts k → number ≡ running k → IsSearchStep n number first (On next) → IsToMove parts running k (answer first) → IsToMove parts running (k + 1) (answer next)
 goes_on parts running k zero number first next many runs turn so_far = cc_next (idle parts running k first (sym many) so_far)
   where
     cc_next : IsToMove parts running (k + 1) (answer first) → IsToMove parts running (k + 1) (answer next)
     cc_next moved = subst (λ o. IsToMove parts running (k + 1) (answer o)) (same first next turn) moved
       where
-        same : (a b : Option ℕ) → On b ≡ turned zero number a → a ≡ b
+        same : (a b : Option ℕ) → On b ≡ search_step zero number a → a ≡ b
         same a b is = cc
 goes_on parts running k (suc n) None first next many runs turn so_far = absurd cc
 goes_on parts running k (suc n) (Some m) first next many runs turn so_far =

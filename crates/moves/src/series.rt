@@ -3,7 +3,7 @@ ghost use Rattle.std.specs.Prelude.{◌≡◌, ◌<◌, ℕ, IfOk};
 ghost use Rattle.std.specs.BTreeMap.{get};
 ghost use Rattle.std.specs.Ordering.{nat_cmp};
 ghost use Rattle.moves.specs.Series.{IsToMove, parts_in};
-ghost use Rattle.moves.specs.Search.{IsTurn, answer};
+ghost use Rattle.moves.specs.Search.{IsSearchStep, answer};
 
 use crate::parts::{MoveRule, parts_to_move};
 use std::alloc::{AllocError, Global};
@@ -40,15 +40,15 @@ pub fn move_to_make(
     for s in 0..series {
         let parts = parts_to_move(rule, source.entries(s), destination.entries(s), &mut ends)?;
         match look(parts, running.get(&s).copied(), first) {
-            Turn::Free => return Ok(ToMove::Begin { series: s, parts }),
-            Turn::On(next) => first = next,
+            SearchStep::Free => return Ok(ToMove::Begin { series: s, parts }),
+            SearchStep::On(next) => first = next,
         }
     }
     Ok(answer(first))
 }
 
 // How the search goes on behind a series.
-enum Turn {
+enum SearchStep {
     // The series has a move to make, and none running.
     Free,
     // It has none to make, or has one running. The number is that of the first running one, if there was one.
@@ -56,15 +56,15 @@ enum Turn {
 }
 
 // Looks at a series that so many partitions are to move of, whose move of this number runs, if one does.
-fn look(parts: usize, number: Option<u32>, first: Option<u32>) -> Turn
-    ensures { IsTurn parts number first result }
+fn look(parts: usize, number: Option<u32>, first: Option<u32>) -> SearchStep
+    ensures { IsSearchStep parts number first result }
 {
     if parts == 0 {
-        return Turn::On(first);
+        return SearchStep::On(first);
     }
     match number {
-        None => Turn::Free,
-        Some(number) => Turn::On(Some(first.unwrap_or(number))),
+        None => SearchStep::Free,
+        Some(number) => SearchStep::On(Some(first.unwrap_or(number))),
     }
 }
 

@@ -12,7 +12,7 @@ use Rattle.series_model.proofs.AnswerLemmas.{before-append, before_none}
 use Rattle.pb_messages.specs.declared.info.PayloadInfo.{PayloadInfo}
 use Rattle.pb_lines.specs.Sample.{IsSampleLine}
 use Rattle.pb_lines.proofs.Unique.{one_moment}
-use Rattle.pb_file.specs.declared.search.Found.{Found}
+use Rattle.pb_file.specs.declared.search.FoundLine.{FoundLine}
 use Rattle.pb_file.specs.declared.search.Parted.{Parted}
 use Rattle.pb_lines.specs.File.{IsFile, AreSamples, HasNoSample, lines_of}
 use Rattle.pb_file.specs.Search.{end_place, IsLastLine}
@@ -131,7 +131,7 @@ none_found bytes head info samples n low high middle next last file within h non
 -- A LINE BEGINS THERE
 
 -- the line that was read is one of those between
-pub record Met (head : List ℕ) (earlier between : List Sample) (middle : ℕ) (f : Found) : Type 0 where
+pub record Met (head : List ℕ) (earlier between : List Sample) (middle : ℕ) (f : FoundLine) : Type 0 where
   pub front : List Sample
   pub sample : Sample
   pub rest : List Sample
@@ -141,7 +141,7 @@ pub record Met (head : List ℕ) (earlier between : List Sample) (middle : ℕ) 
   pub end : f.end ≡ end_place head (earlier ++ (front ++ sample ∷ []))
   pub begins : (a : List Sample) (s : Sample) (b : List Sample) → front ≡ a ++ s ∷ b → end_place head (earlier ++ a) < middle
 
-same_line : (bytes head : List ℕ) (info : PayloadInfo) (earlier front more : List Sample) (s : Sample) (f : Found) → bytes ≡ head ++ 10 ∷ lines_of (earlier ++ (front ++ s ∷ more)) → AreSamples info.ty info.year (front ++ s ∷ more) → f.at ≡ end_place head (earlier ++ front) → IsLineAt info bytes f
+same_line : (bytes head : List ℕ) (info : PayloadInfo) (earlier front more : List Sample) (s : Sample) (f : FoundLine) → bytes ≡ head ++ 10 ∷ lines_of (earlier ++ (front ++ s ∷ more)) → AreSamples info.ty info.year (front ++ s ∷ more) → f.at ≡ end_place head (earlier ++ front) → IsLineAt info bytes f
     → (f.t ≡ s.t) × (f.end ≡ f.at + length s.line + 1)
 same_line bytes head info earlier front more s f is are place line =
     let there : drop f.at bytes ≡ lines_of (s ∷ more) = ap (λ (m : ℕ). drop m bytes) place ∙ drop_front bytes head (earlier ++ front) (s ∷ more) (is ∙ ap (λ (l : List Sample). head ++ 10 ∷ lines_of l) (sym (append_assoc earlier front (s ∷ more)))) in
@@ -150,7 +150,7 @@ same_line bytes head info earlier front more s f is are place line =
     let P : List ℕ → Type 0 = λ l. IsSampleLine info.ty info.year l line.sample.t in
     (line.moment ∙ one_moment info.ty info.year s.line line.sample.t s.t (subst P lines.0 line.is.meant) mine.0.meant, omega (arith, line.end, ap length lines.0))
 
-meet : (bytes head : List ℕ) (info : PayloadInfo) (earlier between later : List Sample) (middle next : ℕ) (f : Found) → bytes ≡ head ++ 10 ∷ lines_of (earlier ++ (between ++ later)) → AreSamples info.ty info.year (between ++ later) → (a : Aimed head earlier (between ++ later) middle f.at)
+meet : (bytes head : List ℕ) (info : PayloadInfo) (earlier between later : List Sample) (middle next : ℕ) (f : FoundLine) → bytes ≡ head ++ 10 ∷ lines_of (earlier ++ (between ++ later)) → AreSamples info.ty info.year (between ++ later) → (a : Aimed head earlier (between ++ later) middle f.at)
     → next ≡ end_place head (earlier ++ between) → f.at < next → IsLineAt info bytes f → Met head earlier between middle f
 meet bytes head info earlier between later middle next f is are a next_is less line =
     elim (split_two between later a.front a.rest a.list) [
@@ -172,7 +172,7 @@ meet bytes head info earlier between later middle next f is are a next_is less l
           })
     ]
 
-pub met : (bytes head : List ℕ) (info : PayloadInfo) (samples : List Sample) (n low high middle next : ℕ) (last : Option ℕ) (f : Found) → IsFile bytes head info samples → middle ≤ length bytes → (h : Narrowed head samples n low high next last) → IsFoundIn info bytes low middle next (Some f) → Met head h.earlier h.between middle f
+pub met : (bytes head : List ℕ) (info : PayloadInfo) (samples : List Sample) (n low high middle next : ℕ) (last : Option ℕ) (f : FoundLine) → IsFile bytes head info samples → middle ≤ length bytes → (h : Narrowed head samples n low high next last) → IsFoundIn info bytes low middle next (Some f) → Met head h.earlier h.between middle f
 met bytes head info samples n low high middle next last f file within h found =
     let T : List Sample → Type 0 = λ l. bytes ≡ head ++ 10 ∷ lines_of l in
     let A : List Sample → Type 0 = λ l. AreSamples info.ty info.year l in
@@ -189,7 +189,7 @@ below_last k n (x ∷ xs) s rises low = (first (x.t + 1) xs rises.1 (omega arith
     first m (y ∷ ys) up from = first (y.t + 1) ys up.1 (omega (arith, up.0, from))
 
 -- it is earlier: so are all before it
-pub found_earlier : (bytes head : List ℕ) (info : PayloadInfo) (samples : List Sample) (n low high middle next : ℕ) (last : Option ℕ) (f : Found) → IsFile bytes head info samples → middle ≤ length bytes → Narrowed head samples n low high next last → IsFoundIn info bytes low middle next (Some f) → f.t < n → Narrowed head samples n f.end high next (Some f.at)
+pub found_earlier : (bytes head : List ℕ) (info : PayloadInfo) (samples : List Sample) (n low high middle next : ℕ) (last : Option ℕ) (f : FoundLine) → IsFile bytes head info samples → middle ≤ length bytes → Narrowed head samples n low high next last → IsFoundIn info bytes low middle next (Some f) → f.t < n → Narrowed head samples n f.end high next (Some f.at)
 found_earlier bytes head info samples n low high middle next last f file within h found less =
     let m = met bytes head info samples n low high middle next last f file within h found in
     let front = h.earlier ++ m.front in
@@ -212,7 +212,7 @@ found_earlier bytes head info samples n low high middle next last f file within 
     }
 
 -- it isn't earlier: nor are those behind it
-pub found_later : (bytes head : List ℕ) (info : PayloadInfo) (samples : List Sample) (n low high middle next : ℕ) (last : Option ℕ) (f : Found) → IsFile bytes head info samples → middle ≤ length bytes → Narrowed head samples n low high next last → IsFoundIn info bytes low middle next (Some f) → n ≤ f.t → Narrowed head samples n low middle f.at last
+pub found_later : (bytes head : List ℕ) (info : PayloadInfo) (samples : List Sample) (n low high middle next : ℕ) (last : Option ℕ) (f : FoundLine) → IsFile bytes head info samples → middle ≤ length bytes → Narrowed head samples n low high next last → IsFoundIn info bytes low middle next (Some f) → n ≤ f.t → Narrowed head samples n low middle f.at last
 found_later bytes head info samples n low high middle next last f file within h found from =
     let m = met bytes head info samples n low high middle next last f file within h found in
     let s = m.sample in

@@ -5,7 +5,7 @@ use Rattle.pb_messages.specs.declared.info.PayloadInfo.{PayloadInfo}
 use Rattle.pb_lines.specs.File.{HasNoSample}
 use Rattle.pb_file.specs.Walk.{Walk, Front, with_sample}
 use Rattle.pb_file.specs.declared.search.SearchErr.{SearchErr}
-use Rattle.pb_file.specs.Block.{IsPieceOf}
+use Rattle.pb_file.specs.Block.{IsWindowOf}
 use Rattle.pb_file.specs.Skip.{HasHeader, HasSkipped}
 use Rattle.pb_file.specs.Parting.{IsLineAt}
 
@@ -43,5 +43,5 @@ pub same_err : {A : Type 0} (r : Result A SearchErr) (a b : SearchErr) → r ≡
 same_err {A} r a b is is₂ = cc
 
 -- the header is kept where only what is in memory changed
-pub keeps_header : (old new : Walk) (bytes head : List ℕ) (info : PayloadInfo) → new ≡ record old { piece = new.piece } → (IsPieceOf old.piece bytes → IsPieceOf new.piece bytes) → HasHeader old bytes head info → HasHeader new bytes head info
-keeps_header old new bytes head info same piece h = record { info_is = ap (λ (w : Walk). w.info) same ∙ h.info_is; whole = h.whole; header = h.header; piece = piece h.piece }
+pub keeps_header : (old new : Walk) (bytes head : List ℕ) (info : PayloadInfo) → new ≡ record old { window = new.window } → (IsWindowOf old.window bytes → IsWindowOf new.window bytes) → HasHeader old bytes head info → HasHeader new bytes head info
+keeps_header old new bytes head info same window h = record { info_is = ap (λ (w : Walk). w.info) same ∙ h.info_is; whole = h.whole; header = h.header; window = window h.window }

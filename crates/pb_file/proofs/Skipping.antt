@@ -9,7 +9,7 @@ use Rattle.series_model.proofs.RisingLists.{end_from-append}
 use Rattle.pb_messages.specs.declared.info.PayloadInfo.{PayloadInfo}
 use Rattle.pb_file.specs.declared.walk.Walked.{Walked}
 use Rattle.pb_file.specs.declared.walk.Walked.TheVariants as walked
-use Rattle.pb_file.specs.Block.{Piece, IsPieceOf}
+use Rattle.pb_file.specs.Block.{Window, IsWindowOf}
 use Rattle.pb_lines.specs.File.{IsFile, IsSample, HasNoSample}
 use Rattle.pb_file.specs.Walk.{Walk, Front, HasWalked, Takes, with_sample}
 use Rattle.pb_file.specs.Skip.{HasHeader, HasSkipped, GoesOnFrom, BeginsBehind, from_place}
@@ -37,20 +37,20 @@ nothing at bytes = nil_from_length (drop at (take at bytes)) (omega (arith, leng
 pub moves : (old : Walk) (bytes head : List ℕ) (info : PayloadInfo) (at : ℕ) → at ≤ old.len → HasHeader old bytes head info → HasSkipped (record old { place = at; earliest = 0; stop = None }) bytes at (record { head = head; info = info; samples = [] })
 moves old bytes head info at within h =
     let P : List ℕ → Type 0 = λ l. IsFile (head ++ 10 ∷ l) head info [] in
-    record { going = refl; begun = omega arith; within = within; read = subst P (sym (nothing at bytes)) (begins head info h.whole h.header); header = h.info_is; earliest = refl; piece = h.piece }
+    record { going = refl; begun = omega arith; within = within; read = subst P (sym (nothing at bytes)) (begins head info h.whole h.header); header = h.info_is; earliest = refl; window = h.window }
 
 pub headed : (w : Walk) (bytes : List ℕ) (at : ℕ) (front : Front) → HasSkipped w bytes at front → HasHeader w bytes front.head front.info
-headed w bytes at front h = record { info_is = h.header; whole = h.read.whole; header = h.read.header; piece = h.piece }
+headed w bytes at front h = record { info_is = h.header; whole = h.read.whole; header = h.read.header; window = h.window }
 
 pub walked_header : (w : Walk) (bytes : List ℕ) (front : Front) → HasWalked w bytes (Some front) → HasHeader w bytes front.head front.info
-walked_header w bytes front h = record { info_is = h.read.1; whole = h.read.0.whole; header = h.read.0.header; piece = h.piece }
+walked_header w bytes front h = record { info_is = h.read.1; whole = h.read.0.whole; header = h.read.0.header; window = h.window }
 
--- nothing was read, but the piece may have changed
-pub skip_stays : (w : Walk) (piece : Piece) (bytes : List ℕ) (at : ℕ) (front : Front) → HasSkipped w bytes at front → IsPieceOf piece bytes → HasSkipped (record w { piece = piece }) bytes at front
-skip_stays w piece bytes at front h is = record { going = h.going; begun = h.begun; within = h.within; read = h.read; header = h.header; earliest = h.earliest; piece = is }
+-- nothing was read, but the window may have changed
+pub skip_stays : (w : Walk) (window : Window) (bytes : List ℕ) (at : ℕ) (front : Front) → HasSkipped w bytes at front → IsWindowOf window bytes → HasSkipped (record w { window = window }) bytes at front
+skip_stays w window bytes at front h is = record { going = h.going; begun = h.begun; within = h.within; read = h.read; header = h.header; earliest = h.earliest; window = is }
 
-pub skip_read_on : (old w : Walk) (bytes : List ℕ) (at : ℕ) (front : Front) → w ≡ record old { piece = w.piece } → HasSkipped old bytes at front → (IsPieceOf old.piece bytes → IsPieceOf w.piece bytes) → HasSkipped w bytes at front
-skip_read_on old w bytes at front same h piece = let P : Walk → Type 0 = λ v. HasSkipped v bytes at front in subst P (sym same) (skip_stays old w.piece bytes at front h (piece h.piece))
+pub skip_read_on : (old w : Walk) (bytes : List ℕ) (at : ℕ) (front : Front) → w ≡ record old { window = w.window } → HasSkipped old bytes at front → (IsWindowOf old.window bytes → IsWindowOf w.window bytes) → HasSkipped w bytes at front
+skip_read_on old w bytes at front same h window = let P : Walk → Type 0 = λ v. HasSkipped v bytes at front in subst P (sym same) (skip_stays old w.window bytes at front h (window h.window))
 
 more_text : (head file line : List ℕ) (at place : ℕ) → at ≤ place → place ≤ length file → take (place + length line + 1) file ≡ take place file ++ (line ++ 10 ∷ []) → from_place head at (take (place + length line + 1) file) ≡ from_place head at (take place file) ++ (line ++ 10 ∷ [])
 more_text head file line at place begun long is =
@@ -66,7 +66,7 @@ skip_sample w new file line t at front r h k =
     let Q : List ℕ → Type 0 = λ b. IsFile b front.head front.info (front.samples ++ s ∷ []) in
     let I : PayloadInfo → Type 0 = λ i. IsSample i.ty i.year s in
     let E : ℕ → Type 0 = λ n. n ≤ t in
-    let R : Piece → Type 0 = λ p. IsPieceOf p file in
+    let R : Window → Type 0 = λ p. IsWindowOf p file in
     let grown = grows (from_place front.head at (take w.place file)) front.head front.info front.samples (s ∷ []) h.read (subst I (one_info w.info k.0.0 front.info k.0.1 h.header) k.0.2, tt) (subst E h.earliest k.0.3, tt) in
     subst P (sym k.0.4) (record {
       going = h.going;
@@ -75,7 +75,7 @@ skip_sample w new file line t at front r h k =
       read = subst Q (sym (more_text front.head file line at w.place h.begun (omega (arith, r.room, r.long)) r.text)) grown;
       header = h.header;
       earliest = sym (end_from-append 0 front.samples (s ∷ []));
-      piece = subst R (sym k.1) r.piece;
+      window = subst R (sym k.1) r.window;
     })
 
 skip_refused : (w new : Walk) (file line : List ℕ) (bad at : ℕ) (front : Front) → HasNoNewline line → ReadLine w file line → HasSkipped w file at front → Takes w line (walked.Damaged bad) new → GoesOnFrom at front file line (walked.Damaged bad) new
@@ -97,8 +97,8 @@ skip_line w new file line at front walked.ReadFault whole r h k = absurd k
 skip_line w new file line at front (walked.Damaged bad) whole r h k = skip_refused w new file line bad at front whole r h k
 skip_line w new file line at front walked.Memory whole r h k =
     let P : Walk → Type 0 = λ v. HasSkipped v file at front in
-    let R : Piece → Type 0 = λ p. IsPieceOf p file in
-    subst P (sym k.0) (skip_stays w new.piece file at front h (subst R (sym k.1) r.piece))
+    let R : Window → Type 0 = λ p. IsWindowOf p file in
+    subst P (sym k.0) (skip_stays w new.window file at front h (subst R (sym k.1) r.window))
 
 -- The bytes that count end within a line.
 pub skip_torn : (w new : Walk) (file line : List ℕ) (at : ℕ) (front : Front) → w.len ≤ length file → HasSkipped w file at front → take w.len file ≡ take w.place file ++ line → HasNoNewline line → (IsSome w.info × (w.place ≡ w.len) → ⊥) → new.len ≡ w.len → GoesOnFrom at front file line (walked.Damaged w.place) new

@@ -5,7 +5,7 @@ use Rattle.std.proofs.lemmas.List.{length-append, length-take-le, take-append-dr
 use Rattle.std.proofs.lemmas.Bool.{cases_lt}
 use Rattle.series_model.specs.declared.sample.Sample.{Sample}
 use Rattle.pb_messages.specs.declared.info.PayloadInfo.{PayloadInfo}
-use Rattle.pb_file.specs.declared.search.Found.{Found}
+use Rattle.pb_file.specs.declared.search.FoundLine.{FoundLine}
 use Rattle.pb_lines.specs.File.{IsFile, IsBadAt, HasNoHeader, lines_of}
 use Rattle.pb_file.specs.Walk.{Walk, Front, HasWalked}
 use Rattle.pb_file.specs.Skip.{HasHeader, BeginsBehind}
@@ -30,7 +30,7 @@ pub from_start : (bytes : List ℕ) (first low middle at : ℕ) → middle ≤ l
 from_start bytes first low middle at within start (inl h) = let P : ℕ → Type 0 = λ n. IsLineStart bytes first n in subst P (sym h.1) start
 from_start bytes first low middle at within start (inr h) = behind_start bytes first (middle - 1) at (omega (arith, within)) h.1
 
-pub end_start : (bytes : List ℕ) (first : ℕ) (info : PayloadInfo) (f : Found) → f.at ≤ length bytes → IsLineAt info bytes f → IsLineStart bytes first f.end
+pub end_start : (bytes : List ℕ) (first : ℕ) (info : PayloadInfo) (f : FoundLine) → f.at ≤ length bytes → IsLineAt info bytes f → IsLineStart bytes first f.end
 end_start bytes first info f within h = behind_start bytes first f.at f.end within (inl (h.sample.line, h.rest, h.is.whole, h.text, h.end))
 
 -- a bad line at the front is a header's
@@ -51,7 +51,7 @@ pub header_of : (w : Walk) (bytes : List ℕ) (len : ℕ) (f : Front) (head : Li
 header_of w bytes len f head info samples size h file =
     let all = take len bytes in
     let alike = begin_alike (take w.place all) all (drop w.place all) [] f.head head f.info info f.samples samples (within_len w bytes len f size h) file (take-append-drop w.place all ∙ sym (append-nil all)) in
-    record { info_is = h.read.1 ∙ ap (λ (i : PayloadInfo). Some i) alike.infos; whole = file.whole; header = file.header; piece = h.piece }
+    record { info_is = h.read.1 ∙ ap (λ (i : PayloadInfo). Some i) alike.infos; whole = file.whole; header = file.header; window = h.window }
 
 -- and of bytes that begin with it
 pub header_at : (w : Walk) (bytes : List ℕ) (len : ℕ) (f : Front) (head : List ℕ) (info : PayloadInfo) → w.len ≡ len → HasWalked w bytes (Some f) → BeginsWithHeader (take len bytes) head info → HasHeader w bytes head info
@@ -60,10 +60,10 @@ header_at w bytes len f head info size h b =
     let file = within_len w bytes len f size h in
     let line = begins head info b.whole b.header in
     let alike = begin_alike (take w.place all) (head ++ 10 ∷ []) (drop w.place all) b.rest f.head head f.info info f.samples [] file line (take-append-drop w.place all ∙ b.text ∙ sym (append_assoc head (10 ∷ []) b.rest)) in
-    record { info_is = h.read.1 ∙ ap (λ (i : PayloadInfo). Some i) alike.infos; whole = b.whole; header = b.header; piece = h.piece }
+    record { info_is = h.read.1 ∙ ap (λ (i : PayloadInfo). Some i) alike.infos; whole = b.whole; header = b.header; window = h.window }
 
 -- a line that was found is that of a sample
-pub sample_there : (info : PayloadInfo) (bytes : List ℕ) (f : Found) → IsLineAt info bytes f → HasSampleAt info bytes f.at
+pub sample_there : (info : PayloadInfo) (bytes : List ℕ) (f : FoundLine) → IsLineAt info bytes f → HasSampleAt info bytes f.at
 sample_there info bytes f h = record { sample = h.sample; rest = h.rest; is = h.is; text = h.text }
 
 -- so it is of both places of a search that stopped

@@ -11,7 +11,7 @@ use Rattle.pb_lines.specs.Sample.{IsSampleLine}
 use Rattle.pb_file.specs.declared.walk.Walked.{Walked}
 use Rattle.pb_file.specs.declared.walk.Walked.TheVariants as walked
 use Rattle.pb_lines.specs.File.{IsFile, IsBadAt, IsSample, HasNoHeader, HasNoSample}
-use Rattle.pb_file.specs.Block.{Piece, IsPieceOf}
+use Rattle.pb_file.specs.Block.{Window, IsWindowOf}
 use Rattle.pb_file.specs.Walk.{Walk, Front, HasWalked, HoldsSample, Walks, IsRefused, Takes, with_sample}
 use Rattle.pb_lines.proofs.FileLines.{torn_head, bad_head, torn_sample, bad_sample}
 use Rattle.pb_lines.proofs.FileMeaning.{begins, grows}
@@ -89,10 +89,10 @@ pub bad_at : (front : Option Front) (file line : List ℕ) (at : ℕ) (new : Wal
 bad_at None file line at new h = h
 bad_at (Some f) file line at new h = h
 
--- nothing was read, but the piece may have changed
-pub stays : (old : Walk) (piece : Piece) (file : List ℕ) (front : Option Front) → HasWalked old file front → IsPieceOf piece file → HasWalked (record old { piece = piece }) file front
-stays old piece file None h is = record { going = h.going; within = h.within; read = h.read; piece = is }
-stays old piece file (Some f) h is = record { going = h.going; within = h.within; read = h.read; piece = is }
+-- nothing was read, but the window may have changed
+pub stays : (old : Walk) (window : Window) (file : List ℕ) (front : Option Front) → HasWalked old file front → IsWindowOf window file → HasWalked (record old { window = window }) file front
+stays old window file None h is = record { going = h.going; within = h.within; read = h.read; window = is }
+stays old window file (Some f) h is = record { going = h.going; within = h.within; read = h.read; window = is }
 
 pub lacks_memory : (front : Option Front) (file line : List ℕ) (new : Walk) → HasWalked new file front → Walks front file line walked.Memory new
 lacks_memory None file line new h = h
@@ -123,7 +123,7 @@ pub record ReadLine (w : Walk) (file line : List ℕ) : Type 0 where
   pub long : w.len ≤ length file
   pub room : w.place + length line + 1 ≤ w.len
   pub text : take (w.place + length line + 1) file ≡ take w.place file ++ (line ++ 10 ∷ [])
-  pub piece : IsPieceOf w.piece file
+  pub window : IsWindowOf w.window file
 
 begin_walks : (w new : Walk) (file line : List ℕ) (front : Option Front) → ReadLine w file line → HasWalked w file front → Takes w line walked.Header new → Walks front file line walked.Header new
 begin_walks w new file line (Some f) r h k = absurd (some_or_none w.info f.info k.0.1 h.read.1)
@@ -140,7 +140,7 @@ begin_walks w new file line None r h k =
         going = h.going;
         within = r.room;
         read = (subst Q (sym text) (begins line info k.0.2 k.0.3), refl, h.read.2);
-        piece = let R : Piece → Type 0 = λ p. IsPieceOf p file in subst R (sym k.1) r.piece;
+        window = let R : Window → Type 0 = λ p. IsWindowOf p file in subst R (sym k.1) r.window;
       }),
     )
 
@@ -158,7 +158,7 @@ sample_walks w new file line t (Some f) r h k =
       going = h.going;
       within = r.room;
       read = (subst Q (sym r.text) grown, h.read.1, sym (end_from-append 0 f.samples (s ∷ [])));
-      piece = let R : Piece → Type 0 = λ p. IsPieceOf p file in subst R (sym k.1) r.piece;
+      window = let R : Window → Type 0 = λ p. IsWindowOf p file in subst R (sym k.1) r.window;
     })
 
 refused_walks : (w new : Walk) (file line : List ℕ) (at : ℕ) (front : Option Front) → HasNoNewline line → ReadLine w file line → HasWalked w file front → Takes w line (walked.Damaged at) new → Walks front file line (walked.Damaged at) new
@@ -181,24 +181,24 @@ line_walks w new file line front walked.ReadFault whole r h k = absurd k
 line_walks w new file line front (walked.Damaged at) whole r h k = refused_walks w new file line at front whole r h k
 line_walks w new file line front walked.Memory whole r h k =
     let P : Walk → Type 0 = λ v. HasWalked v file front in
-    let R : Piece → Type 0 = λ p. IsPieceOf p file in
-    lacks_memory front file line new (subst P (sym k.0) (stays w new.piece file front h (subst R (sym k.1) r.piece)))
+    let R : Window → Type 0 = λ p. IsWindowOf p file in
+    lacks_memory front file line new (subst P (sym k.0) (stays w new.window file front h (subst R (sym k.1) r.window)))
 
--- the walk once a line was read: but for its piece it is as before
-pub read_on : (old w : Walk) (file : List ℕ) (front : Option Front) → w ≡ record old { piece = w.piece } → HasWalked old file front → (IsPieceOf old.piece file → IsPieceOf w.piece file) → HasWalked w file front
-read_on old w file front same h piece = let P : Walk → Type 0 = λ v. HasWalked v file front in subst P (sym same) (stays old w.piece file front h (piece h.piece))
+-- the walk once a line was read: but for its window it is as before
+pub read_on : (old w : Walk) (file : List ℕ) (front : Option Front) → w ≡ record old { window = w.window } → HasWalked old file front → (IsWindowOf old.window file → IsWindowOf w.window file) → HasWalked w file front
+read_on old w file front same h window = let P : Walk → Type 0 = λ v. HasWalked v file front in subst P (sym same) (stays old w.window file front h (window h.window))
 
 -- A sample in memory is read from there.
-pub held_line : (w : Walk) (file line : List ℕ) (t : ℕ) → HoldsSample w t line → w.len ≤ length file → IsPieceOf w.piece file → ReadLine w file line
+pub held_line : (w : Walk) (file line : List ℕ) (t : ℕ) → HoldsSample w t line → w.len ≤ length file → IsWindowOf w.window file → ReadLine w file line
 held_line w file line t h long is =
     let at = h.held in
     record {
       long = long;
       room = h.room;
-      text = line_ends w.piece file [] line at.text.0 line (drop (w.place - w.piece.start) w.piece.bytes) w.place w.place is at.from at.within (omega arith) (sym (append-nil (take w.place file))) refl at.text.1 refl;
-      piece = is;
+      text = line_ends w.window file [] line at.text.0 line (drop (w.place - w.window.start) w.window.bytes) w.place w.place is at.from at.within (omega arith) (sym (append-nil (take w.place file))) refl at.text.1 refl;
+      window = is;
     }
 
 -- The walk that passes it takes its line.
 pub held_takes : (w new : Walk) (line : List ℕ) (t : ℕ) → HoldsSample w t line → new ≡ record w { place = w.place + length line + 1; earliest = t + 1 } → Takes w line (walked.Sample t) new
-held_takes w new line t h is = ((h.info, h.header, h.sample, h.later, is ∙ ap (λ (p : Piece). record w { place = w.place + length line + 1; earliest = t + 1; piece = p }) (sym (ap (λ (v : Walk). v.piece) is))), ap (λ (v : Walk). v.piece) is)
+held_takes w new line t h is = ((h.info, h.header, h.sample, h.later, is ∙ ap (λ (p : Window). record w { place = w.place + length line + 1; earliest = t + 1; window = p }) (sym (ap (λ (v : Walk). v.window) is))), ap (λ (v : Walk). v.window) is)

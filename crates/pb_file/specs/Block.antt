@@ -1,31 +1,31 @@
 -- A block of a file in memory, and what a read of a line through it gives.
 use Rattle.std.specs.Prelude.{◌≡◌, ℕ, ◌+◌, ◌-◌, ◌<◌, ◌≤◌, List, [], ◌∷◌, ◌++◌, length, take, drop}
 use Rattle.pb_file.specs.declared.block.Block.{Block}
-use Rattle.pb_file.specs.declared.block.LineRead.{LineRead}
-use Rattle.pb_file.specs.declared.block.LineRead.TheVariants.{Line, Torn}
+use Rattle.pb_file.specs.declared.block.BlockLine.{BlockLine}
+use Rattle.pb_file.specs.declared.block.BlockLine.TheVariants.{Line, Torn}
 use Rattle.pb_file.specs.Line.{BeginsWithLine}
 
 -- the bytes that a block has in memory, and where they stand in the file
-pub record Piece : Type 0 where
+pub record Window : Type 0 where
   pub start : ℕ
   pub bytes : List ℕ
 
 -- the block's bytes
-abbrev pub piece_of : Block → Piece
-piece_of block = record { start = block.start; bytes = block.bytes.items }
+abbrev pub window_of : Block → Window
+window_of block = record { start = block.start; bytes = block.bytes.items }
 
 -- the file has these bytes there
-abbrev pub IsPieceOf : Piece → List ℕ → Type 0
-IsPieceOf piece file = piece.bytes ≡ take (length piece.bytes) (drop piece.start file)
+abbrev pub IsWindowOf : Window → List ℕ → Type 0
+IsWindowOf window file = window.bytes ≡ take (length window.bytes) (drop window.start file)
 
--- the piece has the line at this place, and the newline behind it
-pub record HoldsLine (piece : Piece) (at : ℕ) (line : List ℕ) : Type 0 where
-  pub from : piece.start ≤ at
-  pub within : at < piece.start + length piece.bytes
-  pub text : BeginsWithLine (drop (at - piece.start) piece.bytes) line
+-- the window has the line at this place, and the newline behind it
+pub record HoldsLine (window : Window) (at : ℕ) (line : List ℕ) : Type 0 where
+  pub from : window.start ≤ at
+  pub within : at < window.start + length window.bytes
+  pub text : BeginsWithLine (drop (at - window.start) window.bytes) line
 
 -- what of the file a read of the line at a place gave, up to `len`
-abbrev pub GivesLine : List ℕ → ℕ → ℕ → List ℕ → LineRead → Type 0
+abbrev pub GivesLine : List ℕ → ℕ → ℕ → List ℕ → BlockLine → Type 0
 GivesLine file len at line Line = take (at + length line + 1) file ≡ take at file ++ (line ++ 10 ∷ [])
 GivesLine file len at line Torn = take len file ≡ take at file ++ line
 GivesLine file len at line _ = Unit {0}

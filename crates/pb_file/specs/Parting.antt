@@ -4,7 +4,7 @@ use Rattle.series_model.specs.declared.sample.Sample.{Sample}
 use Rattle.series_model.specs.Series.{before}
 use Rattle.pb_messages.specs.declared.info.PayloadInfo.{PayloadInfo}
 use Rattle.pb_file.specs.declared.search.Parted.{Parted}
-use Rattle.pb_file.specs.declared.search.Found.{Found}
+use Rattle.pb_file.specs.declared.search.FoundLine.{FoundLine}
 use Rattle.pb_lines.specs.File.{IsSample}
 use Rattle.pb_file.specs.Skip.{BeginsBehind}
 use Rattle.pb_file.specs.Search.{place_from, IsLastLine, IsLineStart, HasSampleAt, MayBegin}
@@ -26,7 +26,7 @@ abbrev pub BeginsFrom : List ℕ → ℕ → ℕ → ℕ → Type 0
 BeginsFrom bytes low middle at = ((middle ≡ low) × (at ≡ low)) ⊎ ((low < middle) × BeginsBehind bytes (middle - 1) at)
 
 -- the line of a sample of the type and year stands there
-pub record IsLineAt (info : PayloadInfo) (bytes : List ℕ) (f : Found) : Type 0 where
+pub record IsLineAt (info : PayloadInfo) (bytes : List ℕ) (f : FoundLine) : Type 0 where
   pub sample : Sample
   pub rest : List ℕ
   pub is : IsSample info.ty info.year sample
@@ -35,6 +35,6 @@ pub record IsLineAt (info : PayloadInfo) (bytes : List ℕ) (f : Found) : Type 0
   pub end : f.end ≡ f.at + length sample.line + 1
 
 -- the first line from the middle on, if it begins before `next`
-abbrev pub IsFoundIn : PayloadInfo → List ℕ → ℕ → ℕ → ℕ → Option Found → Type 0
+abbrev pub IsFoundIn : PayloadInfo → List ℕ → ℕ → ℕ → ℕ → Option FoundLine → Type 0
 IsFoundIn info bytes low middle next (Some f) = BeginsFrom bytes low middle f.at × (f.at < next) × IsLineAt info bytes f
 IsFoundIn info bytes low middle next None = (at : ℕ) × BeginsFrom bytes low middle at × (next ≤ at)

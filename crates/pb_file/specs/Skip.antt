@@ -6,7 +6,7 @@ use Rattle.pb_messages.specs.declared.info.PayloadInfo.{PayloadInfo}
 use Rattle.pb_lines.specs.Header.{IsHeaderLine}
 use Rattle.pb_file.specs.declared.walk.Walked.{Walked}
 use Rattle.pb_file.specs.declared.walk.Walked.TheVariants as walked
-use Rattle.pb_file.specs.Block.{IsPieceOf}
+use Rattle.pb_file.specs.Block.{IsWindowOf}
 use Rattle.pb_lines.specs.File.{IsFile, HasNoSample}
 use Rattle.pb_file.specs.Walk.{Walk, Front, with_sample}
 
@@ -19,7 +19,7 @@ pub record HasHeader (w : Walk) (bytes head : List ℕ) (info : PayloadInfo) : T
   pub info_is : w.info ≡ Some info
   pub whole : HasNoNewline head
   pub header : IsHeaderLine head info
-  pub piece : IsPieceOf w.piece bytes
+  pub window : IsWindowOf w.window bytes
 
 -- The walk has the header of this front. It went on at this place of the bytes, and since then has read the front's samples.
 pub record HasSkipped (w : Walk) (bytes : List ℕ) (at : ℕ) (front : Front) : Type 0 where
@@ -29,7 +29,7 @@ pub record HasSkipped (w : Walk) (bytes : List ℕ) (at : ℕ) (front : Front) :
   pub read : IsFile (from_place front.head at (take w.place bytes)) front.head front.info front.samples
   pub header : w.info ≡ Some front.info
   pub earliest : w.earliest ≡ end_of front.samples
-  pub piece : IsPieceOf w.piece bytes
+  pub window : IsWindowOf w.window bytes
 
 -- What a call came to: the next line from that place on, the end of a file of the header's line and what stands from there on, or a
 -- line that isn't the next one of such a file.

@@ -8,7 +8,7 @@ use Rattle.pb_lines.specs.Header.{IsHeaderLine}
 use Rattle.pb_lines.specs.Sample.{IsSampleLine}
 use Rattle.pb_file.specs.declared.walk.Walked.{Walked}
 use Rattle.pb_file.specs.declared.walk.Walked.TheVariants as walked
-use Rattle.pb_file.specs.Block.{Piece, IsPieceOf, HoldsLine}
+use Rattle.pb_file.specs.Block.{Window, IsWindowOf, HoldsLine}
 use Rattle.pb_lines.specs.File.{IsFile, IsBadAt, IsSample}
 
 -- A walk over the first `len` bytes of a file: where the next line begins, the header once it was read, the earliest moment that
@@ -19,11 +19,11 @@ pub record Walk : Type 0 where
   pub info : Option PayloadInfo
   pub earliest : ℕ
   pub stop : Option Walked
-  pub piece : Piece
+  pub window : Window
 
 -- a walk that has read nothing
 abbrev pub fresh : ℕ → Walk
-fresh len = record { len = len; place = 0; info = None; earliest = 0; stop = None; piece = record { start = 0; bytes = [] } }
+fresh len = record { len = len; place = 0; info = None; earliest = 0; stop = None; window = record { start = 0; bytes = [] } }
 
 -- the first moment behind the last sample's
 abbrev pub behind : Option ℕ → ℕ
@@ -43,14 +43,14 @@ IsFinal (Some _) = ⊥
 abbrev pub Gives : Walk → List ℕ → Walked → Walk → Type 0
 Gives old line walked.Header new =
     (info : PayloadInfo) × (old.info ≡ None) × HasNoNewline line × IsHeaderLine line info
-    × (new ≡ record old { place = old.place + length line + 1; info = Some info; piece = new.piece })
+    × (new ≡ record old { place = old.place + length line + 1; info = Some info; window = new.window })
 Gives old line (walked.Sample t) new =
     (info : PayloadInfo) × (old.info ≡ Some info) × IsSample info.ty info.year (record { t = t; line = line }) × (old.earliest ≤ t)
-    × (new ≡ record old { place = old.place + length line + 1; earliest = t + 1; piece = new.piece })
+    × (new ≡ record old { place = old.place + length line + 1; earliest = t + 1; window = new.window })
 Gives old line walked.End new = IsSome old.info × (old.place ≡ old.len) × (new ≡ record old { stop = Some walked.End })
-Gives old line (walked.Damaged at) new = (at ≡ old.place) × (new ≡ record old { stop = Some (walked.Damaged at); piece = new.piece })
-Gives old line walked.ReadFault new = new ≡ record old { piece = new.piece }
-Gives old line walked.Memory new = new ≡ record old { piece = new.piece }
+Gives old line (walked.Damaged at) new = (at ≡ old.place) × (new ≡ record old { stop = Some (walked.Damaged at); window = new.window })
+Gives old line walked.ReadFault new = new ≡ record old { window = new.window }
+Gives old line walked.Memory new = new ≡ record old { window = new.window }
 
 -- THE FILE SO FAR
 
@@ -70,7 +70,7 @@ pub record HasWalked (w : Walk) (bytes : List ℕ) (front : Option Front) : Type
   pub going : w.stop ≡ None
   pub within : w.place ≤ w.len
   pub read : IsRead w bytes front
-  pub piece : IsPieceOf w.piece bytes
+  pub window : IsWindowOf w.window bytes
 
 -- the same front with one more sample
 abbrev pub with_sample : Front → ℕ → List ℕ → Front
@@ -111,8 +111,8 @@ IsRefused w line = refused w.info
 abbrev pub Takes : Walk → List ℕ → Walked → Walk → Type 0
 Takes old line walked.End new = ⊥
 Takes old line walked.ReadFault new = ⊥
-Takes old line (walked.Damaged at) new = Gives old line (walked.Damaged at) new × IsRefused old line × (new.piece ≡ old.piece)
-Takes old line result new = Gives old line result new × (new.piece ≡ old.piece)
+Takes old line (walked.Damaged at) new = Gives old line (walked.Damaged at) new × IsRefused old line × (new.window ≡ old.window)
+Takes old line result new = Gives old line result new × (new.window ≡ old.window)
 
 -- IN MEMORY
 
@@ -123,7 +123,7 @@ pub record HoldsSample (w : Walk) (t : ℕ) (line : List ℕ) : Type 0 where
   pub header : w.info ≡ Some info
   pub sample : IsSample info.ty info.year (record { t = t; line = line })
   pub later : w.earliest ≤ t
-  pub held : HoldsLine w.piece w.place line
+  pub held : HoldsLine w.window w.place line
   pub room : w.place + length line + 1 ≤ w.len
 
 -- so it is, and the line has this length

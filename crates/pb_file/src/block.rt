@@ -2,7 +2,7 @@
 ghost use Rattle.std.specs.Prelude.{◌≡◌, ◌≤◌, ◌<◌, ◌+◌, IsTrue, take, drop, length, vec_len};
 ghost use Rattle.disk_model.specs.Files.{Rose};
 
-use crate::line::{Taken, front_line, take_line};
+use crate::line::{LineTaken, front_line, take_line};
 use crate::steps::Steps;
 use disk_model::ReadAt;
 use std::sync::ledger::Ledger;
@@ -15,7 +15,7 @@ const MOST: u64 = 16_384;
 
 // What a read of a line came to.
 #[derive(Clone, Copy)]
-pub enum LineRead {
+pub enum BlockLine {
     // The line and its newline lie within the bytes that count.
     Line,
     // The bytes that count end within the line, or the file gave no more of them.
@@ -46,7 +46,7 @@ impl Block {
     ghost use Rattle.std.specs.Prelude.{◌≡◌, ◌≤◌, ◌<◌, ◌+◌, ◌-◌, IfSome, IsTrue, length, drop, vec_len};
     ghost use Rattle.line_escape.specs.Unescaping.{HasNoNewline};
     ghost use Rattle.disk_model.specs.Files.{Rose};
-    ghost use Rattle.pb_file.specs.Block.{piece_of, IsPieceOf, HoldsLine, GivesLine};
+    ghost use Rattle.pb_file.specs.Block.{window_of, IsWindowOf, HoldsLine, GivesLine};
 
     // Reads the line at a place, without its newline, into `line`, whose bytes before are lost. It is the
     // one step that is counted.
@@ -56,20 +56,20 @@ impl Block {
         at: u64,
         line: &mut Vec<u8>,
         steps: &mut Steps<L>,
-    ) -> LineRead
+    ) -> BlockLine
         requires within { at ≤ self.old.len }
         requires file { IsTrue H.tells → self.old.len ≤ length (H.bytes file.old) }
-        ensures line { IsTrue H.tells → IsPieceOf (piece_of self.old) (H.bytes file.old)
+        ensures line { IsTrue H.tells → IsWindowOf (window_of self.old) (H.bytes file.old)
             → GivesLine (H.bytes file.old) self.old.len at line.new.items result }
-        ensures piece { IsTrue H.tells → IsPieceOf (piece_of self.old) (H.bytes file.old)
-            → IsPieceOf (piece_of self.new) (H.bytes file.old) }
+        ensures window { IsTrue H.tells → IsWindowOf (window_of self.old) (H.bytes file.old)
+            → IsWindowOf (window_of self.new) (H.bytes file.old) }
         ensures whole { HasNoNewline line.new.items }
-        ensures room { result ≡ LineRead.Line → at + length line.new.items + 1 ≤ self.old.len }
+        ensures room { result ≡ BlockLine.Line → at + length line.new.items + 1 ≤ self.old.len }
         ensures len { self.new.len ≡ self.old.len }
         ensures same { IsTrue H.tells → H.bytes file.new ≡ H.bytes file.old }
         ensures leaves { H.leaves file.old file.new }
         ensures faults { H.faults file.old ≤ H.faults file.new }
-        ensures cause { result ≡ LineRead.ReadFault → Rose (H.faults file.old) (H.faults file.new) }
+        ensures cause { result ≡ BlockLine.ReadFault → Rose (H.faults file.old) (H.faults file.new) }
         ensures step { steps.new ≡ steps.old + 1 }
     {
         steps.tick();
@@ -78,23 +78,23 @@ impl Block {
         'pieces: while place < self.len {
             match self.have(file, place) {
                 Filled::More => {}
-                Filled::Nothing => return LineRead::Torn,
-                Filled::Fault => return LineRead::ReadFault,
-                Filled::Memory => return LineRead::Memory,
+                Filled::Nothing => return BlockLine::Torn,
+                Filled::Fault => return BlockLine::ReadFault,
+                Filled::Memory => return BlockLine::Memory,
             }
             match take_line(self.from(place), line) {
-                Taken::Whole => return LineRead::Line,
-                Taken::Part => place = self.start + self.bytes.len() as u64,
-                Taken::Memory => return LineRead::Memory,
+                LineTaken::Whole => return BlockLine::Line,
+                LineTaken::Part => place = self.start + self.bytes.len() as u64,
+                LineTaken::Memory => return BlockLine::Memory,
             }
         }
-        LineRead::Torn
+        BlockLine::Torn
     }
 
     // The line at a place, without its newline, where all of it and the newline are in memory.
     #[inline(always)]
     pub fn held_line(&self, at: u64) -> Option<&[u8]>
-        ensures { IfSome result (λ line. HoldsLine (piece_of self.now) at line.now) }
+        ensures { IfSome result (λ line. HoldsLine (window_of self.now) at line.now) }
     {
         if at < self.start || at - self.start >= self.bytes.len() as u64 {
             return None;
@@ -109,8 +109,8 @@ impl Block {
         ensures some { IsTrue H.tells → result ≡ Filled.Nothing → ⊥ }
         ensures start { result ≡ Filled.More → self.new.start ≤ place }
         ensures end { result ≡ Filled.More → place < self.new.start + vec_len self.new.bytes }
-        ensures piece { IsTrue H.tells → IsPieceOf (piece_of self.old) (H.bytes file.old)
-            → IsPieceOf (piece_of self.new) (H.bytes file.old) }
+        ensures window { IsTrue H.tells → IsWindowOf (window_of self.old) (H.bytes file.old)
+            → IsWindowOf (window_of self.new) (H.bytes file.old) }
         ensures len { self.new.len ≡ self.old.len }
         ensures same { IsTrue H.tells → H.bytes file.new ≡ H.bytes file.old }
         ensures leaves { H.leaves file.old file.new }
@@ -130,8 +130,8 @@ impl Block {
         ensures some { IsTrue H.tells → result ≡ Filled.Nothing → ⊥ }
         ensures start { result ≡ Filled.More → self.new.start ≡ place }
         ensures end { result ≡ Filled.More → 0 < vec_len self.new.bytes }
-        ensures piece { IsTrue H.tells → IsPieceOf (piece_of self.old) (H.bytes file.old)
-            → IsPieceOf (piece_of self.new) (H.bytes file.old) }
+        ensures window { IsTrue H.tells → IsWindowOf (window_of self.old) (H.bytes file.old)
+            → IsWindowOf (window_of self.new) (H.bytes file.old) }
         ensures len { self.new.len ≡ self.old.len }
         ensures same { IsTrue H.tells → H.bytes file.new ≡ H.bytes file.old }
         ensures leaves { H.leaves file.old file.new }
@@ -178,7 +178,7 @@ fn read_from<H: ReadAt>(file: &mut H, place: u64, want: usize, bytes: &mut Vec<u
     ensures some { IsTrue H.tells → result ≡ Filled.Nothing → ⊥ }
     ensures more { result ≡ Filled.More → 0 < vec_len bytes.new }
     ensures memory { result ≡ Filled.Memory → bytes.new.items ≡ bytes.old.items }
-    ensures piece { IsTrue H.tells → (result ≡ Filled.Memory → ⊥)
+    ensures window { IsTrue H.tells → (result ≡ Filled.Memory → ⊥)
         → bytes.new.items ≡ take (vec_len bytes.new) (drop place (H.bytes file.old)) }
     ensures fits { (result ≡ Filled.Memory → ⊥) → vec_len bytes.new ≤ want }
     ensures same { IsTrue H.tells → H.bytes file.new ≡ H.bytes file.old }

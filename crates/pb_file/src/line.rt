@@ -6,25 +6,25 @@ use line_escape::line_len;
 
 // What the bytes have of a line.
 #[derive(Clone, Copy)]
-pub enum Taken {
+pub enum LineTaken {
     Whole,
     Part,
     Memory,
 }
 
 // Appends the bytes up to the first newline, or all where there is none.
-pub fn take_line(bytes: &[u8], line: &mut Vec<u8>) -> Taken
+pub fn take_line(bytes: &[u8], line: &mut Vec<u8>) -> LineTaken
     ensures { Appends bytes.now line.old.items line.new.items result }
 {
     let len = line_len(bytes);
     let (front, _) = bytes.split_at(len);
     if line.extend_from_slice(front).is_err() {
-        return Taken::Memory;
+        return LineTaken::Memory;
     }
     if len < bytes.len() {
-        Taken::Whole
+        LineTaken::Whole
     } else {
-        Taken::Part
+        LineTaken::Part
     }
 }
 

@@ -7,7 +7,7 @@ ghost use Rattle.series_model.specs.Series.{before};
 ghost use Rattle.pb_messages.specs.declared.info.PayloadInfo.{PayloadInfo as Info};
 ghost use Rattle.pb_file.specs.declared.search.SearchErr.TheVariants.{ReadFault, Damaged};
 ghost use Rattle.pb_lines.specs.File.{IsFile, IsBadAt, HasNoHeader, HasNoSample};
-ghost use Rattle.pb_file.specs.Block.{IsPieceOf};
+ghost use Rattle.pb_file.specs.Block.{IsWindowOf};
 ghost use Rattle.pb_file.specs.Walk.{Front, HasWalked};
 ghost use Rattle.pb_file.specs.Skip.{HasHeader};
 ghost use Rattle.pb_file.specs.Search.{place_from, BeginsWithHeader, HasSampleAt, IsLastLine, IsLineStart, MayBegin};
@@ -40,7 +40,7 @@ pub struct Parted {
 
 // A line that was read: where it begins, its moment, and where the next one begins.
 #[derive(Clone, Copy)]
-pub struct Found {
+pub struct FoundLine {
     at: u64,
     t: u64,
     end: u64,
@@ -266,7 +266,7 @@ fn find<H: ReadAt, L: Ledger>(
     next: u64,
     line: &mut Vec<u8>,
     steps: &mut Steps<L>,
-) -> Result<Option<Found>, SearchErr>
+) -> Result<Option<FoundLine>, SearchErr>
     requires low { low ≤ middle }
     requires within { middle < walk.old.len }
     requires end { next ≤ walk.old.len }
@@ -310,11 +310,11 @@ fn start_from<H: ReadAt, L: Ledger>(
     requires within { middle < walk.old.len }
     requires file { IsTrue H.tells → walk.old.len ≤ length (H.bytes file.old) }
     ensures behind { IfOk result (λ at. (middle ≤ at) × (at ≤ walk.old.len)) }
-    ensures first { IsTrue H.tells → IsPieceOf walk.old.piece (H.bytes file.old)
+    ensures first { IsTrue H.tells → IsWindowOf walk.old.window (H.bytes file.old)
         → IfOk result (BeginsFrom (take walk.old.len (H.bytes file.old)) low middle) }
-    ensures piece { IsTrue H.tells → IsPieceOf walk.old.piece (H.bytes file.old)
-        → IsPieceOf walk.new.piece (H.bytes file.old) }
-    ensures walk { walk.new ≡ record walk.old { piece = walk.new.piece } }
+    ensures window { IsTrue H.tells → IsWindowOf walk.old.window (H.bytes file.old)
+        → IsWindowOf walk.new.window (H.bytes file.old) }
+    ensures walk { walk.new ≡ record walk.old { window = walk.new.window } }
     ensures never { (at : ℕ) → result ≡ Err (Damaged at) → ⊥ }
     ensures same { IsTrue H.tells → H.bytes file.new ≡ H.bytes file.old }
     ensures faults { H.faults file.old ≤ H.faults file.new }
@@ -335,7 +335,7 @@ fn read_at<H: ReadAt, L: Ledger>(
     at: u64,
     line: &mut Vec<u8>,
     steps: &mut Steps<L>,
-) -> Result<Found, SearchErr>
+) -> Result<FoundLine, SearchErr>
     requires within { at < walk.old.len }
     requires some { IsSome walk.old.info }
     requires file { IsTrue H.tells → walk.old.len ≤ length (H.bytes file.old) }
@@ -357,7 +357,7 @@ fn read_at<H: ReadAt, L: Ledger>(
 {
     walk.seek(at);
     match walk.next(file, line, steps) {
-        Walked::Sample { t } => Ok(Found {
+        Walked::Sample { t } => Ok(FoundLine {
             at,
             t,
             end: walk.place(),

@@ -5,12 +5,12 @@ ghost use Rattle.std.specs.Option.{option_copied};
 ghost use Rattle.line_escape.specs.Unescaping.{HasNoNewline};
 ghost use Rattle.disk_model.specs.Files.{Rose};
 ghost use Rattle.pb_messages.specs.declared.info.PayloadInfo.{PayloadInfo as InfoValue};
-ghost use Rattle.pb_file.specs.Block.{IsPieceOf};
+ghost use Rattle.pb_file.specs.Block.{IsWindowOf};
 ghost use Rattle.pb_file.specs.Walk.{Front, HasWalked, HoldsSample, HoldsLong, Gives, Walks, Takes, fresh, behind};
 ghost use Rattle.pb_file.specs.Skip.{HasHeader, HasSkipped, GoesOnFrom, BeginsBehind};
 ghost use Rattle.pb_file.specs.declared.search.SearchErr.TheVariants.{ReadFault, Damaged};
 
-use crate::block::{Block, LineRead};
+use crate::block::{Block, BlockLine};
 use crate::search::SearchErr;
 use crate::steps::Steps;
 use arch_time::YearStart;
@@ -62,7 +62,7 @@ pub struct FileWalk {
 impl Model for FileWalk {
     ghost use Rattle.std.specs.Prelude.{◌≤◌};
     ghost use Rattle.std.specs.Option.{option_map};
-    ghost use Rattle.pb_file.specs.Block.{piece_of};
+    ghost use Rattle.pb_file.specs.Block.{window_of};
     ghost use Rattle.pb_file.specs.Walk.{Walk, IsFinal, behind};
 
     ghost Value = { Walk };
@@ -73,7 +73,7 @@ impl Model for FileWalk {
       info = option_map (λ h. h.info) w.header;
       earliest = behind w.last;
       stop = w.stop;
-      piece = piece_of w.block;
+      window = window_of w.block;
     } };
 
     ghost invariant = { λ w. (w.place ≤ w.block.len) × IsFinal w.stop };
@@ -171,10 +171,10 @@ impl FileWalk {
             return Walked::End;
         }
         match self.block.read_line(file, self.place, line, steps) {
-            LineRead::Line => self.take(line),
-            LineRead::Torn => self.refuse(),
-            LineRead::ReadFault => Walked::ReadFault,
-            LineRead::Memory => Walked::Memory,
+            BlockLine::Line => self.take(line),
+            BlockLine::Torn => self.refuse(),
+            BlockLine::ReadFault => Walked::ReadFault,
+            BlockLine::Memory => Walked::Memory,
         }
     }
 
@@ -256,11 +256,11 @@ impl FileWalk {
         requires within { place < self.old.len }
         requires file { IsTrue H.tells → self.old.len ≤ length (H.bytes file.old) }
         ensures behind { IfOk result (λ at. (place < at) × (at ≤ self.old.len)) }
-        ensures line { IsTrue H.tells → IsPieceOf self.old.piece (H.bytes file.old)
+        ensures line { IsTrue H.tells → IsWindowOf self.old.window (H.bytes file.old)
             → IfOk result (BeginsBehind (take self.old.len (H.bytes file.old)) place) }
-        ensures piece { IsTrue H.tells → IsPieceOf self.old.piece (H.bytes file.old)
-            → IsPieceOf self.new.piece (H.bytes file.old) }
-        ensures walk { self.new ≡ record self.old { piece = self.new.piece } }
+        ensures window { IsTrue H.tells → IsWindowOf self.old.window (H.bytes file.old)
+            → IsWindowOf self.new.window (H.bytes file.old) }
+        ensures walk { self.new ≡ record self.old { window = self.new.window } }
         ensures never { (at : ℕ) → result ≡ Err (Damaged at) → ⊥ }
         ensures same { IsTrue H.tells → H.bytes file.new ≡ H.bytes file.old }
         ensures faults { H.faults file.old ≤ H.faults file.new }
@@ -268,10 +268,10 @@ impl FileWalk {
         ensures step { steps.new ≡ steps.old + 1 }
     {
         match self.block.read_line(file, place, line, steps) {
-            LineRead::Line => return Ok(place + line.len() as u64 + 1),
-            LineRead::Torn => return Ok(self.block.len),
-            LineRead::ReadFault => return Err(SearchErr::ReadFault),
-            LineRead::Memory => return Err(SearchErr::Memory),
+            BlockLine::Line => return Ok(place + line.len() as u64 + 1),
+            BlockLine::Torn => return Ok(self.block.len),
+            BlockLine::ReadFault => return Err(SearchErr::ReadFault),
+            BlockLine::Memory => return Err(SearchErr::Memory),
         }
     }
 

@@ -3,7 +3,7 @@ use Rattle.std.proofs.Common.{◌≡◌, ℕ, ◌+◌, ◌-◌, ◌*◌, ◌<◌
 use Rattle.std.specs.Prelude.{◌^◌, IfSome, IfNone, IsSome, IsTrue, is_some, if◌then◌else◌}
 use Rattle.std.specs.Io.KnownBytes.{Keeps, IsAtEnd, prepend_known}
 use Rattle.std.proofs.lemmas.List.{length-append}
-use Rattle.edge_io.specs.Lines.{Reader, Stays, Reads, ahead}
+use Rattle.edge_io.specs.Lines.{LineReader, Stays, Reads, ahead}
 use Rattle.edge_io.specs.declared.lines.LineRead.{LineRead}
 use Rattle.edge_io.specs.declared.lines.LineRead.TheVariants.{Line, End, Torn, TooLong, InputTooLong, SourceFault, Memory}
 use Rattle.pb_messages.specs.declared.info.PayloadInfo.{PayloadInfo}
@@ -19,16 +19,16 @@ use Rattle.pb_lines.proofs.Passing.{nothing_read}
 -- THE LINE AT THE FRONT
 
 -- a line in front of a stream
-line_cut : (r : Reader) (ys : List ℕ) (lines : List (List ℕ)) (ending : LineRead) → HasLine r → IsLines r.passed ys lines ending → IsLines (r.passed - (length r.line + 1)) (r.line ++ 10 ∷ ys) (r.line ∷ lines) ending
+line_cut : (r : LineReader) (ys : List ℕ) (lines : List (List ℕ)) (ending : LineRead) → HasLine r → IsLines r.passed ys lines ending → IsLines (r.passed - (length r.line + 1)) (r.line ++ 10 ∷ ys) (r.line ∷ lines) ending
 line_cut r ys lines ending has cut =
     let same : r.passed ≡ r.passed - (length r.line + 1) + length r.line + 1 = omega (arith, has.room) in
     let P : ℕ → Type 0 = λ p. IsLines p ys lines ending in
     (ys, refl, has.whole, has.short, omega (arith, has.room, has.bound), subst P same cut)
 
-count_up : (r : Reader) → HasLine r → r.number - 1 + 1 ≡ r.number
+count_up : (r : LineReader) → HasLine r → r.number - 1 + 1 ≡ r.number
 count_up r has = omega (arith, has.number)
 
-skipped : (s : Section) (r : Reader) (ys : List ℕ) (rest : List Item) (stop : Stop) → HasLine r → Skips s r.line → IsStream s r.number r.passed ys rest stop → IsStream s (r.number - 1) (r.passed - (length r.line + 1)) (r.line ++ 10 ∷ ys) rest stop
+skipped : (s : Section) (r : LineReader) (ys : List ℕ) (rest : List Item) (stop : Stop) → HasLine r → Skips s r.line → IsStream s r.number r.passed ys rest stop → IsStream s (r.number - 1) (r.passed - (length r.line + 1)) (r.line ++ 10 ∷ ys) rest stop
 skipped s r ys rest stop has skips h =
     record {
       lines = r.line ∷ h.lines;
@@ -37,7 +37,7 @@ skipped s r ys rest stop has skips h =
       read = inl (skips, rw (count_up r has) h.read);
     }
 
-given : (s behind : Section) (r : Reader) (ys : List ℕ) (item : Item) (rest : List Item) (stop : Stop) → HasLine r → Gives s r.line item behind → IsStream behind r.number r.passed ys rest stop → IsStream s (r.number - 1) (r.passed - (length r.line + 1)) (r.line ++ 10 ∷ ys) (item ∷ rest) stop
+given : (s behind : Section) (r : LineReader) (ys : List ℕ) (item : Item) (rest : List Item) (stop : Stop) → HasLine r → Gives s r.line item behind → IsStream behind r.number r.passed ys rest stop → IsStream s (r.number - 1) (r.passed - (length r.line + 1)) (r.line ++ 10 ∷ ys) (item ∷ rest) stop
 given s behind r ys item rest stop has gives h =
     record {
       lines = r.line ∷ h.lines;
@@ -46,7 +46,7 @@ given s behind r ys item rest stop has gives h =
       read = inr (inl (item, behind, rest, gives, refl, rw (count_up r has) h.read));
     }
 
-failed : (s : Section) (r : Reader) (ys : List ℕ) (f : ChunkFault) → HasLine r → Fails s r.line f → IsStream s (r.number - 1) (r.passed - (length r.line + 1)) (r.line ++ 10 ∷ ys) [] (Some (r.number, f))
+failed : (s : Section) (r : LineReader) (ys : List ℕ) (f : ChunkFault) → HasLine r → Fails s r.line f → IsStream s (r.number - 1) (r.passed - (length r.line + 1)) (r.line ++ 10 ∷ ys) [] (Some (r.number, f))
 failed s r ys f has fails =
     let behind = cut_of r.passed ys in
     record {
@@ -57,19 +57,19 @@ failed s r ys f has fails =
     }
 
 -- Told bytes behind a line, and the line in front of them.
-passes_line : (old new : Chunks) (r : Reader) (left : Option (List ℕ)) (items : List Item) → ((ys : List ℕ) (rest : List Item) (stop : Stop) → Holds new ys rest stop → Holds old (r.line ++ 10 ∷ ys) (items ++ rest) stop) → Passes old new (prepend_known (r.line ++ 10 ∷ []) left) left items
+passes_line : (old new : Chunks) (r : LineReader) (left : Option (List ℕ)) (items : List Item) → ((ys : List ℕ) (rest : List Item) (stop : Stop) → Holds new ys rest stop → Holds old (r.line ++ 10 ∷ ys) (items ++ rest) stop) → Passes old new (prepend_known (r.line ++ 10 ∷ []) left) left items
 passes_line old new r None items h = tt
 passes_line old new r (Some ys) items h = λ rest stop k. rw (append_assoc r.line (10 ∷ []) ys) (h ys rest stop k)
 
-stops_line : (old : Chunks) (r : Reader) (left : Option (List ℕ)) (stop : Stop) → ((ys : List ℕ) → Holds old (r.line ++ 10 ∷ ys) [] stop) → Stops old (prepend_known (r.line ++ 10 ∷ []) left) stop
+stops_line : (old : Chunks) (r : LineReader) (left : Option (List ℕ)) (stop : Stop) → ((ys : List ℕ) → Holds old (r.line ++ 10 ∷ ys) [] stop) → Stops old (prepend_known (r.line ++ 10 ∷ []) left) stop
 stops_line old r None stop h = tt
 stops_line old r (Some ys) stop h = rw (append_assoc r.line (10 ∷ []) ys) (h ys)
 
 -- a reader whose last line is to be taken, and what it is behind it
-abbrev pub before_line : Reader → Section → Chunks
+abbrev pub before_line : LineReader → Section → Chunks
 before_line r s = record { lines = r; pending = true; section = s; refused = None }
 
-abbrev pub behind_line : Reader → Section → Option ChunkFault → Chunks
+abbrev pub behind_line : LineReader → Section → Option ChunkFault → Chunks
 behind_line r s refused = record { lines = r; pending = false; section = s; refused = refused }
 
 taken_falls : (p n : ℕ) (a b : ℕ) → n + 1 ≤ p → p ≤ 2 ^ 40 → b ≤ 1 → 2 * (2 ^ 40 - p) + b < 2 * (2 ^ 40 - (p - (n + 1))) + a
@@ -80,7 +80,7 @@ at_most_one true = omega arith
 at_most_one false = omega arith
 
 -- a bad line's number is that of the line
-fails_number : (f : ChunkFault) (r : Reader) (s : Section) (left : Option (List ℕ)) → HasLine r → Fails s r.line f → Stops (before_line r s) (to_come (before_line r s) left) (Some (line_number (behind_line r s (Some f)), f))
+fails_number : (f : ChunkFault) (r : LineReader) (s : Section) (left : Option (List ℕ)) → HasLine r → Fails s r.line f → Stops (before_line r s) (to_come (before_line r s) left) (Some (line_number (behind_line r s (Some f)), f))
 fails_number (fault.BadHeader h) r s left has fails = stops_line (before_line r s) r (ahead r left) (Some (r.number, fault.BadHeader h)) (λ ys. failed s r ys (fault.BadHeader h) has fails)
 fails_number (fault.BadLine l) r s left has fails = stops_line (before_line r s) r (ahead r left) (Some (r.number, fault.BadLine l)) (λ ys. failed s r ys (fault.BadLine l) has fails)
 fails_number fault.NoHeader r s left has fails = absurd fails
@@ -93,7 +93,7 @@ is_some_by (Some i) info h = refl
 is_some_by None info h = cc
 
 -- what the line that is to be taken comes to, by what is still to come
-takes_before : (r : Reader) (s : Section) (new : Chunks) (left : Option (List ℕ)) (o : Option ChunkItem) → HasLine r → TakesLine (before_line r s) new o → ReadsLine (before_line r s) new (to_come (before_line r s) left) (to_come new left) o
+takes_before : (r : LineReader) (s : Section) (new : Chunks) (left : Option (List ℕ)) (o : Option ChunkItem) → HasLine r → TakesLine (before_line r s) new o → ReadsLine (before_line r s) new (to_come (before_line r s) left) (to_come new left) o
 takes_before r s new left None has h =
     let old = before_line r s in
     let P : Chunks → Type 0 = λ n. ReadsLine old n (to_come old left) (to_come n left) None in
@@ -155,7 +155,7 @@ some_of (Some info) h = (info, refl)
 some_of None h = cc
 
 -- the chunk that the end of the stream ends
-last_chunk : (s : Section) (l l' : Reader) (xs ys : List ℕ) → IsSome s.chunk → l'.number ≡ l.number → l'.passed ≡ l.passed → ys ≡ xs → xs ≡ [] → l.passed < 2 ^ 40 → (rest : List Item) (stop : Stop) → IsStream between l'.number l'.passed ys rest stop → IsStream s l.number l.passed xs (chunk_end ∷ rest) stop
+last_chunk : (s : Section) (l l' : LineReader) (xs ys : List ℕ) → IsSome s.chunk → l'.number ≡ l.number → l'.passed ≡ l.passed → ys ≡ xs → xs ≡ [] → l.passed < 2 ^ 40 → (rest : List Item) (stop : Stop) → IsStream between l'.number l'.passed ys rest stop → IsStream s l.number l.passed xs (chunk_end ∷ rest) stop
 last_chunk s l l' xs ys inside number passed same empty room rest stop h =
     let none = nothing_more between l'.number l'.passed ys rest stop refl (same ∙ empty) (omega (arith, passed)) h in
     let info = some_of s.chunk inside in
@@ -166,16 +166,16 @@ last_chunk s l l' xs ys inside number passed same empty room rest stop h =
       read = inl (info.0, info.1, ap (λ (items : List Item). chunk_end ∷ items) none.0, none.1);
     }
 
-passes_last : (s : Section) (l l' : Reader) (before after : Option (List ℕ)) → IsSome s.chunk → l'.number ≡ l.number → l'.passed ≡ l.passed → Keeps before after → IsAtEnd before → l.passed < 2 ^ 40 → Passes (behind_line l s None) (behind_line l' between None) before after (chunk_end ∷ [])
+passes_last : (s : Section) (l l' : LineReader) (before after : Option (List ℕ)) → IsSome s.chunk → l'.number ≡ l.number → l'.passed ≡ l.passed → Keeps before after → IsAtEnd before → l.passed < 2 ^ 40 → Passes (behind_line l s None) (behind_line l' between None) before after (chunk_end ∷ [])
 passes_last s l l' None after inside number passed kept empty room = tt
 passes_last s l l' (Some xs) None inside number passed kept empty room = kept
 passes_last s l l' (Some xs) (Some ys) inside number passed kept empty room = last_chunk s l l' xs ys inside number passed kept empty room
 
-stops_at_end : (s : Section) (l : Reader) (before : Option (List ℕ)) (stop : Stop) → s.chunk ≡ None → IsAtEnd before → l.passed < 2 ^ 40 → stop ≡ (if s.begun then None else Some (l.number + 1, fault.NoHeader)) → Stops (behind_line l s None) before stop
+stops_at_end : (s : Section) (l : LineReader) (before : Option (List ℕ)) (stop : Stop) → s.chunk ≡ None → IsAtEnd before → l.passed < 2 ^ 40 → stop ≡ (if s.begun then None else Some (l.number + 1, fault.NoHeader)) → Stops (behind_line l s None) before stop
 stops_at_end s l None stop outside empty room is = tt
 stops_at_end s l (Some xs) stop outside empty room is = record { lines = []; ending = End; cut = (empty, room); read = inr (outside, refl, is) }
 
-passes_kept : (s : Section) (l l' : Reader) (before after : Option (List ℕ)) → l'.number ≡ l.number → l'.passed ≡ l.passed → Keeps before after → Passes (behind_line l s None) (behind_line l' s None) before after []
+passes_kept : (s : Section) (l l' : LineReader) (before after : Option (List ℕ)) → l'.number ≡ l.number → l'.passed ≡ l.passed → Keeps before after → Passes (behind_line l s None) (behind_line l' s None) before after []
 passes_kept s l l' None after number passed kept = tt
 passes_kept s l l' (Some xs) None number passed kept = kept
 passes_kept s l l' (Some xs) (Some ys) number passed kept = λ rest stop h.
@@ -186,7 +186,7 @@ chunk_falls : (o : Option PayloadInfo) (p p' : ℕ) → IsSome o → p' ≡ p �
 chunk_falls (Some info) p p' h same = omega (arith, same)
 chunk_falls None p p' h same = cc
 
-ends_behind : (s : Section) (l l' : Reader) (new : Chunks) (left after : Option (List ℕ)) (r : ChunkItem) → Stays l l' → Keeps (ahead l left) (ahead l' after) → IsAtEnd (ahead l left) → l.passed < 2 ^ 40 → EndsStream (behind_line l' s None) new r → ReadsItem (behind_line l s None) new (ahead l left) (to_come new after) r
+ends_behind : (s : Section) (l l' : LineReader) (new : Chunks) (left after : Option (List ℕ)) (r : ChunkItem) → Stays l l' → Keeps (ahead l left) (ahead l' after) → IsAtEnd (ahead l left) → l.passed < 2 ^ 40 → EndsStream (behind_line l' s None) new r → ReadsItem (behind_line l s None) new (ahead l left) (to_come new after) r
 ends_behind s l l' new left after it.ChunkEnd stays kept empty room h =
     let P : Chunks → Type 0 = λ n. ReadsItem (behind_line l s None) n (ahead l left) (to_come n after) it.ChunkEnd in
     subst P (sym h.1) (refl, passes_last s l l' (ahead l left) (ahead l' after) h.0 stays.number stays.passed kept empty room, refl, chunk_falls s.chunk l.passed l'.passed h.0 stays.passed, h.0)
@@ -213,19 +213,19 @@ behind_is old idle going =
     ∙ ap (λ (f : Option ChunkFault). record { lines = old.lines; pending = false; section = old.section; refused = f }) going
 
 -- what the end of the source comes to
-pub ends_reads : (old new : Chunks) (l : Reader) (left after : Option (List ℕ)) (r : ChunkItem) → old.pending ≡ false → old.refused ≡ None → Stays old.lines l → Keeps (ahead old.lines left) (ahead l after) → IsAtEnd (ahead old.lines left) → old.lines.passed < 2 ^ 40 → EndsStream (record old { lines = l }) new r → ReadsItem old new (to_come old left) (to_come new after) r
+pub ends_reads : (old new : Chunks) (l : LineReader) (left after : Option (List ℕ)) (r : ChunkItem) → old.pending ≡ false → old.refused ≡ None → Stays old.lines l → Keeps (ahead old.lines left) (ahead l after) → IsAtEnd (ahead old.lines left) → old.lines.passed < 2 ^ 40 → EndsStream (record old { lines = l }) new r → ReadsItem old new (to_come old left) (to_come new after) r
 ends_reads old new l left after r idle going stays kept empty room h =
     let is = behind_is old idle going in
     let P : Chunks → Type 0 = λ c. ReadsItem c new (to_come c left) (to_come new after) r in
     let T : Chunks → Type 0 = λ c. EndsStream (record c { lines = l }) new r in
     subst P (sym is) (ends_behind old.section old.lines l new left after r stays kept empty room (subst T is h))
 
-ending_stops : (s : Section) (l : Reader) (before : Option (List ℕ)) (ending : LineRead) (stop : Stop) → IfSome before (λ xs. IsEnding l.passed xs ending) → Ends s l.number ending [] stop → Stops (behind_line l s None) before stop
+ending_stops : (s : Section) (l : LineReader) (before : Option (List ℕ)) (ending : LineRead) (stop : Stop) → IfSome before (λ xs. IsEnding l.passed xs ending) → Ends s l.number ending [] stop → Stops (behind_line l s None) before stop
 ending_stops s l None ending stop cut read = tt
 ending_stops s l (Some xs) ending stop cut read = record { lines = []; ending = ending; cut = cut; read = read }
 
 -- what an ending that is refused comes to
-pub refused_reads : (old : Chunks) (l : Reader) (left after : Option (List ℕ)) (ending : LineRead) (f : ChunkFault) → old.pending ≡ false → old.refused ≡ None → IfSome (ahead old.lines left) (λ xs. IsEnding old.lines.passed xs ending) → Ends old.section old.lines.number ending [] (Some (old.lines.number + 1, f)) → line_number (record old { lines = l; refused = Some f }) ≡ old.lines.number + 1 → ReadsItem old (record old { lines = l; refused = Some f }) (to_come old left) after (it.Refused f)
+pub refused_reads : (old : Chunks) (l : LineReader) (left after : Option (List ℕ)) (ending : LineRead) (f : ChunkFault) → old.pending ≡ false → old.refused ≡ None → IfSome (ahead old.lines left) (λ xs. IsEnding old.lines.passed xs ending) → Ends old.section old.lines.number ending [] (Some (old.lines.number + 1, f)) → line_number (record old { lines = l; refused = Some f }) ≡ old.lines.number + 1 → ReadsItem old (record old { lines = l; refused = Some f }) (to_come old left) after (it.Refused f)
 refused_reads old l left after ending f idle going cut read number =
     let is = behind_is old idle going in
     let stop = ap (λ (n : ℕ). Some (n, f)) (sym number) in
@@ -241,7 +241,7 @@ IsStop InputTooLong fault.InputTooLong = Unit {0}
 IsStop _ _ = ⊥
 
 -- what such an ending comes to
-pub stop_reads : (old new : Chunks) (l : Reader) (left after : Option (List ℕ)) (ending : LineRead) (f : ChunkFault) → IsStop ending f → new ≡ record old { lines = l; refused = Some f } → old.pending ≡ false → old.refused ≡ None → Reads old.lines l (ahead old.lines left) (ahead l after) ending → ReadsItem old new (to_come old left) (to_come new after) (it.Refused f)
+pub stop_reads : (old new : Chunks) (l : LineReader) (left after : Option (List ℕ)) (ending : LineRead) (f : ChunkFault) → IsStop ending f → new ≡ record old { lines = l; refused = Some f } → old.pending ≡ false → old.refused ≡ None → Reads old.lines l (ahead old.lines left) (ahead l after) ending → ReadsItem old new (to_come old left) (to_come new after) (it.Refused f)
 stop_reads old new l left after Torn fault.Torn is made idle going h =
     subst (λ (n : Chunks). ReadsItem old n (to_come old left) (to_come n after) (it.Refused fault.Torn)) (sym made) (refused_reads old l left after Torn fault.Torn idle going h.3 (refl, refl) (ap (λ (n : ℕ). n + 1) h.0.number))
 stop_reads old new l left after TooLong fault.LineTooLong is made idle going h =
@@ -252,10 +252,10 @@ stop_reads old new l left after ending f is made idle going h = absurd is
 
 -- HOW MANY LINES ARE TAKEN
 
-one_taken : (r : Reader) (s : Section) (refused : Option ChunkFault) → HasLine r → TakesOne (r.number - 1) (r.passed - (length r.line + 1)) (behind_line r s refused)
+one_taken : (r : LineReader) (s : Section) (refused : Option ChunkFault) → HasLine r → TakesOne (r.number - 1) (r.passed - (length r.line + 1)) (behind_line r s refused)
 one_taken r s refused has = record { lines = sym (count_up r has); bytes = omega (arith, has.room); number = sym (count_up r has) }
 
-counts_before : (r : Reader) (s : Section) (new : Chunks) (o : Option ChunkItem) → HasLine r → TakesLine (before_line r s) new o → Counts (r.number - 1) (r.passed - (length r.line + 1)) new o
+counts_before : (r : LineReader) (s : Section) (new : Chunks) (o : Option ChunkItem) → HasLine r → TakesLine (before_line r s) new o → Counts (r.number - 1) (r.passed - (length r.line + 1)) new o
 counts_before r s new None has h = subst (λ (n : Chunks). Counts (r.number - 1) (r.passed - (length r.line + 1)) n None) (sym h.1) (one_taken r s None has, h.0.1)
 counts_before r s new (Some it.Header) has h = subst (λ (n : Chunks). TakesOne (r.number - 1) (r.passed - (length r.line + 1)) n) (sym h.2) (one_taken r (within h.0) None has)
 counts_before r s new (Some (it.Sample t)) has h = subst (λ (n : Chunks). TakesOne (r.number - 1) (r.passed - (length r.line + 1)) n) (sym h.1) (one_taken r s None has)
@@ -280,17 +280,17 @@ line_counts old mid new before middle o f h =
     let same : (lines_taken old ≡ mid.lines.number - 1) × (bytes_taken old ≡ mid.lines.passed - (length mid.lines.line + 1)) = (sym f.lines ∙ ap lines_taken is, sym f.bytes ∙ ap bytes_taken is) in
     rw (same.0, same.1) taken
 
-pub none_taken : (old new : Chunks) (l : Reader) → old.pending ≡ false → Stays old.lines l → new.pending ≡ false → new.lines ≡ l → TakesNone (lines_taken old) (bytes_taken old) new
+pub none_taken : (old new : Chunks) (l : LineReader) → old.pending ≡ false → Stays old.lines l → new.pending ≡ false → new.lines ≡ l → TakesNone (lines_taken old) (bytes_taken old) new
 none_taken old new l idle stays still is = rw (idle, still, is) (record { lines = stays.number; bytes = stays.passed })
 
 -- the end of the stream, and an ending at which it is refused, take no line
-pub end_counts : (old new : Chunks) (l : Reader) (r : ChunkItem) → old.pending ≡ false → Stays old.lines l → EndsStream (record old { lines = l }) new r → Counts (lines_taken old) (bytes_taken old) new (Some r)
+pub end_counts : (old new : Chunks) (l : LineReader) (r : ChunkItem) → old.pending ≡ false → Stays old.lines l → EndsStream (record old { lines = l }) new r → Counts (lines_taken old) (bytes_taken old) new (Some r)
 end_counts old new l it.ChunkEnd idle stays h = inl (none_taken old new l idle stays (ap (λ (c : Chunks). c.pending) h.1 ∙ idle) (ap (λ (c : Chunks). c.lines) h.1))
 end_counts old new l it.End idle stays h = none_taken old new l idle stays (ap (λ (c : Chunks). c.pending) h.2 ∙ idle) (ap (λ (c : Chunks). c.lines) h.2)
 end_counts old new l (it.Refused fault.NoHeader) idle stays h = none_taken old new l idle stays (ap (λ (c : Chunks). c.pending) h.2 ∙ idle) (ap (λ (c : Chunks). c.lines) h.2)
 end_counts old new l r idle stays h = absurd h
 
-pub stop_counts : (old new : Chunks) (l : Reader) (ending : LineRead) (f : ChunkFault) → IsStop ending f → new ≡ record old { lines = l; refused = Some f } → old.pending ≡ false → Stays old.lines l → Counts (lines_taken old) (bytes_taken old) new (Some (it.Refused f))
+pub stop_counts : (old new : Chunks) (l : LineReader) (ending : LineRead) (f : ChunkFault) → IsStop ending f → new ≡ record old { lines = l; refused = Some f } → old.pending ≡ false → Stays old.lines l → Counts (lines_taken old) (bytes_taken old) new (Some (it.Refused f))
 stop_counts old new l Torn fault.Torn is made idle stays = none_taken old new l idle stays (ap (λ (c : Chunks). c.pending) made ∙ idle) (ap (λ (c : Chunks). c.lines) made)
 stop_counts old new l TooLong fault.LineTooLong is made idle stays = none_taken old new l idle stays (ap (λ (c : Chunks). c.pending) made ∙ idle) (ap (λ (c : Chunks). c.lines) made)
 stop_counts old new l InputTooLong fault.InputTooLong is made idle stays = none_taken old new l idle stays (ap (λ (c : Chunks). c.pending) made ∙ idle) (ap (λ (c : Chunks). c.lines) made)

@@ -2,7 +2,7 @@
 use Rattle.std.proofs.Common.{◌≡◌, ℕ, ℤ, ◌+◌, ◌-◌, ◌<◌, ◌≤◌, ◌⊎◌, inl, inr, List, [], ◌∷◌, ◌++◌, Option, Some, None, false, length, take, drop, get_or, map, arith, refl, sym, ap, ◌∙◌, subst, append_assoc}
 use Rattle.std.specs.Prelude.{◌^◌, IfSome, is_some}
 use Rattle.std.proofs.lemmas.List.{length-append, length-take-le, take-append-drop, take_at, drop_at, drop-drop, get_or_at}
-use Rattle.edge_io.specs.Lines.{Reader, ahead}
+use Rattle.edge_io.specs.Lines.{LineReader, ahead}
 use Rattle.edge_io.proofs.Ahead.{line_is}
 use Rattle.pb_wire.specs.declared.payload.PayloadType.{PayloadType}
 use Rattle.series_model.specs.declared.sample.Sample.{Sample}
@@ -165,7 +165,7 @@ passes_run old new after to run h taken idle bound left =
     subst Q (sym (to_come_idle new left idle)) (subst P (sym (to_come_idle old left h.idle)) (passes_ahead old new h.info xs run.len run.count left h.inside h.is.are held taken.section taken.lines taken.bytes h.is.count long bound))
 
 -- what was taken, by the reader of lines
-pub taken : (old new : Chunks) (l : Reader) (run : Run) → new ≡ record old { lines = l } → old.pending ≡ false → l.held ≡ drop run.len old.lines.held → l.number ≡ old.lines.number + run.count → l.passed ≡ old.lines.passed + run.len → l.passed ≤ 2 ^ 40 → 0 < run.len → TakesRun old new run
+pub taken : (old new : Chunks) (l : LineReader) (run : Run) → new ≡ record old { lines = l } → old.pending ≡ false → l.held ≡ drop run.len old.lines.held → l.number ≡ old.lines.number + run.count → l.passed ≡ old.lines.passed + run.len → l.passed ≤ 2 ^ 40 → 0 < run.len → TakesRun old new run
 taken old new l run is idle held number passed bound some =
     let P : Chunks → Type 0 = λ n. TakesRun old n run in
     let lines : lines_taken (record old { lines = l }) ≡ lines_taken old + run.count = rw idle number in

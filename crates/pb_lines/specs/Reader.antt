@@ -1,7 +1,7 @@
 -- A reader of chunk streams, and what each of its calls comes to.
 use Rattle.std.specs.Prelude.{◌≡◌, ◌≢◌, ◌⊎◌, ℕ, ◌+◌, ◌*◌, ◌-◌, ◌<◌, ◌≤◌, List, [], ◌∷◌, ◌++◌, All, Option, Some, None, IfSome, IsSome, IsTrue, Bool, true, false, length, is_some, if◌then◌else◌}
 use Rattle.std.specs.Io.KnownBytes.{Keeps, prepend_known}
-use Rattle.edge_io.specs.Lines.{Reader, HoldsAnswer, ahead, max_input, max_line}
+use Rattle.edge_io.specs.Lines.{LineReader, HoldsAnswer, ahead, max_input, max_line}
 use Rattle.line_escape.specs.Unescaping.{HasNoNewline}
 use Rattle.pb_messages.specs.declared.info.PayloadInfo.{PayloadInfo}
 use Rattle.pb_lines.specs.declared.fault.ChunkFault.{ChunkFault}
@@ -14,7 +14,7 @@ use Rattle.pb_lines.specs.Stream.{Item, header, sample, chunk_end, Section, Stop
 
 -- The reader of lines below, whether its last line is still to be taken, where that line or the next stands, and the refusal for good.
 pub record Chunks : Type 0 where
-  pub lines : Reader
+  pub lines : LineReader
   pub pending : Bool
   pub section : Section
   pub refused : Option ChunkFault
@@ -122,7 +122,7 @@ abbrev pub HoldsLine : Chunks → Type 0
 HoldsLine c = IsSome c.refused ⊎ (IsTrue c.pending ⊎ HoldsAnswer c.lines)
 
 -- The last line of a reader was just given.
-pub record HasLine (r : Reader) : Type 0 where
+pub record HasLine (r : LineReader) : Type 0 where
   pub whole : All (λ x. x ≢ 10) r.line
   pub short : length r.line ≤ max_line
   pub number : 1 ≤ r.number
@@ -130,7 +130,7 @@ pub record HasLine (r : Reader) : Type 0 where
   pub bound : r.passed ≤ max_input
 
 -- A reader that isn't refused goes on, and a line that is to be taken is the last one.
-pub record IsReady (r : Reader) (pending : Bool) (refused : Option ChunkFault) : Type 0 where
+pub record IsReady (r : LineReader) (pending : Bool) (refused : Option ChunkFault) : Type 0 where
   pub goes_on : refused ≡ None → r.stop ≡ None
   pub line : IsTrue pending → HasLine r
 

@@ -1,14 +1,14 @@
 -- Elements that are added one after another.
 use Rattle.std.proofs.Common.{◌≡◌, ℕ, List, [], ◌∷◌, ◌++◌, map, refl, sym, ◌∙◌, ap, append_assoc}
 use Rattle.std.proofs.lemmas.List.{append-nil}
-use Rattle.pb_wire.specs.Message.{Value as Element}
+use Rattle.pb_wire.specs.Message.{WireValue}
 use Rattle.pb_messages.specs.declared.value.Value.{Value}
 use Rattle.pb_messages.specs.declared.value.Value.TheVariants.{Str, Short, Float, Enum, Byte, Int, Double, Strs, Shorts, Floats, Enums, Bytes, IntList, Doubles}
 use Rattle.pb_messages.specs.Element.{int_of, bits32_of, bits64_of, bytes_of}
 use Rattle.pb_messages.specs.Adding.{with_elements}
 
 -- one element, and then the others
-pub more_elements : (v : Value) (x : Element) (xs : List Element) → with_elements (with_elements v (x ∷ [])) xs ≡ with_elements v (x ∷ xs)
+pub more_elements : (v : Value) (x : WireValue) (xs : List WireValue) → with_elements (with_elements v (x ∷ [])) xs ≡ with_elements v (x ∷ xs)
 more_elements (Str b) x xs = refl
 more_elements (Short n) x xs = refl
 more_elements (Float n) x xs = refl
@@ -41,7 +41,7 @@ no_elements (IntList ns) = ap IntList (append-nil ns)
 no_elements (Doubles ns) = ap Doubles (append-nil ns)
 
 -- some elements, and then the others
-pub elements_apart : (v : Value) (xs ys : List Element) → with_elements (with_elements v xs) ys ≡ with_elements v (xs ++ ys)
+pub elements_apart : (v : Value) (xs ys : List WireValue) → with_elements (with_elements v xs) ys ≡ with_elements v (xs ++ ys)
 elements_apart v [] ys = ap (λ (u : Value). with_elements u ys) (no_elements v)
 elements_apart v (x ∷ xs) ys =
     ap (λ (u : Value). with_elements u ys) (sym (more_elements v x xs)) ∙ elements_apart (with_elements v (x ∷ [])) xs ys ∙ more_elements v x (xs ++ ys)

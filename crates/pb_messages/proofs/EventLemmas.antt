@@ -11,7 +11,7 @@ use Rattle.pb_messages.specs.Layout.{layout_of}
 use Rattle.series_model.proofs.PairLists.{joined_some}
 use Rattle.pb_messages.specs.Reading.{seen, no_members, with_fields}
 use Rattle.pb_wire.specs.declared.payload.PayloadType.TheVariants.{ScalarString, ScalarShort, ScalarFloat, ScalarEnum, ScalarByte, ScalarInt, ScalarDouble, WaveformString, WaveformShort, WaveformFloat, WaveformEnum, WaveformByte, WaveformInt, WaveformDouble}
-use Rattle.pb_wire.specs.Message.{Value as Element}
+use Rattle.pb_wire.specs.Message.{WireValue}
 use Rattle.pb_messages.specs.Adding.{blank, with_elements}
 use Rattle.pb_wire.specs.Reading.{◌>>=◌}
 use Rattle.pb_messages.specs.Event.{elements_of, value_of, Members, members_of, fault_in, has_val, val_of, pairs_of, event_with, event_of, stamp_of, stamp_with}
@@ -47,7 +47,7 @@ unfolding stamp_of event_of
 stamp_fault ty bytes fault e = rw e refl
 
 -- elements that are added to no elements make the value
-value_made : (ty : PayloadType) (es : List Element) → with_elements (blank ty) es ≡ value_of ty es
+value_made : (ty : PayloadType) (es : List WireValue) → with_elements (blank ty) es ≡ value_of ty es
 value_made ScalarString es = refl
 value_made ScalarShort es = refl
 value_made ScalarFloat es = refl

@@ -9,7 +9,7 @@ use Rattle.std.proofs.lemmas.Int.{ints}
 use Rattle.pb_wire.specs.declared.payload.PayloadType.{PayloadType}
 use Rattle.pb_wire.specs.declared.payload.PayloadType.TheVariants.{ScalarString, ScalarShort, ScalarFloat, ScalarEnum, ScalarByte, ScalarInt, ScalarDouble, WaveformString, WaveformShort, WaveformFloat, WaveformEnum, WaveformByte, WaveformInt, WaveformDouble}
 use Rattle.pb_wire.specs.Payload.{row_of}
-use Rattle.pb_wire.specs.Message.{Entry}
+use Rattle.pb_wire.specs.Message.{WireField}
 use Rattle.pb_wire.specs.Cursor.{Placed}
 use Rattle.pb_messages.specs.declared.info.PayloadInfo.{PayloadInfo}
 use Rattle.pb_wire.specs.Fields.{number_in, text_in, last_of, first_of}
@@ -22,7 +22,7 @@ use Rattle.pb_messages.specs.InfoSpelling.{required_fields, info_fields, info_te
 use Rattle.pb_messages.proofs.InfoTypeLemmas.{type_of-number}
 
 -- what the fields behind the required ones say
-record SaysRest (n : Option ℕ) (ps : List (List ℕ × List ℕ)) (items : List (Placed Entry)) : Type 0 where
+record SaysRest (n : Option ℕ) (ps : List (List ℕ × List ℕ)) (items : List (Placed WireField)) : Type 0 where
   sound : first_of fault_in items ≡ None
   ty : filter_map (number_in 1) items ≡ []
   name : filter_map (text_in 2) items ≡ []
@@ -96,10 +96,10 @@ info_with-back info fits =
     let year : in_range (int32_of (sign_extended info.year)) ≡ Ok info.year = ap in_range (int32_back info.year small) ∙ in_range-year info.year low high in
     rw (ty, year, count_back info.count fits.count) refl
 
-info_made : (info : PayloadInfo) (end : ℕ) (rest : List Entry) → FitsInfo info → SaysRest (option_map sign_extended info.count) info.headers (placed end rest) → info_from (placed end (required_fields info ++ rest)) ≡ Ok info
+info_made : (info : PayloadInfo) (end : ℕ) (rest : List WireField) → FitsInfo info → SaysRest (option_map sign_extended info.count) info.headers (placed end rest) → info_from (placed end (required_fields info ++ rest)) ≡ Ok info
 info_made info end rest fits says = rw (says.ty, says.name, says.year, says.count, says.headers) (info_with-back info fits)
 
-info_by : (bytes : List ℕ) (items : List (Placed Entry)) → fields_of bytes (length bytes) ≡ record { items = items; fault = None } → first_of fault_in items ≡ None → info_of bytes ≡ info_from items
+info_by : (bytes : List ℕ) (items : List (Placed WireField)) → fields_of bytes (length bytes) ≡ record { items = items; fault = None } → first_of fault_in items ≡ None → info_of bytes ≡ info_from items
 unfolding info_of
 info_by bytes items e none = rw (e, none) refl
 

@@ -2,7 +2,7 @@
 use Rattle.std.proofs.Common.{◌≡◌, ℕ, ◌||◌, if◌then◌else◌, Bool, true, false, List, Option, Some, None, Result, Ok, length, refl, subst}
 use Rattle.pb_wire.specs.declared.payload.PayloadType.{PayloadType}
 use Rattle.pb_wire.specs.declared.payload.PayloadType.TheVariants.{ScalarString, ScalarShort, ScalarFloat, ScalarEnum, ScalarByte, ScalarInt, ScalarDouble, WaveformString, WaveformShort, WaveformFloat, WaveformEnum, WaveformByte, WaveformInt, WaveformDouble}
-use Rattle.pb_wire.specs.Message.{Value as Element}
+use Rattle.pb_wire.specs.Message.{WireValue}
 use Rattle.pb_wire.specs.declared.fault.FieldFault.{FieldFault}
 use Rattle.pb_messages.specs.declared.event.Event.{Event}
 use Rattle.pb_messages.specs.declared.value.Value.{Value}
@@ -13,7 +13,7 @@ use Rattle.pb_wire.specs.Fields.{unless}
 use Rattle.pb_messages.specs.Event.{Members, members_of, fault_in, has_val, elements_of, value_of, event_with, event_of, IsOfType}
 
 -- whatever its elements, a value is one of its type
-value_kind : (ty : PayloadType) (es : List Element) → IsOfType ty (value_of ty es)
+value_kind : (ty : PayloadType) (es : List WireValue) → IsOfType ty (value_of ty es)
 value_kind ScalarString es = refl
 value_kind ScalarShort es = refl
 value_kind ScalarFloat es = refl

@@ -10,7 +10,7 @@ use Rattle.std.proofs.lemmas.Int.{ints}
 use Rattle.pb_wire.specs.declared.payload.PayloadType.{PayloadType}
 use Rattle.pb_wire.specs.declared.payload.PayloadType.TheVariants.{ScalarString, ScalarShort, ScalarFloat, ScalarEnum, ScalarByte, ScalarInt, ScalarDouble, WaveformString, WaveformShort, WaveformFloat, WaveformEnum, WaveformByte, WaveformInt, WaveformDouble}
 use Rattle.pb_wire.specs.Signed.{zigzag_of}
-use Rattle.pb_wire.specs.Message.{Value as Element, varint, fixed64, blob, fixed32, Entry}
+use Rattle.pb_wire.specs.Message.{WireValue, varint, fixed64, blob, fixed32, WireField}
 use Rattle.pb_wire.specs.Spelling.{FitsValue}
 use Rattle.pb_messages.specs.declared.event.Event.{Event}
 use Rattle.pb_messages.specs.declared.layout.Layout.{Layout}
@@ -40,12 +40,12 @@ use Rattle.pb_messages.proofs.WrittenValues.{zigzag_back, sfixed_back, packed_va
 -- val of an event: it acts on the members, and on those of no fields it leaves the value
 record ActsAsVal (ty : PayloadType) (v : Value) : Type 0 where
   flag : Bool → Bool
-  elements : List Element
+  elements : List WireValue
   acts : Acts (layout_of ty) (val_fields v) (λ m. record m { val = flag m.val; value = with_elements m.value elements })
   there : flag (layout_of ty).repeated ≡ true
   value : with_elements (blank ty) elements ≡ v
 
-one_value : (ty : PayloadType) (v : Value) (e : Element) → val_fields v ≡ record { number = 3; value = e } ∷ [] → ((behind : ℕ) → elements_in (layout_of ty) e behind ≡ record { values = e ∷ []; fault = None }) → with_elements (blank ty) (e ∷ []) ≡ v → ActsAsVal ty v
+one_value : (ty : PayloadType) (v : Value) (e : WireValue) → val_fields v ≡ record { number = 3; value = e } ∷ [] → ((behind : ℕ) → elements_in (layout_of ty) e behind ≡ record { values = e ∷ []; fault = None }) → with_elements (blank ty) (e ∷ []) ≡ v → ActsAsVal ty v
 one_value ty v e fields read value = record {
   flag = λ b. true;
   elements = e ∷ [];
@@ -64,7 +64,7 @@ unfolding flag_of
 flag_of-true [] = refl
 flag_of-true (x ∷ xs) = refl
 
-packed_acts : {A : Type 0} (layout : Layout) (spell : A → List ℕ) (mean : List A → List Element) → mean [] ≡ [] → (xs : List A) → ((behind : ℕ) → elements_in layout (blob (flat_map spell xs)) behind ≡ record { values = mean xs; fault = None })
+packed_acts : {A : Type 0} (layout : Layout) (spell : A → List ℕ) (mean : List A → List WireValue) → mean [] ≡ [] → (xs : List A) → ((behind : ℕ) → elements_in layout (blob (flat_map spell xs)) behind ≡ record { values = mean xs; fault = None })
     → Acts layout (packed_field spell xs) (λ m. record m { val = flag_of xs m.val; value = with_elements m.value (mean xs) })
 unfolding flag_of
 packed_acts layout spell mean none [] read = record {
@@ -73,7 +73,7 @@ packed_acts layout spell mean none [] read = record {
 }
 packed_acts layout spell mean none (x ∷ xs) read = val_acts layout (blob (flat_map spell (x ∷ xs))) (mean (x ∷ xs)) read
 
-packed_value : {A : Type 0} (ty : PayloadType) (v : Value) (spell : A → List ℕ) (mean : List A → List Element) → mean [] ≡ [] → (xs : List A) → val_fields v ≡ packed_field spell xs → (layout_of ty).repeated ≡ true
+packed_value : {A : Type 0} (ty : PayloadType) (v : Value) (spell : A → List ℕ) (mean : List A → List WireValue) → mean [] ≡ [] → (xs : List A) → val_fields v ≡ packed_field spell xs → (layout_of ty).repeated ≡ true
     → ((behind : ℕ) → elements_in (layout_of ty) (blob (flat_map spell xs)) behind ≡ record { values = mean xs; fault = None }) → with_elements (blank ty) (mean xs) ≡ v → ActsAsVal ty v
 packed_value {A} ty v spell mean none xs fields many read value = record {
   flag = flag_of xs;
@@ -162,7 +162,7 @@ zigzag_fits (negsuc n) fits = omega (arith, ints)
 unsigned_fits : (z : ℤ) → FitsSigned w32 z → cast_unsigned w32 z < 2 ^ 32
 unsigned_fits z fits = omega (arith, ints)
 
-one_fits : (k : ℕ) (v : Element) → 1 ≤ k → k ≤ 15 → FitsValue v → AllByRecursion FitsField (record { number = k; value = v } ∷ [])
+one_fits : (k : ℕ) (v : WireValue) → 1 ≤ k → k ≤ 15 → FitsValue v → AllByRecursion FitsField (record { number = k; value = v } ∷ [])
 one_fits k v low high fits = (((low, omega arith), fits), tt)
 
 packed_fits : {A : Type 0} (spell : A → List ℕ) (xs : List A) → length (flat_map spell xs) < 2 ^ 64 → AllByRecursion FitsField (packed_field spell xs)
@@ -222,7 +222,7 @@ event_fits e fits =
     (both_fit (map (pair_field 7) e.fields) (optional_field 8 (option_map bool_number e.actual_change)) (pairs_fit 7 e.fields (omega arith, omega arith) fits.fields) change))
 
 -- what the fields of an event do to the members
-after_event : (Bool → Bool) → List Element → Event → reading.Members → reading.Members
+after_event : (Bool → Bool) → List WireValue → Event → reading.Members → reading.Members
 after_event flag elements e m = record {
   numbers = record {
     secs = Some e.secs;
@@ -279,8 +279,8 @@ event_back ty e is fits =
     let m0 = no_members ty layout.repeated in
     let m = after_event v.flag v.elements e m0 in
     let contents = contents_written end fields (event_fits e fits) in
-    let none : first_of (fault_in layout) (placed end fields) ≡ None = ap (λ (l : List Entry). first_of (fault_in layout) (placed end l)) (sym (append-nil fields)) ∙ a.sound end [] in
-    let made : with_fields layout m0 (placed end fields) ≡ m = ap (λ (l : List Entry). with_fields layout m0 (placed end l)) (sym (append-nil fields)) ∙ a.acts end [] m0 ∙ no_fields layout m in
+    let none : first_of (fault_in layout) (placed end fields) ≡ None = ap (λ (l : List WireField). first_of (fault_in layout) (placed end l)) (sym (append-nil fields)) ∙ a.sound end [] in
+    let made : with_fields layout m0 (placed end fields) ≡ m = ap (λ (l : List WireField). with_fields layout m0 (placed end l)) (sym (append-nil fields)) ∙ a.acts end [] m0 ∙ no_fields layout m in
     let sound : first_fault (fault_in layout) (fields_of text end) ≡ None = rw (contents, none) refl in
-    let whole : m ≡ with_fields layout m0 (fields_of text end).items = sym made ∙ sym (ap (λ (c : Contents Entry). with_fields layout m0 c.items) contents) in
+    let whole : m ≡ with_fields layout m0 (fields_of text end).items = sym made ∙ sym (ap (λ (c : Contents WireField). with_fields layout m0 c.items) contents) in
     event_found ty text m sound whole ∙ ap event_with (seen_written ty e v) ∙ event_made e fits

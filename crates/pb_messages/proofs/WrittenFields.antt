@@ -2,7 +2,7 @@
 use Rattle.std.proofs.Common.{◌≡◌, ℕ, ◌-◌, ◌^◌, ◌<◌, ◌==◌, ◌||◌, Bool, true, false, List, [], ◌∷◌, ◌++◌, length, map, Option, Some, None, refl, sym, ◌∙◌, ap, append_assoc}
 use Rattle.std.specs.Option.{option_or}
 use Rattle.std.proofs.lemmas.List.{append-nil}
-use Rattle.pb_wire.specs.Message.{Value, Entry}
+use Rattle.pb_wire.specs.Message.{WireValue, WireField}
 use Rattle.pb_wire.specs.Cursor.{Placed}
 use Rattle.pb_wire.proofs.PairWritten.{placed, pair_sound, pair_back}
 use Rattle.pb_messages.specs.declared.layout.Layout.{Layout}
@@ -20,24 +20,24 @@ use Rattle.series_model.proofs.PairLists.{joined_assoc, joined_nothing}
 use Rattle.pb_messages.proofs.FieldsLemmas.{or_false, same_members, more_fields}
 
 -- what some fields do to the members that were read before them, whatever follows
-pub record Acts (layout : Layout) (fields : List Entry) (f : Members → Members) : Type 0 where
-  pub sound : (end : ℕ) (rest : List Entry) → first_of (fault_in layout) (placed end (fields ++ rest)) ≡ first_of (fault_in layout) (placed end rest)
-  pub acts : (end : ℕ) (rest : List Entry) (m : Members) → with_fields layout m (placed end (fields ++ rest)) ≡ with_fields layout (f m) (placed end rest)
+pub record Acts (layout : Layout) (fields : List WireField) (f : Members → Members) : Type 0 where
+  pub sound : (end : ℕ) (rest : List WireField) → first_of (fault_in layout) (placed end (fields ++ rest)) ≡ first_of (fault_in layout) (placed end rest)
+  pub acts : (end : ℕ) (rest : List WireField) (m : Members) → with_fields layout m (placed end (fields ++ rest)) ≡ with_fields layout (f m) (placed end rest)
 
 pub acts_none : (layout : Layout) → Acts layout [] (λ m. m)
 acts_none layout = record { sound = λ end rest. refl; acts = λ end rest m. refl }
 
-pub acts_then : (layout : Layout) (xs ys : List Entry) (f g : Members → Members) → Acts layout xs f → Acts layout ys g → Acts layout (xs ++ ys) (λ m. g (f m))
+pub acts_then : (layout : Layout) (xs ys : List WireField) (f g : Members → Members) → Acts layout xs f → Acts layout ys g → Acts layout (xs ++ ys) (λ m. g (f m))
 acts_then layout xs ys f g a b = record {
-  sound = λ end rest. ap (λ (l : List Entry). first_of (fault_in layout) (placed end l)) (append_assoc xs ys rest) ∙ a.sound end (ys ++ rest) ∙ b.sound end rest;
-  acts = λ end rest m. ap (λ (l : List Entry). with_fields layout m (placed end l)) (append_assoc xs ys rest) ∙ a.acts end (ys ++ rest) m ∙ b.acts end rest (f m);
+  sound = λ end rest. ap (λ (l : List WireField). first_of (fault_in layout) (placed end l)) (append_assoc xs ys rest) ∙ a.sound end (ys ++ rest) ∙ b.sound end rest;
+  acts = λ end rest m. ap (λ (l : List WireField). with_fields layout m (placed end l)) (append_assoc xs ys rest) ∙ a.acts end (ys ++ rest) m ∙ b.acts end rest (f m);
 }
 
-acts_one : (layout : Layout) (x : Entry) (f : Members → Members) → ((behind : ℕ) → fault_in layout (record { item = x; behind = behind }) ≡ None) → ((behind : ℕ) (m : Members) → with_fields layout m (record { item = x; behind = behind } ∷ []) ≡ f m) → Acts layout (x ∷ []) f
+acts_one : (layout : Layout) (x : WireField) (f : Members → Members) → ((behind : ℕ) → fault_in layout (record { item = x; behind = behind }) ≡ None) → ((behind : ℕ) (m : Members) → with_fields layout m (record { item = x; behind = behind } ∷ []) ≡ f m) → Acts layout (x ∷ []) f
 acts_one layout x f none one = record {
   sound = λ end rest. rw (none (end - length (message_text rest))) refl;
   acts = λ end rest m.
-      let first : Placed Entry = record { item = x; behind = end - length (message_text rest) } in
+      let first : Placed WireField = record { item = x; behind = end - length (message_text rest) } in
       sym (more_fields layout m first (placed end rest)) ∙ ap (λ (n : Members). with_fields layout n (placed end rest)) (one (end - length (message_text rest)) m);
 }
 
@@ -54,7 +54,7 @@ or_true true = refl
 or_true false = refl
 
 -- a value of val
-pub val_acts : (layout : Layout) (v : Value) (es : List Value) → ((behind : ℕ) → elements_in layout v behind ≡ record { values = es; fault = None }) → Acts layout (record { number = 3; value = v } ∷ []) (λ m. record m { val = true; value = with_elements m.value es })
+pub val_acts : (layout : Layout) (v : WireValue) (es : List WireValue) → ((behind : ℕ) → elements_in layout v behind ≡ record { values = es; fault = None }) → Acts layout (record { number = 3; value = v } ∷ []) (λ m. record m { val = true; value = with_elements m.value es })
 val_acts layout v es read =
     acts_one layout (record { number = 3; value = v }) (λ m. record m { val = true; value = with_elements m.value es })
     (λ behind. ap (λ (e : Elements). e.fault) (read behind))

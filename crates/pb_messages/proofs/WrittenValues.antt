@@ -9,7 +9,7 @@ use Rattle.std.proofs.lemmas.Int.{ints, to_z-of_z}
 use Rattle.std.proofs.lemmas.List.{take_at, drop_at}
 use Rattle.std.proofs.lemmas.Nat.{from_le_bytes-to_le_bytes_4, from_le_bytes-to_le_bytes_8}
 use Rattle.pb_wire.specs.Signed.{zigzag_of}
-use Rattle.pb_wire.specs.Message.{Value as Element, varint, fixed64, blob, fixed32}
+use Rattle.pb_wire.specs.Message.{WireValue, varint, fixed64, blob, fixed32}
 use Rattle.pb_wire.specs.Reading.{varint_at}
 use Rattle.pb_wire.specs.Cursor.{Cursor, contents_of, items_of}
 use Rattle.pb_wire.proofs.SignedLemmas.{unzigzag-zigzag}
@@ -43,7 +43,7 @@ varints_written end (z ∷ zs) fits =
     let read = varint_only end (sint32_text z) rest (zigzag_of z) (varint_written (zigzag_of z) small) in
     let next = next_item varint_at varint_shrinks end (sint32_text z ++ rest) rest (zigzag_of z) read in
     let more = varints_written end zs fits.1 in
-    rw (contents_by varint_at varint_shrinks c (Ok (Some (zigzag_of z, d))) next) (more.0, ap (λ (es : List Element). varint (zigzag_of z) ∷ es) more.1)
+    rw (contents_by varint_at varint_shrinks c (Ok (Some (zigzag_of z, d))) next) (more.0, ap (λ (es : List WireValue). varint (zigzag_of z) ∷ es) more.1)
 
 pub packed_varints-written : (zs : List ℤ) (behind : ℕ) → AllByRecursion (FitsSigned w32) zs → packed_varints (flat_map sint32_text zs) behind ≡ record { values = map (λ z. varint (zigzag_of z)) zs; fault = None }
 unfolding packed_varints

@@ -2,7 +2,7 @@
 use Rattle.std.specs.Prelude.{◌≡◌, pos, List, [], ◌++◌, map, Some, None, Result, Ok, Err}
 use Rattle.pb_wire.specs.declared.payload.PayloadType.{PayloadType}
 use Rattle.pb_wire.specs.declared.payload.PayloadType.TheVariants.{ScalarString, ScalarShort, ScalarFloat, ScalarEnum, ScalarByte, ScalarInt, ScalarDouble, WaveformString, WaveformShort, WaveformFloat, WaveformEnum, WaveformByte, WaveformInt, WaveformDouble}
-use Rattle.pb_wire.specs.Message.{Value as Element}
+use Rattle.pb_wire.specs.Message.{WireValue}
 use Rattle.pb_messages.specs.declared.error.EventErr.{EventErr}
 use Rattle.pb_messages.specs.declared.error.EventErr.TheVariants.{Fault, Memory}
 use Rattle.pb_messages.specs.declared.value.Value.{Value}
@@ -29,7 +29,7 @@ blank WaveformInt = IntList []
 blank WaveformDouble = Doubles []
 
 -- The value with more elements: where there is one, the last holds, and lists have them in order.
-abbrev pub with_elements : Value → List Element → Value
+abbrev pub with_elements : Value → List WireValue → Value
 with_elements (Str b) es = Str (last_else b (map bytes_of es))
 with_elements (Short n) es = Short (last_else n (map int_of es))
 with_elements (Float n) es = Float (last_else n (map bits32_of es))

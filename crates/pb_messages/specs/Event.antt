@@ -4,7 +4,7 @@ use Rattle.std.specs.Option.{option_map, option_map_or, ok_or}
 use Rattle.std.specs.List.{flat_map, list_any}
 use Rattle.pb_wire.specs.declared.payload.PayloadType.{PayloadType}
 use Rattle.pb_wire.specs.declared.payload.PayloadType.TheVariants.{ScalarString, ScalarShort, ScalarFloat, ScalarEnum, ScalarByte, ScalarInt, ScalarDouble, WaveformString, WaveformShort, WaveformFloat, WaveformEnum, WaveformByte, WaveformInt, WaveformDouble}
-use Rattle.pb_wire.specs.Message.{Value as Element, blob, Entry}
+use Rattle.pb_wire.specs.Message.{WireValue, blob, WireField}
 use Rattle.pb_wire.specs.Reading.{◌>>=◌}
 use Rattle.pb_wire.specs.Cursor.{Placed}
 use Rattle.pb_wire.specs.declared.fault.FieldFault.{FieldFault}
@@ -23,48 +23,48 @@ use Rattle.pb_messages.specs.Element.{int_of, bits32_of, bits64_of, bytes_of}
 use Rattle.pb_messages.specs.Layout.{layout_of, elements_in}
 
 -- What a field holds, by its number.
-pub data Part : Type 0 where
-  number : Part
-  val : Part
-  field_value : Part
-  unknown : Part
+pub data EventField : Type 0 where
+  number : EventField
+  val : EventField
+  field_value : EventField
+  unknown : EventField
 
 abbrev pub is_singular : ℕ → Bool
 is_singular n = n == 1 || n == 2 || n == 4 || n == 5 || n == 6 || n == 8
 
-abbrev pub part_of : ℕ → Part
+abbrev pub part_of : ℕ → EventField
 part_of n = if n == 3 then val else (if n == 7 then field_value else (if is_singular n then number else unknown))
 
 -- The fault in one field, whose last byte stands before `behind`.
-abbrev pub fault_as : Layout → Part → ℕ → Element → ℕ → Option FieldFault
+abbrev pub fault_as : Layout → EventField → ℕ → WireValue → ℕ → Option FieldFault
 fault_as layout number n v behind = wrong_where (varint_number v) n
 fault_as layout val n v behind = (elements_in layout v behind).fault
 fault_as layout field_value n (blob b) behind = pair_fault n b behind
 fault_as layout field_value n v behind = Some (WrongWire n)
 fault_as layout unknown n v behind = None
 
-abbrev pub fault_in : Layout → Placed Entry → Option FieldFault
+abbrev pub fault_in : Layout → Placed WireField → Option FieldFault
 fault_in layout x = fault_as layout (part_of x.item.number) x.item.number x.item.value x.behind
 
 -- The elements of a field.
-abbrev pub elements_as : Layout → Part → Element → ℕ → List Element
+abbrev pub elements_as : Layout → EventField → WireValue → ℕ → List WireValue
 elements_as layout val v behind = (elements_in layout v behind).values
 elements_as layout part v behind = []
 
-abbrev pub elements_at : Layout → Placed Entry → List Element
+abbrev pub elements_at : Layout → Placed WireField → List WireValue
 elements_at layout x = elements_as layout (part_of x.item.number) x.item.value x.behind
 
 -- The elements of val of all fields, in order.
-abbrev pub elements_of : Layout → List (Placed Entry) → List Element
+abbrev pub elements_of : Layout → List (Placed WireField) → List WireValue
 elements_of layout items = flat_map (elements_at layout) items
 
 -- The pair that a field has, None where one of its members is missing.
-abbrev pub pairs_as : Part → Element → ℕ → Option (List (List ℕ × List ℕ))
+abbrev pub pairs_as : EventField → WireValue → ℕ → Option (List (List ℕ × List ℕ))
 pairs_as field_value (blob b) behind = option_map (λ p. p ∷ []) (pair_of b behind)
 pairs_as part v behind = Some []
 
 -- The pairs of all fields in order, None where a member is missing.
-abbrev pub pairs_of : List (Placed Entry) → Option (List (List ℕ × List ℕ))
+abbrev pub pairs_of : List (Placed WireField) → Option (List (List ℕ × List ℕ))
 pairs_of [] = Some []
 pairs_of (x ∷ items) = joined (pairs_as (part_of x.item.number) x.item.value x.behind) (pairs_of items)
 
@@ -91,7 +91,7 @@ IsOfType ty (IntList ns) = ty ≡ WaveformInt
 IsOfType ty (Doubles ns) = ty ≡ WaveformDouble
 
 -- The value of a type: its last element, or the list of all of them. One that needs an element has some other value where there is none.
-abbrev pub value_of : PayloadType → List Element → Value
+abbrev pub value_of : PayloadType → List WireValue → Value
 value_of ScalarString es = Str (last_else [] (map bytes_of es))
 value_of ScalarShort es = Short (last_else (pos 0) (map int_of es))
 value_of ScalarFloat es = Float (last_else 0 (map bits32_of es))
@@ -108,11 +108,11 @@ value_of WaveformInt es = IntList (map int_of es)
 value_of WaveformDouble es = Doubles (map bits64_of es)
 
 -- A field val is there.
-abbrev pub has_val : List (Placed Entry) → Bool
+abbrev pub has_val : List (Placed WireField) → Bool
 has_val items = list_any (λ x. x.item.number == 3) items
 
 -- The value of the type, which is required where it isn't repeated.
-abbrev pub val_of : PayloadType → List (Placed Entry) → Option Value
+abbrev pub val_of : PayloadType → List (Placed WireField) → Option Value
 val_of ty items =
     if (layout_of ty).repeated || has_val items then Some (value_of ty (elements_of (layout_of ty) items)) else None
 
@@ -128,7 +128,7 @@ pub record Members : Type 0 where
   pub actual_change : Option ℕ
 
 -- The last of each number, and all of each repeated one in order.
-abbrev pub members_of : PayloadType → List (Placed Entry) → Members
+abbrev pub members_of : PayloadType → List (Placed WireField) → Members
 members_of ty items = record {
   secs = last_of (number_in 1) items;
   nano = last_of (number_in 2) items;

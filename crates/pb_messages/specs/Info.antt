@@ -5,7 +5,7 @@ use Rattle.std.specs.List.{find}
 use Rattle.pb_wire.specs.declared.payload.PayloadType.{PayloadType}
 use Rattle.pb_wire.specs.declared.payload.PayloadType.TheVariants.{ScalarString, ScalarShort, ScalarFloat, ScalarEnum, ScalarByte, ScalarInt, ScalarDouble, WaveformString, WaveformShort, WaveformFloat, WaveformEnum, WaveformByte, WaveformInt, WaveformDouble}
 use Rattle.pb_wire.specs.Payload.{row_of}
-use Rattle.pb_wire.specs.Message.{Value, blob, Entry}
+use Rattle.pb_wire.specs.Message.{WireValue, blob, WireField}
 use Rattle.pb_wire.specs.Reading.{◌>>=◌}
 use Rattle.pb_wire.specs.Cursor.{Placed}
 use Rattle.pb_wire.specs.declared.fault.FieldFault.{FieldFault}
@@ -27,28 +27,28 @@ info_fault (field.WrongWire n) = WrongWire n
 info_fault (field.Missing n) = Missing n
 
 -- What a field holds, by its number.
-pub data Part : Type 0 where
-  number : Part
-  text : Part
-  header : Part
-  unknown : Part
+pub data InfoField : Type 0 where
+  number : InfoField
+  text : InfoField
+  header : InfoField
+  unknown : InfoField
 
-abbrev pub part_of : ℕ → Part
+abbrev pub part_of : ℕ → InfoField
 part_of n = if n == 1 || n == 3 || n == 4 then number else (if n == 2 then text else (if n == 15 then header else unknown))
 
 -- The fault in one field, whose last byte stands before `behind`.
-abbrev pub fault_as : Part → ℕ → Value → ℕ → Option FieldFault
+abbrev pub fault_as : InfoField → ℕ → WireValue → ℕ → Option FieldFault
 fault_as number n v behind = wrong_where (varint_number v) n
 fault_as text n v behind = wrong_where (blob_bytes v) n
 fault_as header n (blob b) behind = pair_fault n b behind
 fault_as header n v behind = Some (field.WrongWire n)
 fault_as unknown n v behind = None
 
-abbrev pub fault_in : Placed Entry → Option FieldFault
+abbrev pub fault_in : Placed WireField → Option FieldFault
 fault_in x = fault_as (part_of x.item.number) x.item.number x.item.value x.behind
 
 -- The pair that a field has, None where one of its members is missing.
-abbrev pub pairs_as : Part → Value → ℕ → Option (List (List ℕ × List ℕ))
+abbrev pub pairs_as : InfoField → WireValue → ℕ → Option (List (List ℕ × List ℕ))
 pairs_as header (blob b) behind = option_map (λ p. p ∷ []) (pair_of b behind)
 pairs_as header v behind = Some []
 pairs_as number v behind = Some []
@@ -56,7 +56,7 @@ pairs_as text v behind = Some []
 pairs_as unknown v behind = Some []
 
 -- The pairs of all fields in order, None where a member is missing.
-abbrev pub pairs_of : List (Placed Entry) → Option (List (List ℕ × List ℕ))
+abbrev pub pairs_of : List (Placed WireField) → Option (List (List ℕ × List ℕ))
 pairs_of [] = Some []
 pairs_of (x ∷ items) = joined (pairs_as (part_of x.item.number) x.item.value x.behind) (pairs_of items)
 
@@ -83,7 +83,7 @@ info_with type name year count headers =
     Ok (record { ty = ty; name = name; year = year; count = option_map int32_of count; headers = headers })
 
 -- The header that fields without a fault hold: the last of each number, and all pairs.
-abbrev pub info_from : List (Placed Entry) → Result PayloadInfo InfoFault
+abbrev pub info_from : List (Placed WireField) → Result PayloadInfo InfoFault
 info_from items = info_with (last_of (number_in 1) items) (last_of (text_in 2) items) (last_of (number_in 3) items) (last_of (number_in 4) items) (pairs_of items)
 
 -- The header that bytes hold, or the first fault.

@@ -1,7 +1,7 @@
 -- The members that were read so far.
 use Rattle.std.specs.Prelude.{◌≡◌, ◌||◌, if◌then◌else◌, Bool, List, [], ◌∷◌, Some, None, Result, Ok, Err}
 use Rattle.pb_wire.specs.declared.payload.PayloadType.{PayloadType}
-use Rattle.pb_wire.specs.Message.{Entry}
+use Rattle.pb_wire.specs.Message.{WireField}
 use Rattle.pb_wire.specs.Cursor.{Placed}
 use Rattle.pb_messages.specs.declared.error.EventErr.{EventErr}
 use Rattle.pb_messages.specs.declared.error.EventErr.TheVariants.{Fault, Memory}
@@ -29,7 +29,7 @@ abbrev pub no_members : PayloadType → Bool → reading.Members
 no_members ty val = record { numbers = no_numbers; val = val; value = blank ty; fields = Some [] }
 
 -- The members with more fields behind them.
-abbrev pub with_fields : Layout → reading.Members → List (Placed Entry) → reading.Members
+abbrev pub with_fields : Layout → reading.Members → List (Placed WireField) → reading.Members
 with_fields layout m items = record {
   numbers = with_numbers m.numbers items;
   val = m.val || has_val items;
@@ -38,7 +38,7 @@ with_fields layout m items = record {
 }
 
 -- The field is taken, or its fault is told, unless memory ran out.
-abbrev pub TakesField : {X : Type 0} → Layout → reading.Members → reading.Members → Placed Entry → Result X EventErr → Type 0
+abbrev pub TakesField : {X : Type 0} → Layout → reading.Members → reading.Members → Placed WireField → Result X EventErr → Type 0
 TakesField layout old new x (Ok r) = (fault_in layout x ≡ None) × (new ≡ with_fields layout old (x ∷ []))
 TakesField layout old new x (Err (Fault fault)) = fault_in layout x ≡ Some fault
 TakesField layout old new x (Err Memory) = Unit {0}

@@ -5,7 +5,7 @@ use Rattle.std.specs.List.{flat_map, AllByRecursion}
 use Rattle.std.specs.Option.{option_map}
 use Rattle.std.specs.Int.{w32, w64, cast_unsigned, to_le_bytes}
 use Rattle.pb_wire.specs.Signed.{zigzag_of}
-use Rattle.pb_wire.specs.Message.{fixed64, fixed32, Entry}
+use Rattle.pb_wire.specs.Message.{fixed64, fixed32, WireField}
 use Rattle.pb_wire.specs.Spelling.{number_text}
 use Rattle.pb_wire.specs.Numbers.{sign_extended}
 use Rattle.pb_wire.specs.FieldSpelling.{message_text, number_field, text_field, pair_field, optional_field, ShortPairs}
@@ -13,10 +13,10 @@ use Rattle.pb_messages.specs.declared.value.Value.{Value}
 use Rattle.pb_messages.specs.declared.value.Value.TheVariants.{Str, Short, Float, Enum, Byte, Int, Double, Strs, Shorts, Floats, Enums, Bytes, IntList, Doubles}
 use Rattle.pb_messages.specs.declared.event.Event.{Event}
 
-abbrev pub fixed32_field : ℕ → ℕ → Entry
+abbrev pub fixed32_field : ℕ → ℕ → WireField
 fixed32_field n v = record { number = n; value = fixed32 v }
 
-abbrev pub fixed64_field : ℕ → ℕ → Entry
+abbrev pub fixed64_field : ℕ → ℕ → WireField
 fixed64_field n v = record { number = n; value = fixed64 v }
 
 -- A number that is left out where it is 0.
@@ -35,11 +35,11 @@ abbrev pub sfixed32_text : ℤ → List ℕ
 sfixed32_text z = to_le_bytes w32 (cast_unsigned w32 z)
 
 -- Elements are packed in one field, which is left out where there are none.
-abbrev pub packed_field : {A : Type 0} → (A → List ℕ) → List A → List Entry
+abbrev pub packed_field : {A : Type 0} → (A → List ℕ) → List A → List WireField
 packed_field spell [] = []
 packed_field spell (x ∷ xs) = text_field 3 (flat_map spell (x ∷ xs)) ∷ []
 
-abbrev pub val_fields : Value → List Entry
+abbrev pub val_fields : Value → List WireField
 val_fields (Str b) = text_field 3 b ∷ []
 val_fields (Short n) = number_field 3 (zigzag_of n) ∷ []
 val_fields (Float n) = fixed32_field 3 n ∷ []
@@ -55,17 +55,17 @@ val_fields (Bytes b) = text_field 3 b ∷ []
 val_fields (IntList ns) = packed_field sfixed32_text ns
 val_fields (Doubles ns) = packed_field (to_le_bytes w64) ns
 
-abbrev pub stamp_fields : Event → List Entry
+abbrev pub stamp_fields : Event → List WireField
 stamp_fields e = number_field 1 e.secs ∷ number_field 2 e.nano ∷ []
 
-abbrev pub state_fields : Event → List Entry
+abbrev pub state_fields : Event → List WireField
 state_fields e = optional_field 4 (unless_zero e.severity) ++ (optional_field 5 (unless_zero e.status) ++ optional_field 6 e.repeat)
 
-abbrev pub last_fields : Event → List Entry
+abbrev pub last_fields : Event → List WireField
 last_fields e = map (pair_field 7) e.fields ++ optional_field 8 (option_map bool_number e.actual_change)
 
 -- The fields of an event, in the order of their numbers.
-abbrev pub event_fields : Event → List Entry
+abbrev pub event_fields : Event → List WireField
 event_fields e = (stamp_fields e ++ val_fields e.val) ++ (state_fields e ++ last_fields e)
 
 unfoldable pub event_text : Event → List ℕ

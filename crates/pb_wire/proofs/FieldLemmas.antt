@@ -7,7 +7,7 @@ use Rattle.std.proofs.lemmas.List.{take-append-drop, length-take-le, length-appe
 use Rattle.std.proofs.Math.Nat.{div-add-mod}
 use Rattle.pb_wire.specs.declared.error.WireErr.{WireErr}
 use Rattle.pb_wire.specs.declared.error.WireErr.TheVariants.{BadTag, Group}
-use Rattle.pb_wire.specs.Message.{Value, varint, fixed64, blob, fixed32, Entry, kind_of, IsFieldNumber}
+use Rattle.pb_wire.specs.Message.{WireValue, varint, fixed64, blob, fixed32, WireField, kind_of, IsFieldNumber}
 use Rattle.pb_wire.specs.Grammar.{IsVarint, IsValue, IsField}
 use Rattle.pb_wire.specs.Reading.{◌>>=◌, varint_at, tag_at, front_at, fixed64_at, fixed32_at, blob_at, value_at, field_at}
 use Rattle.pb_wire.proofs.GrammarLemmas.{bind_ok, done, ok_is, varint_found, varint_only}
@@ -64,10 +64,10 @@ tag_only end n k text rest number kind e =
     rw (e, good, value) refl
 
 -- the value is of this kind, and its bytes stand at the front
-abbrev pub StandsAt : ℕ → List ℕ → Value × List ℕ → Type 0
+abbrev pub StandsAt : ℕ → List ℕ → WireValue × List ℕ → Type 0
 StandsAt k text x = (kind_of x.0 ≡ k) × ((s : List ℕ) × IsValue s x.0 × (text ≡ s ++ x.1))
 
-pub value_found : (end k : ℕ) (text : List ℕ) (v : Value) (rest : List ℕ) → IsKind k → value_at end k text ≡ Ok (v, rest) → StandsAt k text (v, rest)
+pub value_found : (end k : ℕ) (text : List ℕ) (v : WireValue) (rest : List ℕ) → IsKind k → value_at end k text ≡ Ok (v, rest) → StandsAt k text (v, rest)
 unfolding value_at fixed64_at fixed32_at blob_at
 value_found end k text v rest kind e =
     elim (eqb_tells k 0) [
@@ -104,7 +104,7 @@ value_found end k text v rest kind e =
       ]
     ]
 
-pub value_only : (end : ℕ) (v : Value) (s rest : List ℕ) → IsValue s v → value_at end (kind_of v) (s ++ rest) ≡ Ok (v, rest)
+pub value_only : (end : ℕ) (v : WireValue) (s rest : List ℕ) → IsValue s v → value_at end (kind_of v) (s ++ rest) ≡ Ok (v, rest)
 unfolding value_at fixed64_at fixed32_at blob_at
 value_only end (varint n) s rest h = rw (varint_only end s rest n h) refl
 value_only end (fixed64 n) s rest h = rw (front_only end 8 s rest h.0) (ap (λ (m : ℕ). done (fixed64 m, rest)) (sym h.1))
@@ -113,14 +113,14 @@ value_only end (blob b) s rest h =
     rw (regrouped, varint_only end h.0 (b ++ rest) (length b) h.2, front_only end (length b) b rest refl) refl
 value_only end (fixed32 n) s rest h = rw (front_only end 4 s rest h.0) (ap (λ (m : ℕ). done (fixed32 m, rest)) (sym h.1))
 
-kind_of_value : (v : Value) → IsKind (kind_of v)
+kind_of_value : (v : WireValue) → IsKind (kind_of v)
 kind_of_value (varint n) = (omega arith, omega arith, omega arith)
 kind_of_value (fixed64 n) = (omega arith, omega arith, omega arith)
 kind_of_value (blob b) = (omega arith, omega arith, omega arith)
 kind_of_value (fixed32 n) = (omega arith, omega arith, omega arith)
 
 -- what is read is in the grammar, each byte of it
-pub field_found : (end : ℕ) (text rest : List ℕ) (f : Entry) → field_at end text ≡ Ok (f, rest) → (s : List ℕ) × IsField s f × (text ≡ s ++ rest)
+pub field_found : (end : ℕ) (text rest : List ℕ) (f : WireField) → field_at end text ≡ Ok (f, rest) → (s : List ℕ) × IsField s f × (text ≡ s ++ rest)
 unfolding field_at
 field_found end text rest f e =
     let tag = bind_ok (tag_at end text) (λ t. value_at end (t.0 % 8) t.1 >>= λ v. Ok (record { number = t.0 / 8; value = v.0 }, v.1)) (f, rest) e in
@@ -133,11 +133,11 @@ field_found end text rest f e =
     let parts : t ≡ t / 8 * 8 + kind_of value.0.0 = omega (arith, second.0, div-add-mod t 8) in
     let Q : ℕ → Type 0 = λ n. IsVarint first.0 n in
     let split : text ≡ (first.0 ++ s) ++ value.0.1 = first.2 ∙ ap (λ (u : List ℕ). first.0 ++ u) second.1.2 ∙ sym (append_assoc first.0 s value.0.1) in
-    let P : Entry × List ℕ → Type 0 = λ p. (u : List ℕ) × IsField u p.0 × (text ≡ u ++ p.1) in
+    let P : WireField × List ℕ → Type 0 = λ p. (u : List ℕ) × IsField u p.0 × (text ≡ u ++ p.1) in
     subst P (ok_is (record { number = t / 8; value = value.0.0 }, value.0.1) (f, rest) value.2) (first.0 ++ s, (first.0, s, refl, good.1, subst Q parts first.1, second.1.1), split)
 
 -- what is in the grammar is read, whatever follows
-pub field_only : (end : ℕ) (s rest : List ℕ) (f : Entry) → IsField s f → field_at end (s ++ rest) ≡ Ok (f, rest)
+pub field_only : (end : ℕ) (s rest : List ℕ) (f : WireField) → IsField s f → field_at end (s ++ rest) ≡ Ok (f, rest)
 unfolding field_at
 field_only end s rest f h =
     let v = f.value in
@@ -149,5 +149,5 @@ field_only end s rest f h =
     let wire : (f.number * 8 + k) % 8 ≡ k = omega (arith, kind.0) in
     rw (regrouped, tag, number, wire, value_only end v h.1 rest h.5) refl
 
-pub field_not_refused : (end : ℕ) (s rest : List ℕ) (f : Entry) (e : WireErr) → IsField s f → field_at end (s ++ rest) ≡ Err e → ⊥
+pub field_not_refused : (end : ℕ) (s rest : List ℕ) (f : WireField) (e : WireErr) → IsField s f → field_at end (s ++ rest) ≡ Err e → ⊥
 field_not_refused end s rest f e h k = let read = field_only end s rest f h in cc

@@ -5,7 +5,7 @@ use Rattle.std.proofs.Math.Nat.{div-add-mod}
 use Rattle.std.proofs.lemmas.Bool.{lt-ltb, le-ltb, cases_lt}
 use Rattle.std.proofs.lemmas.List.{length-append}
 use Rattle.std.proofs.lemmas.Nat.{pow-add}
-use Rattle.pb_wire.specs.Message.{Value, varint, fixed64, blob, fixed32, Entry, kind_of}
+use Rattle.pb_wire.specs.Message.{WireValue, varint, fixed64, blob, fixed32, WireField, kind_of}
 use Rattle.pb_wire.specs.Grammar.{Spells, IsVarint, IsValue, IsField}
 use Rattle.pb_wire.specs.Spelling.{number, number_text, value_text, field_text}
 use Rattle.pb_wire.proofs.Written.{shrinks, at_nine}
@@ -75,7 +75,7 @@ varint_shortest (b ∷ s) v bytes h =
     let less : v ≤ h.1.0 = omega (arith, h.1.2, div-add-mod h.1.0 (2 ^ 64)) in
     below_fits 10 (length (b ∷ s)) v (omega arith) (omega (arith, below, less))
 
-value_shortest : (s : List ℕ) (v : Value) → Bytes s → IsValue s v → length (value_text v) ≤ length s
+value_shortest : (s : List ℕ) (v : WireValue) → Bytes s → IsValue s v → length (value_text v) ≤ length s
 value_shortest s (varint n) bytes h = varint_shortest s n bytes h
 value_shortest s (fixed64 n) bytes h = omega (arith, h.0)
 value_shortest s (blob b) bytes h =
@@ -83,7 +83,7 @@ value_shortest s (blob b) bytes h =
     omega (arith, varint_shortest h.0 (length b) size.0 h.2, ap length h.1, length-append h.0 b, length-append (number_text (length b)) b)
 value_shortest s (fixed32 n) bytes h = omega (arith, h.0)
 
-pub field_shortest : (s : List ℕ) (f : Entry) → Bytes s → IsField s f → length (field_text f.number f.value) ≤ length s
+pub field_shortest : (s : List ℕ) (f : WireField) → Bytes s → IsField s f → length (field_text f.number f.value) ≤ length s
 field_shortest s f bytes h =
     let parts = apart h.0 h.1 (subst Bytes h.2 bytes) in
     let tag = varint_shortest h.0 (f.number * 8 + kind_of f.value) parts.0 h.4 in

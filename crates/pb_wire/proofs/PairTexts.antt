@@ -2,12 +2,12 @@
 use Rattle.std.proofs.Common.{◌≡◌, ℕ, ◌+◌, ◌*◌, ◌^◌, ◌<◌, List, [], ◌∷◌, ◌++◌, length, arith, sym, ◌∙◌, ap, append_assoc}
 use Rattle.std.proofs.lemmas.Grind.{flat_map-append}
 use Rattle.std.proofs.lemmas.List.{append-nil, length-append}
-use Rattle.pb_wire.specs.Message.{blob, Entry}
+use Rattle.pb_wire.specs.Message.{blob, WireField}
 use Rattle.pb_wire.specs.Spelling.{number, number_text, field_text}
 use Rattle.pb_wire.specs.FieldSpelling.{message_text, pair_text, pair_field}
 
 -- some fields, and then the others
-pub texts_apart : (fields others : List Entry) → message_text (fields ++ others) ≡ message_text fields ++ message_text others
+pub texts_apart : (fields others : List WireField) → message_text (fields ++ others) ≡ message_text fields ++ message_text others
 texts_apart fields others = flat_map-append (λ f. field_text f.number f.value) fields others
 
 name_length : (b : List ℕ) → length (field_text 1 (blob b)) ≡ 1 + (length (number_text (length b)) + length b)

@@ -4,7 +4,7 @@ use Rattle.std.specs.Prelude.{FitsSigned}
 use Rattle.std.specs.List.{AllByRecursion}
 use Rattle.std.specs.Int.{w32, cast_signed}
 use Rattle.std.proofs.lemmas.Int.{ints, to_z-of_z}
-use Rattle.pb_wire.specs.Message.{Entry, IsFieldNumber}
+use Rattle.pb_wire.specs.Message.{WireField, IsFieldNumber}
 use Rattle.pb_wire.specs.Reading.{field_at}
 use Rattle.pb_wire.specs.Cursor.{Cursor, Placed, Contents, with_first}
 use Rattle.pb_wire.specs.Spelling.{field_text, FitsValue}
@@ -15,25 +15,25 @@ use Rattle.pb_wire.specs.FieldValue.{fields_of, pair_fault, pair_of}
 use Rattle.pb_wire.specs.FieldSpelling.{message_text, text_field, pair_text, pair_field, ShortPairs}
 use Rattle.pb_wire.proofs.PairTexts.{pair_length}
 
-abbrev pub FitsField : Entry → Type 0
+abbrev pub FitsField : WireField → Type 0
 FitsField f = IsFieldNumber f.number × FitsValue f.value
 
 -- fields behind one another in bytes that end at this place
-abbrev pub placed : ℕ → List Entry → List (Placed Entry)
+abbrev pub placed : ℕ → List WireField → List (Placed WireField)
 placed end [] = []
 placed end (f ∷ fields) = record { item = f; behind = end - length (message_text fields) } ∷ placed end fields
 
 -- what is written is read field by field, and nothing else
-pub contents_written : (end : ℕ) (fields : List Entry) → AllByRecursion FitsField fields → fields_of (message_text fields) end ≡ record { items = placed end fields; fault = None }
+pub contents_written : (end : ℕ) (fields : List WireField) → AllByRecursion FitsField fields → fields_of (message_text fields) end ≡ record { items = placed end fields; fault = None }
 contents_written end [] fits = contents_end field_at field_shrinks end
 contents_written end (f ∷ fields) fits =
     let rest = message_text fields in
     let c : Cursor = record { rest = field_text f.number f.value ++ rest; end = end } in
     let d : Cursor = record { rest = rest; end = end } in
-    let first : Placed Entry = record { item = f; behind = end - length rest } in
-    contents_by field_at field_shrinks c (Ok (Some (f, d))) (next_written end f.number f.value rest fits.0.0 fits.0.1) ∙ ap (λ (more : Contents Entry). with_first first more) (contents_written end fields fits.1)
+    let first : Placed WireField = record { item = f; behind = end - length rest } in
+    contents_by field_at field_shrinks c (Ok (Some (f, d))) (next_written end f.number f.value rest fits.0.0 fits.0.1) ∙ ap (λ (more : Contents WireField). with_first first more) (contents_written end fields fits.1)
 
-pub both_fit : (xs ys : List Entry) → AllByRecursion FitsField xs → AllByRecursion FitsField ys → AllByRecursion FitsField (xs ++ ys)
+pub both_fit : (xs ys : List WireField) → AllByRecursion FitsField xs → AllByRecursion FitsField ys → AllByRecursion FitsField (xs ++ ys)
 both_fit [] ys a b = b
 both_fit (x ∷ xs) ys a b = (a.0, both_fit xs ys a.1 b)
 

@@ -2,7 +2,7 @@
 use Rattle.std.proofs.Common.{◌≡◌, ℕ, suc, ◌+◌, ◌-◌, ◌*◌, ◌/◌, ◌%◌, ◌^◌, ◌<◌, ◌≤◌, List, ◌∷◌, Ok, length, arith, refl, ◌∙◌, ap, slice_index_or, Fits, w8}
 use Rattle.std.proofs.Math.Nat.{mod-eq_of_lt}
 use Rattle.std.proofs.lemmas.Bool.{lt-ltb, le-ltb}
-use Rattle.pb_wire.specs.Message.{Value, varint, fixed64, fixed32, IsFieldNumber}
+use Rattle.pb_wire.specs.Message.{WireValue, varint, fixed64, fixed32, IsFieldNumber}
 use Rattle.pb_wire.specs.Reading.{number_at, varint_at, fixed64_at, fixed32_at, value_at, field_at}
 use Rattle.pb_wire.proofs.ReadLemmas.{one_byte}
 use Rattle.pb_wire.proofs.FieldLemmas.{IsKind, tag_only}
@@ -70,7 +70,7 @@ short5 end a b c d e rest fits la lb lc ld le =
     varint_is end (a - 128 + 128 * (b - 128 + 128 * (c - 128 + 128 * (d - 128 + 128 * e)))) (a - 128 + (b - 128) * 128 + (c - 128) * 16384 + (d - 128) * 2097152 + e * 268435456) (a ∷ b ∷ c ∷ d ∷ e ∷ rest) rest five (omega arith) (omega arith)
 
 -- a field whose tag has one byte
-field_short : (end n k t : ℕ) (text rest : List ℕ) (v : Value) → (1 ≤ n) × (n ≤ 15) → IsKind k → t ≡ n * 8 + k → value_at end k text ≡ Ok (v, rest) → field_at end (t ∷ text) ≡ Ok (record { number = n; value = v }, rest)
+field_short : (end n k t : ℕ) (text rest : List ℕ) (v : WireValue) → (1 ≤ n) × (n ≤ 15) → IsKind k → t ≡ n * 8 + k → value_at end k text ≡ Ok (v, rest) → field_at end (t ∷ text) ≡ Ok (record { number = n; value = v }, rest)
 unfolding field_at
 field_short end n k t text rest v number kind is e =
     let small : t < 128 = omega (arith, number.0, number.1, is, kind.0) in

@@ -1,18 +1,18 @@
 -- A FieldValue: 1 name and 2 val, required strings.
 use Rattle.std.specs.Prelude.{◌≡◌, ℕ, ◌==◌, ◌||◌, if◌then◌else◌, List, Option, Some, None, Result, Ok, Err}
 use Rattle.std.specs.Option.{option_map}
-use Rattle.pb_wire.specs.Message.{Entry}
+use Rattle.pb_wire.specs.Message.{WireField}
 use Rattle.pb_wire.specs.Reading.{field_at}
 use Rattle.pb_wire.specs.Cursor.{Placed, Contents, contents_of}
 use Rattle.pb_wire.specs.declared.fault.FieldFault.{FieldFault}
 use Rattle.pb_wire.specs.Fields.{blob_bytes, text_in, last_of, wrong_where, first_fault}
 
 -- A member has another wire type, which is told under the FieldValue's number.
-abbrev pub member_fault : ℕ → Placed Entry → Option FieldFault
+abbrev pub member_fault : ℕ → Placed WireField → Option FieldFault
 member_fault number x = if x.item.number == 1 || x.item.number == 2 then wrong_where (blob_bytes x.item.value) number else None
 
 -- The fields in bytes that end at this place.
-abbrev pub fields_of : List ℕ → ℕ → Contents Entry
+abbrev pub fields_of : List ℕ → ℕ → Contents WireField
 fields_of bytes behind = contents_of field_at (record { rest = bytes; end = behind })
 
 -- The first fault of a FieldValue.

@@ -4,11 +4,11 @@ use Rattle.pb_wire.specs.declared.payload.PayloadType.{PayloadType}
 use Rattle.pb_wire.specs.declared.payload.PayloadType.TheVariants.{ScalarString, ScalarShort, ScalarFloat, ScalarEnum, ScalarByte, ScalarInt, ScalarDouble, WaveformString, WaveformShort, WaveformFloat, WaveformEnum, WaveformByte, WaveformInt, WaveformDouble}
 
 -- A row of the table: the number in a header, and the name in EPICSEvent.proto.
-pub record Row : Type 0 where
+pub record TypeRow : Type 0 where
   pub number : ℕ
   pub name : List ℕ
 
-abbrev pub row_of : PayloadType → Row
+abbrev pub row_of : PayloadType → TypeRow
 row_of ScalarString = record { number = 0; name = codes "SCALAR_STRING" }
 row_of ScalarShort = record { number = 1; name = codes "SCALAR_SHORT" }
 row_of ScalarFloat = record { number = 2; name = codes "SCALAR_FLOAT" }

@@ -3,7 +3,7 @@ use Rattle.std.specs.Prelude.{◌≡◌, ℕ, zero, suc, ◌+◌, ◌-◌, ◌*�
 use Rattle.std.specs.Int.{w32, w64, from_le_bytes}
 use Rattle.pb_wire.specs.declared.error.WireErr.{WireErr}
 use Rattle.pb_wire.specs.declared.error.WireErr.TheVariants.{BadVarint, BadTag, Group, Short}
-use Rattle.pb_wire.specs.Message.{Value, varint, fixed64, blob, fixed32, Entry}
+use Rattle.pb_wire.specs.Message.{WireValue, varint, fixed64, blob, fixed32, WireField}
 
 -- A reader gives what stands at the front and the bytes behind it, or the first fault; it is told the place behind the last byte.
 abbrev pub Reader : Type 0 → Type 0
@@ -53,7 +53,7 @@ unfoldable pub blob_at : Reader (List ℕ)
 blob_at end text = varint_at end text >>= λ n. front_at end n.0 n.1
 
 -- The value goes by the wire type, which is 0, 1, 2 or 5.
-unfoldable pub value_at : ℕ → ℕ → List ℕ → Result (Value × List ℕ) WireErr
+unfoldable pub value_at : ℕ → ℕ → List ℕ → Result (WireValue × List ℕ) WireErr
 value_at end kind text =
     if kind == 0 then (varint_at end text >>= λ x. Ok (varint x.0, x.1))
     else (if kind == 1 then (fixed64_at end text >>= λ x. Ok (fixed64 x.0, x.1))
@@ -61,7 +61,7 @@ value_at end kind text =
     else (fixed32_at end text >>= λ x. Ok (fixed32 x.0, x.1))))
 
 -- A field is a tag and the value of its wire type.
-unfoldable pub field_at : Reader Entry
+unfoldable pub field_at : Reader WireField
 field_at end text =
     tag_at end text >>= λ tag.
     value_at end (tag.0 % 8) tag.1 >>= λ v.

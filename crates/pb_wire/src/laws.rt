@@ -3,7 +3,7 @@
 
 ghost use Rattle.std.specs.Prelude.{◌≡◌, ℕ, ◌<◌, ◌≤◌, ◌^◌, ℤ, List, ◌++◌, All, length};
 ghost use Rattle.pb_wire.specs.declared.error.WireErr.{WireErr};
-ghost use Rattle.pb_wire.specs.Message.{Value, Entry, IsFieldNumber};
+ghost use Rattle.pb_wire.specs.Message.{WireValue, WireField, IsFieldNumber};
 ghost use Rattle.pb_wire.specs.Grammar.{IsVarint, IsField, IsMessage, IsPacked};
 ghost use Rattle.pb_wire.specs.Fault.{IsFieldFault};
 ghost use Rattle.pb_wire.specs.Reading.{varint_at, field_at};
@@ -26,11 +26,11 @@ pub fn varints()
 /// What is read as a field is one, each byte of it, and a field is read, known or not and in any
 /// of its spellings, whatever follows it. So where reading meets a fault, no field stands.
 pub fn fields()
-    ensures found { (end : ℕ) (text rest : List ℕ) (f : Entry) → field_at end text ≡ Ok (f, rest)
+    ensures found { (end : ℕ) (text rest : List ℕ) (f : WireField) → field_at end text ≡ Ok (f, rest)
         → (s : List ℕ) × IsField s f × (text ≡ s ++ rest) }
-    ensures only { (end : ℕ) (s rest : List ℕ) (f : Entry) → IsField s f
+    ensures only { (end : ℕ) (s rest : List ℕ) (f : WireField) → IsField s f
         → field_at end (s ++ rest) ≡ Ok (f, rest) }
-    ensures refused { (end : ℕ) (s rest : List ℕ) (f : Entry) (e : WireErr) → IsField s f
+    ensures refused { (end : ℕ) (s rest : List ℕ) (f : WireField) (e : WireErr) → IsField s f
         → field_at end (s ++ rest) ≡ Err e → ⊥ }
 {}
 
@@ -45,13 +45,13 @@ pub fn faults()
 /// What `put_field` writes is a field, a cursor that stands before it gives the field back, whatever
 /// follows it, and no spelling of the field is shorter.
 pub fn written_fields()
-    ensures field { (n : ℕ) (v : Value) → IsFieldNumber n → FitsValue v
+    ensures field { (n : ℕ) (v : WireValue) → IsFieldNumber n → FitsValue v
         → IsField (field_text n v) (record { number = n; value = v }) }
-    ensures back { (end n : ℕ) (v : Value) (rest : List ℕ) → IsFieldNumber n → FitsValue v
+    ensures back { (end n : ℕ) (v : WireValue) (rest : List ℕ) → IsFieldNumber n → FitsValue v
         → let here : Cursor = record { rest = field_text n v ++ rest; end = end } in
         let behind : Cursor = record { rest = rest; end = end } in
         next_of field_at here ≡ Ok (Some (record { number = n; value = v }, behind)) }
-    ensures shortest { (s : List ℕ) (f : Entry) → All (λ b. b < 256) s → IsField s f
+    ensures shortest { (s : List ℕ) (f : WireField) → All (λ b. b < 256) s → IsField s f
         → length (field_text f.number f.value) ≤ length s }
 {}
 
@@ -68,9 +68,9 @@ pub fn contents()
 /// fault is the one behind the longest front that is such.
 pub fn messages()
     ensures found { (c : Cursor) → BeginsWith IsField field_at c.end c.rest (contents_of field_at c) }
-    ensures only { (end : ℕ) (text : List ℕ) (fields : List Entry) → IsMessage text fields
+    ensures only { (end : ℕ) (text : List ℕ) (fields : List WireField) → IsMessage text fields
         → all_of field_at (record { rest = text; end = end }) ≡ Ok fields }
-    ensures longest { (end : ℕ) (front rest s others : List ℕ) (fields more : List Entry) (e : WireErr)
+    ensures longest { (end : ℕ) (front rest s others : List ℕ) (fields more : List WireField) (e : WireErr)
         → IsMessage front fields → next_of field_at (record { rest = rest; end = end }) ≡ Err e
         → IsMessage s more → front ++ rest ≡ s ++ others → length s ≤ length front }
 {}

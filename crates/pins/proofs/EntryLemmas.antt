@@ -16,7 +16,7 @@ use Rattle.std.specs.declared.cmp.Ordering.TheVariants.{Less, Greater}
 use Rattle.disk_model.specs.Files.{Name}
 use Rattle.disk_model.specs.Record.{is_same}
 use Rattle.pins.specs.declared.table.PinErr.TheVariants.{NoPin, NotYours}
-use Rattle.pins.specs.Pinned.{PinState, IsPinned, names_file, dropped}
+use Rattle.pins.specs.Pinned.{PinnedNames, IsPinned, names_file, dropped}
 use Rattle.disk_model.proofs.Lookups.{is_same-true, is_same-same}
 
 -- GET
@@ -43,27 +43,27 @@ names_it files file found = list_any-from_Any (λ name. is_same name file) files
 
 -- PINNED
 
-any_place : (p : PinState → Bool) (es : List (ℕ × PinState)) → list_any p (values_of es) ≡ true → (i : ℕ) × (k : ℕ) × (pin : PinState) × (slice_get es i ≡ Some (k, pin)) × (p pin ≡ true)
+any_place : (p : PinnedNames → Bool) (es : List (ℕ × PinnedNames)) → list_any p (values_of es) ≡ true → (i : ℕ) × (k : ℕ) × (pin : PinnedNames) × (slice_get es i ≡ Some (k, pin)) × (p pin ≡ true)
 any_place p [] any = absurd cc
 any_place p (e ∷ es) any = by_first (p e.1) refl any (any_place p es)
   where
     by_first : (b : Bool) → p e.1 ≡ b → (b || list_any p (values_of es)) ≡ true
-        → (list_any p (values_of es) ≡ true → (i : ℕ) × (k : ℕ) × (pin : PinState) × (slice_get es i ≡ Some (k, pin)) × (p pin ≡ true))
-        → (i : ℕ) × (k : ℕ) × (pin : PinState) × (slice_get (e ∷ es) i ≡ Some (k, pin)) × (p pin ≡ true)
+        → (list_any p (values_of es) ≡ true → (i : ℕ) × (k : ℕ) × (pin : PinnedNames) × (slice_get es i ≡ Some (k, pin)) × (p pin ≡ true))
+        → (i : ℕ) × (k : ℕ) × (pin : PinnedNames) × (slice_get (e ∷ es) i ≡ Some (k, pin)) × (p pin ≡ true)
     by_first true is any rest = (0, e.0, e.1, refl, is)
     by_first false is any rest = let found = rest any in (suc found.0, found.1, found.2, found.3, found.4)
 
-any_from_place : (p : PinState → Bool) (es : List (ℕ × PinState)) (i k : ℕ) (pin : PinState) → slice_get es i ≡ Some (k, pin) → p pin ≡ true → list_any p (values_of es) ≡ true
+any_from_place : (p : PinnedNames → Bool) (es : List (ℕ × PinnedNames)) (i k : ℕ) (pin : PinnedNames) → slice_get es i ≡ Some (k, pin) → p pin ≡ true → list_any p (values_of es) ≡ true
 any_from_place p [] zero k pin here passes = absurd cc
 any_from_place p [] (suc i) k pin here passes = absurd cc
 any_from_place p (e ∷ es) zero k pin here passes =
     let entry : e ≡ (k, pin) = cc in
-    let same : e.1 ≡ pin = ap (λ (f : ℕ × PinState). f.1) entry in
+    let same : e.1 ≡ pin = ap (λ (f : ℕ × PinnedNames). f.1) entry in
     rw (same, passes) refl
 any_from_place p (e ∷ es) (suc i) k pin here passes = elim (p e.1) as (λ b. (b || list_any p (values_of es)) ≡ true) [ true ↦ refl | false ↦ any_from_place p es i k pin here passes ]
 
 -- some pin's files have the name just where a pin that stands names it
-pub pinned_iff : (m : BTreeMap ℕ PinState) (file : Name) → IsOrdered nat_cmp m → (list_any (names_file file) (values_of m.entries) ≡ true) ↔ IsPinned (map.from_entries m.entries) file
+pub pinned_iff : (m : BTreeMap ℕ PinnedNames) (file : Name) → IsOrdered nat_cmp m → (list_any (names_file file) (values_of m.entries) ≡ true) ↔ IsPinned (map.from_entries m.entries) file
 pinned_iff m file ordered = (there, back)
   where
     there : list_any (names_file file) (values_of m.entries) ≡ true → IsPinned (map.from_entries m.entries) file
@@ -87,16 +87,16 @@ pinned_iff m file ordered = (there, back)
 abbrev pub Counts : List ℕ → ℕ → Type 0
 Counts keys free = (k : ℕ) → k < free → slice_get keys k ≡ Some k
 
-entry_at : (es : List (ℕ × PinState)) (i n : ℕ) → slice_get (keys_of es) i ≡ Some n → (pin : PinState) × (slice_get es i ≡ Some (n, pin))
+entry_at : (es : List (ℕ × PinnedNames)) (i n : ℕ) → slice_get (keys_of es) i ≡ Some n → (pin : PinnedNames) × (slice_get es i ≡ Some (n, pin))
 entry_at [] zero n here = absurd cc
 entry_at [] (suc i) n here = absurd cc
 entry_at (e ∷ es) zero n here = let same : e.0 ≡ n = cc in (e.1, ap (λ k. Some (k, e.1)) same)
 entry_at (e ∷ es) (suc i) n here = entry_at es i n here
 
-key_at : (es : List (ℕ × PinState)) (i : ℕ) (e : ℕ × PinState) → slice_get es i ≡ Some e → slice_get (keys_of es) i ≡ Some e.0
+key_at : (es : List (ℕ × PinnedNames)) (i : ℕ) (e : ℕ × PinnedNames) → slice_get es i ≡ Some e → slice_get (keys_of es) i ≡ Some e.0
 key_at [] zero e here = absurd cc
 key_at [] (suc i) e here = absurd cc
-key_at (f ∷ es) zero e here = let same : f ≡ e = cc in ap (λ (x : ℕ × PinState). Some x.0) same
+key_at (f ∷ es) zero e here = let same : f ≡ e = cc in ap (λ (x : ℕ × PinnedNames). Some x.0) same
 key_at (f ∷ es) (suc i) e here = key_at es i e here
 
 same_some : {k n : ℕ} → Some k ≡ Some n → k ≡ n
@@ -124,21 +124,21 @@ at_least (x ∷ xs) low (suc i) n above sorted here =
     all_above y [] less = tt
     all_above y (z ∷ ys) less = (let below : y < z = below_of y z less.0 in omega arith, all_above y ys less.1)
 
-pub taken_below : (m : BTreeMap ℕ PinState) (free : ℕ) → IsOrdered nat_cmp m → Counts (keys_of m.entries) free → (lower : ℕ) → lower < free → IsSome (map.get (map.from_entries {R = nat_cmp} m.entries) lower)
+pub taken_below : (m : BTreeMap ℕ PinnedNames) (free : ℕ) → IsOrdered nat_cmp m → Counts (keys_of m.entries) free → (lower : ℕ) → lower < free → IsSome (map.get (map.from_entries {R = nat_cmp} m.entries) lower)
 taken_below m free ordered counts lower below =
     let entry = entry_at m.entries lower lower (counts lower below) in
     let here : map.get (map.from_entries {R = nat_cmp} m.entries) lower ≡ Some entry.0 = get-tree m.entries lower ∙ btree_map_get_place nat_cmp_total m lower lower entry.0 ordered entry.1 in
     rw here refl
 
-pub free_at : (m : BTreeMap ℕ PinState) (free : ℕ) → IsOrdered nat_cmp m → Counts (keys_of m.entries) free → ((n : ℕ) → slice_get (keys_of m.entries) free ≡ Some n → n ≢ free) → map.get (map.from_entries {R = nat_cmp} m.entries) free ≡ None
+pub free_at : (m : BTreeMap ℕ PinnedNames) (free : ℕ) → IsOrdered nat_cmp m → Counts (keys_of m.entries) free → ((n : ℕ) → slice_get (keys_of m.entries) free ≡ Some n → n ≢ free) → map.get (map.from_entries {R = nat_cmp} m.entries) free ≡ None
 free_at m free ordered counts next = get-tree m.entries free ∙ lookup_at_gap nat_cmp_total free m.entries free ordered lower higher
   where
-    lower : (j : ℕ) (e : ℕ × PinState) → j < free → slice_get m.entries j ≡ Some e → nat_cmp free e.0 ≡ Greater
+    lower : (j : ℕ) (e : ℕ × PinnedNames) → j < free → slice_get m.entries j ≡ Some e → nat_cmp free e.0 ≡ Greater
     lower j e below here =
         let key : e.0 ≡ j = same_some (sym (key_at m.entries j e here) ∙ counts j below) in
         sym (nat_cmp_is free e.0 Greater (omega arith))
 
-    higher : (e : ℕ × PinState) → slice_get m.entries free ≡ Some e → nat_cmp free e.0 ≡ Less
+    higher : (e : ℕ × PinnedNames) → slice_get m.entries free ≡ Some e → nat_cmp free e.0 ≡ Less
     higher e here =
         let key = key_at m.entries free e here in
         let other : e.0 ≢ free = next e.0 key in
@@ -166,11 +166,11 @@ none_at (x ∷ xs) zero n is here = cc
 none_at (x ∷ xs) (suc i) n is here = none_at xs i n is here
 
 -- another number comes next, or none does
-pub free_before : (m : BTreeMap ℕ PinState) (free n : ℕ) (rest : List ℕ) → IsOrdered nat_cmp m → Counts (keys_of m.entries) free → drop free (keys_of m.entries) ≡ n ∷ rest → n ≢ free → map.get (map.from_entries {R = nat_cmp} m.entries) free ≡ None
+pub free_before : (m : BTreeMap ℕ PinnedNames) (free n : ℕ) (rest : List ℕ) → IsOrdered nat_cmp m → Counts (keys_of m.entries) free → drop free (keys_of m.entries) ≡ n ∷ rest → n ≢ free → map.get (map.from_entries {R = nat_cmp} m.entries) free ≡ None
 free_before m free n rest ordered counts is other =
     free_at m free ordered counts (λ k here same. let there : k ≡ n = same_some (sym here ∙ head_at (keys_of m.entries) free n rest is) in other (sym there ∙ same))
 
-pub free_at_end : (m : BTreeMap ℕ PinState) (free : ℕ) → IsOrdered nat_cmp m → Counts (keys_of m.entries) free → drop free (keys_of m.entries) ≡ [] → map.get (map.from_entries {R = nat_cmp} m.entries) free ≡ None
+pub free_at_end : (m : BTreeMap ℕ PinnedNames) (free : ℕ) → IsOrdered nat_cmp m → Counts (keys_of m.entries) free → drop free (keys_of m.entries) ≡ [] → map.get (map.from_entries {R = nat_cmp} m.entries) free ≡ None
 free_at_end m free ordered counts is = free_at m free ordered counts (λ k here same. none_at (keys_of m.entries) free k is here)
 
 -- the number itself comes next
@@ -200,15 +200,15 @@ removed m n k updates = map.same_map nat_cmp_total map.nat_cmp-IsAntisymmetric _
 
 -- ANSWERS
 
-pub dropped-none : (owner : ℕ) (found : Option PinState) → found ≡ None → Err NoPin ≡ dropped owner found
+pub dropped-none : (owner : ℕ) (found : Option PinnedNames) → found ≡ None → Err NoPin ≡ dropped owner found
 dropped-none owner found is = rw is refl
 
-pub dropped-other : (owner told : ℕ) (found : Option PinState) (pin : PinState) → found ≡ Some pin → told ≡ pin.owner → told ≢ owner → Err (NotYours told) ≡ dropped owner found
+pub dropped-other : (owner told : ℕ) (found : Option PinnedNames) (pin : PinnedNames) → found ≡ Some pin → told ≡ pin.owner → told ≢ owner → Err (NotYours told) ≡ dropped owner found
 dropped-other owner told found pin is same other =
     let test : nat_eq pin.owner owner ≡ false = grind (arith, nat_tests) in
     rw (is, test, same) refl
 
-pub dropped-own : (owner : ℕ) (found : Option PinState) (pin : PinState) → found ≡ Some pin → pin.owner ≡ owner → Ok tt ≡ dropped owner found
+pub dropped-own : (owner : ℕ) (found : Option PinnedNames) (pin : PinnedNames) → found ≡ Some pin → pin.owner ≡ owner → Ok tt ≡ dropped owner found
 dropped-own owner found pin is own =
     let test : nat_eq pin.owner owner ≡ true = grind (arith, nat_tests) in
     rw (is, test) refl

@@ -4,7 +4,7 @@ use Rattle.std.specs.Coded.{Coded, code_by, coded×, coded_list, coded_ℕ}
 use Rattle.std.specs.Ordering.{nat_cmp}
 use Rattle.std.specs.Prelude.{◌≡◌, ℕ, ◌==◌, List, map, Option, Some, None, Result, Ok, Err, if◌then◌else◌, refl}
 use Rattle.disk_model.specs.Files.{Name}
-use Rattle.pins.specs.Pinned.{PinState}
+use Rattle.pins.specs.Pinned.{PinnedNames}
 use Rattle.pins.specs.declared.table.PinErr.{PinErr}
 use Rattle.pins.specs.declared.table.PinErr.TheVariants.{NoPin, NotYours}
 use Rattle.pins.specs.declared.piece.PinnedFile.{PinnedFile}
@@ -24,12 +24,12 @@ abbrev pub file_of : PinnedFile → Name
 file_of piece = piece.name
 
 -- the same pin, by the names of its files alone
-abbrev pub named : Option PinOf → Option PinState
+abbrev pub named : Option PinOf → Option PinnedNames
 named None = None
 named (Some pin) = Some (record { owner = pin.owner; files = map file_of pin.pieces })
 
 -- the pins name just the files of these pieces
-abbrev pub Agree : FinMap nat_cmp PinState → FinMap nat_cmp PinOf → Type 0
+abbrev pub Agree : FinMap nat_cmp PinnedNames → FinMap nat_cmp PinOf → Type 0
 Agree pins all = (n : ℕ) → get pins n ≡ named (get all n)
 
 -- how one who asks for a pin is answered, by the pin that has the number

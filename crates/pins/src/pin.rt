@@ -11,9 +11,9 @@ pub(crate) struct Pin {
 }
 
 impl Model for Pin {
-    ghost use Rattle.pins.specs.Pinned.{PinState};
+    ghost use Rattle.pins.specs.Pinned.{PinnedNames};
 
-    ghost Value = { PinState };
+    ghost Value = { PinnedNames };
 
     ghost view = { λ p. record { owner = p.owner; files = p.files.items } };
 }

@@ -32,9 +32,9 @@ impl Model for Pins {
     ghost use Rattle.std.specs.Ordering.{nat_cmp};
     ghost use Rattle.std.specs.FinMap as map;
     ghost use Rattle.std.specs.Coded.{coded_ℕ};
-    ghost use Rattle.pins.specs.Pinned.{PinState, pin_code};
+    ghost use Rattle.pins.specs.Pinned.{PinnedNames, pin_code};
 
-    ghost Value = { map.FinMap nat_cmp PinState };
+    ghost Value = { map.FinMap nat_cmp PinnedNames };
 
     ghost coded = { map.code coded_ℕ pin_code };
 

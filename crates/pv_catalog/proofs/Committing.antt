@@ -9,14 +9,14 @@ use Rattle.gate_journal.specs.Commits.{CommitsBatches, ChangesOne}
 use Rattle.gate_journal.specs.Journal.{JournalState, is_of_commit}
 use Rattle.gate_journal.specs.Kept.{CommitsValue}
 use Rattle.gate_journal.specs.Plain.{NoShorter}
-use Rattle.gate_journal.specs.Standing.{Standing}
+use Rattle.gate_journal.specs.DiskShown.{DiskShown}
 use Rattle.gate_journal.proofs.Keeping.{commits_mean}
 use Rattle.pv_catalog.specs.declared.row.Row.{Row}
 use Rattle.pv_catalog.specs.Rows.{IsCatalogue, IsBatch}
 use Rattle.pv_catalog.proofs.Meaning.{more}
 
 -- the batch of a change is committed
-pub change_commits : (rows next : List Row) (batch : List ℕ) (bs : List (List ℕ)) (journal now : JournalState) (after later : List Row) (result : Result (Unit {0}) DiskErr) (old new : Standing) → IsCatalogue bs rows → IsBatch rows batch next
+pub change_commits : (rows next : List Row) (batch : List ℕ) (bs : List (List ℕ)) (journal now : JournalState) (after later : List Row) (result : Result (Unit {0}) DiskErr) (old new : DiskShown) → IsCatalogue bs rows → IsBatch rows batch next
     → is_of_commit now.pending ≡ true → OnOk result (after ≡ next) → OnErr result ((after ≡ rows) × (later ≡ next)) → CommitsBatches bs (bs ++ batch ∷ []) result journal now old new
     → CommitsValue IsCatalogue rows next after later (OnOk result) (IsErrOf result Fault) (IsErrOf result Memory) journal now old new
 change_commits rows next batch bs journal now after later result old new means is of_commit done failed commits =
@@ -29,5 +29,5 @@ no_shorter : (c : Content) → NoShorter c c
 no_shorter None = tt
 no_shorter (Some b) = omega arith
 
-pub nothing_grows : (name : Name) (at : Standing) → ChangesOne name NoShorter at at
+pub nothing_grows : (name : Name) (at : DiskShown) → ChangesOne name NoShorter at at
 nothing_grows name at = record { files = λ n other. refl; any_moment = passes_none (At name NoShorter) at.past (λ a left. record { here = no_shorter (a name); elsewhere = λ n other. refl }); opened = refl }

@@ -11,8 +11,8 @@ use Rattle.act_model.specs.Machine.{Machine}
 use Rattle.act_model.specs.Out.{Subject}
 use Rattle.act_model.specs.Sound.{IsSound}
 use Rattle.pb_wire.specs.declared.payload.PayloadType.{PayloadType}
-use Rattle.retrieval_query.specs.declared.variable.PinErr.{PinErr}
-use Rattle.retrieval_query.specs.declared.variable.PinErr.TheVariants as pin_err
+use Rattle.retrieval_query.specs.declared.variable.PinVariableErr.{PinVariableErr}
+use Rattle.retrieval_query.specs.declared.variable.PinVariableErr.TheVariants as pin_err
 use Rattle.retrieval_query.specs.declared.variable.PinnedVariable.{PinnedVariable}
 use Rattle.retrieval_query.specs.declared.retrieved.Retrieved.{Retrieved}
 use Rattle.retrieval_query.specs.Pinning.{AnswersPinned, FailsToPin, GivesUp, ended_by}
@@ -20,7 +20,7 @@ use Rattle.retrieval_query.specs.Retrieving.{ReadsHeaders, ReadsPinned, Refuses,
 use Rattle.retrieval_query.proofs.Whole.{writes_answer}
 
 module _ {A : Type 0} (number : A → ℕ) (between : A → List Entry → A → Type 0) (is_spent : A → Type 0) where
-  pub refuses_so : (R : Type 0) (old new : A) (name : List ℕ) (query : Query) (why : PinErr) → FailsToPin number between is_spent old name query why new → Refuses {R = R} number between is_spent old name query (ended_by why) new
+  pub refuses_so : (R : Type 0) (old new : A) (name : List ℕ) (query : Query) (why : PinVariableErr) → FailsToPin number between is_spent old name query why new → Refuses {R = R} number between is_spent old name query (ended_by why) new
   refuses_so R old new name query pin_err.NoSuchVariable f = f
   refuses_so R old new name query pin_err.DiskFault f = f
   refuses_so R old new name query pin_err.Spent f = f

@@ -18,8 +18,8 @@ use Rattle.pb_messages.specs.declared.about.About.{About}
 use Rattle.act_model.specs.declared.acts.Act.TheVariants.{Pin}
 use Rattle.act_model.specs.declared.acts.Answer.TheVariants as answer
 use Rattle.act_model.specs.History.{MadeOne}
-use Rattle.retrieval_query.specs.declared.variable.PinErr.{PinErr}
-use Rattle.retrieval_query.specs.declared.variable.PinErr.TheVariants as pin_err
+use Rattle.retrieval_query.specs.declared.variable.PinVariableErr.{PinVariableErr}
+use Rattle.retrieval_query.specs.declared.variable.PinVariableErr.TheVariants as pin_err
 use Rattle.retrieval_query.specs.Pinning.{ended_by}
 use Rattle.retrieval_query.specs.Retrieving.{RetrievesToEnd, Ends, EndsAs, EndsPinned, FinishesRead, ReadsPinned, ReadsToEnd, Writes, given_up}
 
@@ -151,7 +151,7 @@ module _ {A O : Type 0} (number : A → ℕ) (between : A → List Entry → A �
   read_behind pinned new name query pin name_told about pieces tail out out_new Memory pins reads = tt
 
   -- no pin was made
-  pub read_none : (R : Type 0) (new : A) (name : List ℕ) (query : Query) (out out_new : O) (why : PinErr) → RetrievesToEnd {R = R} number between finished old name query out (ended_by why) new out_new
+  pub read_none : (R : Type 0) (new : A) (name : List ℕ) (query : Query) (out out_new : O) (why : PinVariableErr) → RetrievesToEnd {R = R} number between finished old name query out (ended_by why) new out_new
   read_none R new name query out out_new pin_err.NoSuchVariable = tt
   read_none R new name query out out_new pin_err.DiskFault = tt
   read_none R new name query out out_new pin_err.Spent = tt

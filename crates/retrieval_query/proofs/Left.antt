@@ -10,11 +10,11 @@ use Rattle.act_model.specs.declared.acts.Act.TheVariants.{OpenPiece}
 use Rattle.act_model.specs.declared.acts.Answer.TheVariants.{Piece}
 use Rattle.act_model.specs.Growth.{Onward, RowsOn}
 use Rattle.act_model.specs.History.{Entry, Done, Made, MadeOne, Goes, mine, done_of}
-use Rattle.act_model.specs.Limbo.{FileState}
+use Rattle.act_model.specs.Limbo.{RowFile}
 use Rattle.act_model.specs.Machine.{Machine, PinState}
 use Rattle.act_model.specs.OpenPiece.{bytes_of, name_of, lines_of}
 use Rattle.act_model.specs.Pinned.{AllKeep}
-use Rattle.act_model.specs.Reply.{Opened}
+use Rattle.act_model.specs.Reply.{OpenedFile}
 use Rattle.act_model.specs.Rows.{RowState}
 use Rattle.act_model.specs.Sound.{IsSound}
 use Rattle.act_model.proofs.Histories.{runs_onward}
@@ -26,29 +26,29 @@ use Rattle.retrieval_query.specs.Held.{IsOther, keeps}
 use Rattle.retrieval_query.proofs.Steps.{one_step}
 
 -- a row keeps its name
-named_on : (old new : List RowState) (f : FileState) (n : NamedBytes) → RowsOn old new → IsNamedAs old f n → IsNamedAs new f n
+named_on : (old new : List RowState) (f : RowFile) (n : NamedBytes) → RowsOn old new → IsNamedAs old f n → IsNamedAs new f n
 named_on old new f n on is =
     let row = on f.row is.row is.here in
     record { row = row.0; here = row.1; whole = is.whole; is = is.is ∙ ap (λ (name : List ℕ). record { name = name_of (record row.0 { name = name }) f; bytes = bytes_of f }) (sym row.2.name) }
 
-all_on : (old new : List RowState) (fs : List FileState) (ps : List NamedBytes) → RowsOn old new → AllZip (IsNamedAs old) fs ps → AllZip (IsNamedAs new) fs ps
+all_on : (old new : List RowState) (fs : List RowFile) (ps : List NamedBytes) → RowsOn old new → AllZip (IsNamedAs old) fs ps → AllZip (IsNamedAs new) fs ps
 all_on old new [] [] on all = tt
 all_on old new [] (p ∷ ps) on all = all
 all_on old new (f ∷ fs) [] on all = all
 all_on old new (f ∷ fs) (p ∷ ps) on all = (named_on old new f p on all.0, all_on old new fs ps on all.1)
 
-absurd_none : {f : FileState} → None ≡ Some f → ⊥
+absurd_none : {f : RowFile} → None ≡ Some f → ⊥
 absurd_none is = cc
 
-drop_suc : (fs : List FileState) (i : ℕ) (f : FileState) → slice_get fs i ≡ Some f → drop i fs ≡ f ∷ drop (suc i) fs
+drop_suc : (fs : List RowFile) (i : ℕ) (f : RowFile) → slice_get fs i ≡ Some f → drop i fs ≡ f ∷ drop (suc i) fs
 drop_suc [] i f is = absurd (absurd_none (sym (slice_get_past [] i (omega arith)) ∙ is))
-drop_suc (g ∷ fs) zero f is = let same : g ≡ f = cc in ap (λ (x : FileState). x ∷ fs) same
+drop_suc (g ∷ fs) zero f is = let same : g ≡ f = cc in ap (λ (x : RowFile). x ∷ fs) same
 drop_suc (g ∷ fs) (suc i) f is = drop_suc fs i f is
 
-drop_here : (fs : List FileState) (i : ℕ) (f : FileState) → slice_get fs i ≡ Some f → drop i fs ≡ f ∷ drop (i + 1) fs
+drop_here : (fs : List RowFile) (i : ℕ) (f : RowFile) → slice_get fs i ≡ Some f → drop i fs ≡ f ∷ drop (i + 1) fs
 drop_here fs i f is = let one : suc i ≡ i + 1 = omega arith in drop_suc fs i f is ∙ ap (λ (n : ℕ). f ∷ drop n fs) one
 
-none_dropped : (fs : List FileState) (i : ℕ) → length fs ≡ i → drop i fs ≡ []
+none_dropped : (fs : List RowFile) (i : ℕ) → length fs ≡ i → drop i fs ≡ []
 none_dropped fs i is = drop_of_length-le fs (omega (arith, is))
 
 -- the first of two lists that go together
@@ -60,10 +60,10 @@ none_beside : {F : Type 0} (R : F → NamedBytes → Type 0) (ps : List NamedByt
 none_beside R [] all = refl
 none_beside R (p ∷ ps) all = absurd all
 
-shown : (f : FileState) (reader : Opened) (len : ℕ) → reader.bytes ≡ bytes_of f → len ≡ length (bytes_of f) → take len reader.bytes ≡ bytes_of f
+shown : (f : RowFile) (reader : OpenedFile) (len : ℕ) → reader.bytes ≡ bytes_of f → len ≡ length (bytes_of f) → take len reader.bytes ≡ bytes_of f
 shown f reader len bytes len_is = ap (λ (l : List ℕ). take len l) bytes ∙ (ap (λ (n : ℕ). take n (bytes_of f)) len_is ∙ take_all (length (bytes_of f)) (bytes_of f) (omega arith))
 
-head_len_is : (f : FileState) (bytes : List ℕ) (head_len : ℕ) → HasNoNewline f.head → bytes ≡ bytes_of f → head_len ≡ length f.head + 1 → IsHeadLen head_len bytes
+head_len_is : (f : RowFile) (bytes : List ℕ) (head_len : ℕ) → HasNoNewline f.head → bytes ≡ bytes_of f → head_len ≡ length f.head + 1 → IsHeadLen head_len bytes
 head_len_is f bytes head_len whole is len = λ head info samples file.
     let same = one_line f.head head (lines_of f.samples) _ whole file.whole (sym is ∙ file.text) in
     len ∙ ap (λ (l : List ℕ). length l + 1) same.0
@@ -106,10 +106,10 @@ module _ {A : Type 0} (number : A → ℕ) (between : A → List Entry → A →
   pub left_none : (a : A) (pin next left : ℕ) (ps : List NamedBytes) → left ≡ 0 → LeftOf number stands a pin next left ps → ps ≡ []
   left_none a pin next left ps none l =
       let h = l.holds in
-      none_beside (IsNamedAs h.m.rows) ps (subst (λ (fs : List FileState). AllZip (IsNamedAs h.m.rows) fs ps) (none_dropped h.state.pieces next (omega (arith, h.all, none))) l.rest)
+      none_beside (IsNamedAs h.m.rows) ps (subst (λ (fs : List RowFile). AllZip (IsNamedAs h.m.rows) fs ps) (none_dropped h.state.pieces next (omega (arith, h.all, none))) l.rest)
 
   -- a piece was opened: it is the first of those that were left
-  pub left_opened : (a b : A) (pin next left next₂ left₂ : ℕ) (ps : List NamedBytes) (reader : Opened) (name : Name) (head_len len : ℕ) → LeftOf number stands a pin next left ps → MadeOne number between a (OpenPiece pin next) (Piece reader name head_len len) b → next₂ ≡ next + 1 → next₂ + left₂ ≡ next + left
+  pub left_opened : (a b : A) (pin next left next₂ left₂ : ℕ) (ps : List NamedBytes) (reader : OpenedFile) (name : Name) (head_len len : ℕ) → LeftOf number stands a pin next left ps → MadeOne number between a (OpenPiece pin next) (Piece reader name head_len len) b → next₂ ≡ next + 1 → next₂ + left₂ ≡ next + left
       → (rest : List NamedBytes) × (ps ≡ record { name = name; bytes = take len reader.bytes } ∷ rest) × IsHeadLen head_len (take len reader.bytes) × LeftOf number stands b pin next₂ left₂ rest
   left_opened a b pin next left next₂ left₂ ps reader name head_len len l made next_is all =
       let h = l.holds in
@@ -119,7 +119,7 @@ module _ {A : Type 0} (number : A → ℕ) (between : A → List Entry → A →
       let opened = opens_pinned pin next h.state s.before_it h.m s.at s.after l.told (sound a h.m h.stands_for) s.to keep h.there (number a) reader name head_len len s.step in
       let f = opened.piece in
       let to = runs_onward s.before_it h.m s.at (sound a h.m h.stands_for) s.to in
-      let first = split (IsNamedAs h.m.rows) f (drop (next + 1) h.state.pieces) ps (subst (λ (fs : List FileState). AllZip (IsNamedAs h.m.rows) fs ps) (drop_here h.state.pieces next f opened.at) l.rest) in
+      let first = split (IsNamedAs h.m.rows) f (drop (next + 1) h.state.pieces) ps (subst (λ (fs : List RowFile). AllZip (IsNamedAs h.m.rows) fs ps) (drop_here h.state.pieces next f opened.at) l.rest) in
       let here = named_on h.m.rows s.at.rows f first.0 (to.rows l.told) first.3 in
       let name_is : name ≡ name_of here.row f = opened.named here.row here.here in
       let bytes_are : take len reader.bytes ≡ bytes_of f = shown f reader len opened.shows.bytes opened.shows.len_is in

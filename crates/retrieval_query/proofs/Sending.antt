@@ -11,7 +11,7 @@ use Rattle.pb_messages.specs.declared.info.PayloadInfo.{PayloadInfo}
 use Rattle.series_model.specs.declared.sample.Sample.{Sample}
 use Rattle.act_model.specs.Event.{IsEvent, AreEvents}
 use Rattle.act_model.specs.Out.{Subject}
-use Rattle.retrieval_query.specs.declared.head.Head.{Head}
+use Rattle.retrieval_query.specs.declared.head.HeaderLines.{HeaderLines}
 use Rattle.retrieval_query.specs.Raw.{IsOfYear, IsNearestYear, IsHeaderAlone, IsRaw, header_of}
 use Rattle.retrieval_query.specs.Writing.{IsOpening, IsHeader, IsEnding, IsText, HasHead, Opens, OpensFront, Closes, ClosesFront, Gives, Finishes, Breaks}
 use Rattle.retrieval_query.specs.Texts.{line_of, opening_of, text_none, text_more, raw_front, raw_ended}
@@ -32,13 +32,13 @@ opens_none a old subject last year =
     record { piece = o.0; opening = o.1; front = front_none a (old ++ o.0) }
 
 -- the head, by its own name
-pub here_is : (subject : Subject) (o : Option Head) (head : Head) (last : Option ℤ) → o ≡ Some head → HasHead subject o last → HasHead subject (Some head) last
-here_is subject o head last is has = let P : Option Head → Type 0 = λ x. HasHead subject x last in subst P is has
+pub here_is : (subject : Subject) (o : Option HeaderLines) (head : HeaderLines) (last : Option ℤ) → o ≡ Some head → HasHead subject o last → HasHead subject (Some head) last
+here_is subject o head last is has = let P : Option HeaderLines → Type 0 = λ x. HasHead subject x last in subst P is has
 
-pub some_here : (subject : Subject) (head : Head) (last : Option ℤ) → HasHead subject (Some head) last → IsHeader subject head.info × (head.last ≡ last) × (last ≡ None → IsNearestYear head.info.year subject.query.from)
+pub some_here : (subject : Subject) (head : HeaderLines) (last : Option ℤ) → HasHead subject (Some head) last → IsHeader subject head.info × (head.last ≡ last) × (last ≡ None → IsNearestYear head.info.year subject.query.from)
 some_here subject head last has =
     let same : has.here ≡ head = cc (has.is) in
-    let P : Head → Type 0 = λ h. IsHeader subject h.info × (h.last ≡ last) × (last ≡ None → IsNearestYear h.info.year subject.query.from) in
+    let P : HeaderLines → Type 0 = λ h. IsHeader subject h.info × (h.last ≡ last) × (last ≡ None → IsNearestYear h.info.year subject.query.from) in
     subst P same (has.info, has.last_is, has.nearest)
 
 is_none : (o : Option ℤ) → is_some o ≡ false → o ≡ None
@@ -70,7 +70,7 @@ closes_none_front a b old subject last here year none same near o =
 
 -- BEGINNING
 
-pub begins : (a : Option (List ℕ)) (old : List ℕ) (head : Head) (subject : Subject) (year : ℤ) → head.info ≡ header_of subject year → head.last ≡ None → IsNearestYear year subject.query.from → Gives a a old old (Some head) subject []
+pub begins : (a : Option (List ℕ)) (old : List ℕ) (head : HeaderLines) (subject : Subject) (year : ℤ) → head.info ≡ header_of subject year → head.last ≡ None → IsNearestYear year subject.query.from → Gives a a old old (Some head) subject []
 begins a old head subject year is none near =
     let same : head.info.year ≡ year = ap (λ (i : PayloadInfo). i.year) is in
     let N : ℤ → Type 0 = λ y. IsNearestYear y subject.query.from in
@@ -139,7 +139,7 @@ module _ (subject : Subject) (xs : List Sample) (s : Sample) (more : List Sample
         front = front_in a d old bytes (o.piece ++ line_of s) all.0 (subst F (append_assoc (old ++ bytes) o.piece (line_of s)) (front_behind a c d ((old ++ bytes) ++ o.piece) then (line_of s) first front));
       }
 
-pub given : (a b c d : Option (List ℕ)) (old mid then new : List ℕ) (head : Head) (subject : Subject) (xs : List Sample) (s : Sample) (year : ℤ) (last here : Option ℤ) (bytes : List ℕ) → IsText subject xs last bytes → Sends a b (old ++ bytes) mid → here ≡ last → IsOfYear year s
+pub given : (a b c d : Option (List ℕ)) (old mid then new : List ℕ) (head : HeaderLines) (subject : Subject) (xs : List Sample) (s : Sample) (year : ℤ) (last here : Option ℤ) (bytes : List ℕ) → IsText subject xs last bytes → Sends a b (old ++ bytes) mid → here ≡ last → IsOfYear year s
     → Opens b c mid then subject here year → Sends c d (then ++ line_of s) new → IsHeader subject head.info → head.last ≡ Some year → Gives a d old new (Some head) subject (xs ++ s ∷ [])
 given a b c d old mid then new head subject xs s year last here bytes text sent same of_year o line info is =
     let O : Option ℤ → Type 0 = λ l. IsOpening subject l year o.piece in

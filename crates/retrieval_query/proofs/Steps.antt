@@ -7,9 +7,9 @@ use Rattle.disk_model.specs.Files.{Name}
 use Rattle.act_model.specs.declared.acts.Act.{Act}
 use Rattle.act_model.specs.declared.acts.Act.TheVariants.{OpenPiece, Unpin}
 use Rattle.act_model.specs.declared.acts.Answer.TheVariants.{NoPin, NotYours, NoPiece, Piece, Unpinned}
-use Rattle.act_model.specs.Reply.{Reply, Opened}
+use Rattle.act_model.specs.Reply.{Reply, OpenedFile}
 use Rattle.act_model.specs.History.{Entry, Done, MadeOne, Runs, Goes, own, mine, done_of}
-use Rattle.act_model.specs.Limbo.{FileState}
+use Rattle.act_model.specs.Limbo.{RowFile}
 use Rattle.act_model.specs.Machine.{Machine, PinState}
 use Rattle.act_model.specs.Sound.{IsSound}
 use Rattle.act_model.specs.Step.{Step, MayAsk}
@@ -72,7 +72,7 @@ module _ {A : Type 0} (number : A → ℕ) (between : A → List Entry → A →
 
 -- ANSWERS
 
-no_refusal : (who : ℕ) (o : Option PinState) (reader : Opened) (name : Name) (head_len len : ℕ) → pin_refused who o ≡ Some (Piece reader name head_len len) → ⊥
+no_refusal : (who : ℕ) (o : Option PinState) (reader : OpenedFile) (name : Name) (head_len len : ℕ) → pin_refused who o ≡ Some (Piece reader name head_len len) → ⊥
 no_refusal who None reader name head_len len is = cc
 no_refusal who (Some p) reader name head_len len is = by_owner (p.owner == who) is
   where
@@ -81,20 +81,20 @@ no_refusal who (Some p) reader name head_len len is = by_owner (p.owner == who) 
     by_owner false is = cc
 
 -- a reader that was opened hasn't failed, and has the bytes of its piece
-pub opened_fresh : {who n i : ℕ} {old new : Machine} {reply : Reply} (reader : Opened) (name : Name) (head_len len : ℕ) → Opens who n i old reply new → reply ≡ Piece reader name head_len len → (reader.faults ≡ 0) × (reader.tells ≡ true → len ≤ length reader.bytes)
+pub opened_fresh : {who n i : ℕ} {old new : Machine} {reply : Reply} (reader : OpenedFile) (name : Name) (head_len len : ℕ) → Opens who n i old reply new → reply ≡ Piece reader name head_len len → (reader.faults ≡ 0) × (reader.tells ≡ true → len ≤ length reader.bytes)
 opened_fresh {who} {n} {i} {old} reader name head_len len (refused_open reply p) is = absurd (no_refusal who (get old.pins n) reader name head_len len (subst (λ r. pin_refused who (get old.pins n) ≡ Some r) is p))
 opened_fresh reader name head_len len (no_piece p a b c) is = absurd cc
 opened_fresh reader name head_len len (opens p piece r nm hl l a b c fresh shows named enough same f) is =
     let reader_is : r ≡ reader = cc in
     let len_is : l ≡ len = cc in
-    (ap (λ (o : Opened). o.faults) (sym reader_is) ∙ fresh, subst (λ (o : Opened). o.tells ≡ true → len ≤ length o.bytes) reader_is (subst (λ (k : ℕ). r.tells ≡ true → k ≤ length r.bytes) len_is enough))
+    (ap (λ (o : OpenedFile). o.faults) (sym reader_is) ∙ fresh, subst (λ (o : OpenedFile). o.tells ≡ true → len ≤ length o.bytes) reader_is (subst (λ (k : ℕ). r.tells ≡ true → k ≤ length r.bytes) len_is enough))
 opened_fresh reader name head_len len (faults_opening p piece a b c same q) is = absurd cc
 opened_fresh reader name head_len len (wants_memory_opening same q) is = absurd cc
 
 one_pin : {a b : PinState} → Some a ≡ Some b → a ≡ b
 one_pin is = cc
 
-there_is : (l : List FileState) (i : ℕ) → i < length l → slice_get l i ≡ None → ⊥
+there_is : (l : List RowFile) (i : ℕ) → i < length l → slice_get l i ≡ None → ⊥
 there_is [] i low none = omega (arith, low)
 there_is (f ∷ l) zero low none = cc
 there_is (f ∷ l) (suc i) low none = there_is l i (omega (arith, low)) none
@@ -146,7 +146,7 @@ module _ {A : Type 0} (number : A → ℕ) (between : A → List Entry → A →
       let s = one_step number between stands legal a b (Unpin pin) reply h.m h.stands_for made in
       gives_up h.state (there_at a b pin next left (Unpin pin) reply h made) h.owner s.step
 
-  pub opens_fresh : (a b : A) (pin next left : ℕ) (reader : Opened) (name : Name) (head_len len : ℕ) → Holds number stands a pin next left → MadeOne number between a (OpenPiece pin next) (Piece reader name head_len len) b → (reader.faults ≡ 0) × (reader.tells ≡ true → len ≤ length reader.bytes)
+  pub opens_fresh : (a b : A) (pin next left : ℕ) (reader : OpenedFile) (name : Name) (head_len len : ℕ) → Holds number stands a pin next left → MadeOne number between a (OpenPiece pin next) (Piece reader name head_len len) b → (reader.faults ≡ 0) × (reader.tells ≡ true → len ≤ length reader.bytes)
   opens_fresh a b pin next left reader name head_len len h made =
       let s = one_step number between stands legal a b (OpenPiece pin next) (Piece reader name head_len len) h.m h.stands_for made in
       opened_fresh reader name head_len len s.step refl

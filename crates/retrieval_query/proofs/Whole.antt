@@ -16,7 +16,7 @@ use Rattle.act_model.specs.Event.{AreEvents}
 use Rattle.act_model.specs.Files.{IsFileOf, IsEventIn}
 use Rattle.act_model.specs.Growth.{Onward}
 use Rattle.act_model.specs.History.{Entry, MadeOne, Goes, own}
-use Rattle.act_model.specs.Limbo.{FileState}
+use Rattle.act_model.specs.Limbo.{RowFile}
 use Rattle.act_model.specs.Machine.{Machine}
 use Rattle.act_model.specs.OpenPiece.{bytes_of, name_of}
 use Rattle.act_model.specs.OpenPiece.{lines_of as piece_lines}
@@ -59,7 +59,7 @@ samples_of ty year (s ∷ xs) all = (one (all.0), samples_of ty year xs all.1)
       meant = record { secs = e.event.secs; nano = e.event.nano; stamp = (e.event.message, e.event.means, e.event.stamp); sample_year = e.event.sample_year; in_year = e.event.in_year; at = e.event.at };
     })
 
-file_of : (rule : Rule) (row : RowState) (f : FileState) → ReadsHeaders rule → IsFileOf rule row f → IsReadAs row.about.ty (bytes_of f) f.samples
+file_of : (rule : Rule) (row : RowState) (f : RowFile) → ReadsHeaders rule → IsFileOf rule row f → IsReadAs row.about.ty (bytes_of f) f.samples
 file_of rule row f reads o =
     let h = reads o.message o.header o.says in
     let lines : AreSamples h.0.ty h.0.year f.samples = subst (λ (t : PayloadType). AreSamples t h.0.year f.samples) (sym h.2) (subst (λ (y : ℤ). AreSamples o.header.ty y f.samples) (sym h.3) (samples_of o.header.ty o.header.year f.samples o.lines)) in
@@ -95,7 +95,7 @@ events_in : (ty : PayloadType) (year : ℤ) (xs : List Sample) → AllByRecursio
 events_in ty year [] all = tt
 events_in ty year (x ∷ xs) all = (all.0.event, events_in ty year xs all.1)
 
-events_pieces : (rule : Rule) (row : RowState) (xs : List Sample) (fs : List FileState) → AreEvents row.about.ty xs → AllByRecursion (IsFileOf rule row) fs → AreEvents row.about.ty (over_pieces xs fs)
+events_pieces : (rule : Rule) (row : RowState) (xs : List Sample) (fs : List RowFile) → AreEvents row.about.ty xs → AllByRecursion (IsFileOf rule row) fs → AreEvents row.about.ty (over_pieces xs fs)
 events_pieces rule row xs [] a all = a
 events_pieces rule row xs (f ∷ fs) a all =
     let o = all.0 in
@@ -104,20 +104,20 @@ events_pieces rule row xs (f ∷ fs) a all =
 
 -- THE PIECES
 
-abbrev pub samples_in : FileState → List Sample
+abbrev pub samples_in : RowFile → List Sample
 samples_in f = f.samples
 
-over_same : (xs : List Sample) (fs : List FileState) → over_each xs (map samples_in fs) ≡ over_pieces xs fs
+over_same : (xs : List Sample) (fs : List RowFile) → over_each xs (map samples_in fs) ≡ over_pieces xs fs
 over_same xs [] = refl
 over_same xs (f ∷ fs) = over_same (over xs f.samples) fs
 
 -- their names and bytes, which are read as their samples
-record AreRead (rows : List RowState) (ty : PayloadType) (fs : List FileState) : Type 0 where
+record AreRead (rows : List RowState) (ty : PayloadType) (fs : List RowFile) : Type 0 where
   pub ps : List NamedBytes
   pub named_as : AllZip (IsNamedAs rows) fs ps
   pub read : AreReadAs ty ps (map samples_in fs)
 
-are_read : (rule : Rule) (row : RowState) (rows : List RowState) (limbo fs : List FileState) (place : Rule) → ReadsHeaders rule → AllByRecursion (PieceSound place rows limbo) fs → AllByRecursion (IsFileOf rule row) fs → AreRead rows row.about.ty fs
+are_read : (rule : Rule) (row : RowState) (rows : List RowState) (limbo fs : List RowFile) (place : Rule) → ReadsHeaders rule → AllByRecursion (PieceSound place rows limbo) fs → AllByRecursion (IsFileOf rule row) fs → AreRead rows row.about.ty fs
 are_read rule row rows limbo [] place reads sound files = record { ps = []; named_as = tt; read = tt }
 are_read rule row rows limbo (f ∷ fs) place reads sound files = by_row (slice_get rows f.row) refl (are_read rule row rows limbo fs place reads sound.1 files.1)
   where

@@ -5,11 +5,11 @@ use Rattle.pb_lines.proofs.FileLines.{all_rest}
 use Rattle.series_model.specs.declared.sample.Sample.{Sample}
 use Rattle.act_model.specs.Event.{IsEvent, AreEvents}
 use Rattle.act_model.specs.Out.{Subject}
-use Rattle.retrieval_query.specs.declared.head.Head.{Head}
+use Rattle.retrieval_query.specs.declared.head.HeaderLines.{HeaderLines}
 use Rattle.retrieval_query.specs.Writing.{Gives, Breaks}
 use Rattle.retrieval_query.specs.Texts.{raw_front}
 
-pub gives_breaks : (a b : Option (List ℕ)) (old new : List ℕ) (head : Option Head) (subject : Subject) (xs more : List Sample)
+pub gives_breaks : (a b : Option (List ℕ)) (old new : List ℕ) (head : Option HeaderLines) (subject : Subject) (xs more : List Sample)
     → AreEvents subject.about.ty (xs ++ more) → Gives a b old new head subject xs → Breaks a b old subject (xs ++ more)
 gives_breaks a b old new head subject xs more events gives =
     let ty = subject.about.ty in

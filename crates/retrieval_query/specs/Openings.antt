@@ -6,9 +6,9 @@ use Rattle.line_escape.specs.Unescaping.{HasNoNewline}
 use Rattle.disk_model.specs.Files.{Name}
 use Rattle.act_model.specs.declared.acts.Act.TheVariants.{OpenPiece}
 use Rattle.act_model.specs.declared.acts.Answer.TheVariants.{Piece, DiskFault, Memory}
-use Rattle.act_model.specs.Reply.{Opened}
+use Rattle.act_model.specs.Reply.{OpenedFile}
 use Rattle.act_model.specs.History.{Entry, Done, Made}
-use Rattle.act_model.specs.Limbo.{FileState}
+use Rattle.act_model.specs.Limbo.{RowFile}
 use Rattle.act_model.specs.Machine.{Machine, PinState}
 use Rattle.act_model.specs.OpenPiece.{bytes_of, name_of}
 use Rattle.act_model.specs.Rows.{RowState}
@@ -16,7 +16,7 @@ use Rattle.stream_merge.specs.Pieces.{NamedBytes, Failure, Faulted, OutOfActs, O
 
 -- a piece that was opened, as its answer tells it
 pub record PieceTold : Type 0 where
-  pub reader : Opened
+  pub reader : OpenedFile
   pub name : Name
   pub head_len : ℕ
   pub len : ℕ
@@ -86,7 +86,7 @@ pub record Holds {A : Type 0} (number : A → ℕ) (stands : A → Machine → T
   pub few : next + left < 2 ^ 32
 
 -- a file of a row: its first line is whole, and its name is that of the row
-pub record IsNamedAs (rows : List RowState) (f : FileState) (n : NamedBytes) : Type 0 where
+pub record IsNamedAs (rows : List RowState) (f : RowFile) (n : NamedBytes) : Type 0 where
   pub row : RowState
   pub here : slice_get rows f.row ≡ Some row
   pub whole : HasNoNewline f.head

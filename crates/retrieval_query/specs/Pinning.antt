@@ -13,8 +13,8 @@ use Rattle.act_model.specs.Out.{Subject}
 use Rattle.stream_merge.specs.Pieces.{NamedBytes}
 use Rattle.stream_merge.specs.Reading.{AreSamplesOf, AreReadAs}
 use Rattle.stream_merge.specs.Over.{over_all}
-use Rattle.retrieval_query.specs.declared.variable.PinErr.{PinErr}
-use Rattle.retrieval_query.specs.declared.variable.PinErr.TheVariants as pin_err
+use Rattle.retrieval_query.specs.declared.variable.PinVariableErr.{PinVariableErr}
+use Rattle.retrieval_query.specs.declared.variable.PinVariableErr.TheVariants as pin_err
 use Rattle.retrieval_query.specs.declared.variable.PinnedVariable.{PinnedVariable}
 use Rattle.retrieval_query.specs.declared.retrieved.Retrieved.{Retrieved}
 use Rattle.retrieval_query.specs.declared.retrieved.Retrieved.TheVariants.{NoSuchVariable, ReadFault, Spent, Memory}
@@ -22,14 +22,14 @@ use Rattle.retrieval_query.specs.Openings.{Holds, LeftOf}
 use Rattle.retrieval_query.specs.Retrieving.{ReadsPinned, Writes, WritesSome, given_up}
 
 -- why no pin was made, by just which act
-abbrev pub FailsToPin : {A : Type 0} → (A → ℕ) → (A → List Entry → A → Type 0) → (A → Type 0) → A → List ℕ → Query → PinErr → A → Type 0
+abbrev pub FailsToPin : {A : Type 0} → (A → ℕ) → (A → List Entry → A → Type 0) → (A → Type 0) → A → List ℕ → Query → PinVariableErr → A → Type 0
 FailsToPin number between is_spent old name query pin_err.NoSuchVariable new = MadeOne number between old (Pin name query) answer.NoSuchVariable new
 FailsToPin number between is_spent old name query pin_err.DiskFault new = MadeOne number between old (Pin name query) answer.DiskFault new
 FailsToPin number between is_spent old name query pin_err.Spent new = Made number between old [] new × is_spent new
 FailsToPin number between is_spent old name query pin_err.Memory new = Made number between old [] new ⊎ MadeOne number between old (Pin name query) answer.Memory new
 
 -- a retrieval without a pin ends so
-abbrev pub ended_by : {R : Type 0} → PinErr → Retrieved R
+abbrev pub ended_by : {R : Type 0} → PinVariableErr → Retrieved R
 ended_by {R} pin_err.NoSuchVariable = NoSuchVariable
 ended_by {R} pin_err.DiskFault = ReadFault None
 ended_by {R} pin_err.Spent = Spent

@@ -7,7 +7,7 @@ use Rattle.edge_io.specs.Sent.{Sends}
 use Rattle.pb_messages.specs.declared.info.PayloadInfo.{PayloadInfo}
 use Rattle.series_model.specs.declared.sample.Sample.{Sample}
 use Rattle.act_model.specs.Out.{Subject}
-use Rattle.retrieval_query.specs.declared.head.Head.{Head}
+use Rattle.retrieval_query.specs.declared.head.HeaderLines.{HeaderLines}
 use Rattle.retrieval_query.specs.Raw.{Chunk, AreCut, IsNearestYear, IsHeaderAlone, IsRaw, header_of, header_text, chunks_text}
 
 -- the year of the last chunk
@@ -66,15 +66,15 @@ pub record ClosesFront (a b : Option (List ℕ)) (old : List ℕ) (subject : Sub
   pub front : AppendsFront a b (old ++ piece)
 
 -- Header lines are made of what is known of the variable. Until one is put, the year is the nearest to the beginning of the interval.
-pub record HasHead (subject : Subject) (head : Option Head) (last : Option ℤ) : Type 0 where
-  pub here : Head
+pub record HasHead (subject : Subject) (head : Option HeaderLines) (last : Option ℤ) : Type 0 where
+  pub here : HeaderLines
   pub is : head ≡ Some here
   pub info : IsHeader subject here.info
   pub last_is : here.last ≡ last
   pub nearest : last ≡ None → IsNearestYear here.info.year subject.query.from
 
 -- The text as far as these samples went out, or is gathered.
-pub record Gives (a b : Option (List ℕ)) (old new : List ℕ) (head : Option Head) (subject : Subject) (xs : List Sample) : Type 0 where
+pub record Gives (a b : Option (List ℕ)) (old new : List ℕ) (head : Option HeaderLines) (subject : Subject) (xs : List Sample) : Type 0 where
   pub last : Option ℤ
   pub has_head : HasHead subject head last
   pub bytes : List ℕ

@@ -16,7 +16,7 @@ use std::alloc::{AllocError, Global};
 
 /// What the header lines of a variable are made of.
 #[derive(Drop)]
-pub(crate) struct Head {
+pub(crate) struct HeaderLines {
     info: PayloadInfo,
     // The year of the last header line.
     last: Option<i32>,
@@ -24,19 +24,19 @@ pub(crate) struct Head {
     line: Vec<u8>,
 }
 
-impl Head {
+impl HeaderLines {
     /// No header line was put yet.
     pub(crate) fn new(
         alloc: Global,
         name: &[u8],
         about: &About,
         year: i32,
-    ) -> Result<Head, AllocError>
+    ) -> Result<HeaderLines, AllocError>
         ensures info { IfOk result (λ head. (subject : Subject) → subject.name ≡ name.now → subject.about ≡ about.now
             → head.info ≡ header_of subject year) }
         ensures last { IfOk result (λ head. head.last ≡ None) }
     {
-        Ok(Head {
+        Ok(HeaderLines {
             info: PayloadInfo {
                 ty: about.ty,
                 name: Blob::from(name.to_vec(alloc)?),
@@ -83,7 +83,7 @@ impl Head {
 
 /// Puts the header line of a text without samples, where the text has begun and no header line was put.
 pub(crate) fn close<K: Sink>(
-    head: &mut Option<Head>,
+    head: &mut Option<HeaderLines>,
     buffer: &mut SinkBuffer,
     sink: &mut K,
 ) -> Result<(), OutErr>

@@ -32,4 +32,4 @@ mod year;
 pub use raw::RawOut;
 pub use retrieval::{give_up_pin, read_pinned, retrieve};
 pub use retrieved::Retrieved;
-pub use variable::{PinErr, PinnedVariable, pin_variable};
+pub use variable::{PinVariableErr, PinnedVariable, pin_variable};

@@ -3,7 +3,7 @@ ghost use Rattle.std.specs.Prelude.{◌≡◌, [], OnOk, OnErr};
 ghost use Rattle.retrieval_query.specs.Writing.{Gives, Finishes, Breaks};
 ghost use Rattle.retrieval_query.specs.Fronts.{gives_breaks};
 
-use crate::head::{Head, close};
+use crate::head::{HeaderLines, close};
 use crate::put::put_line;
 use crate::year::nearest_year;
 use act_model::{Out, OutErr};
@@ -21,7 +21,7 @@ pub struct RawOut<'a, K> {
     sink: &'a mut K,
     buffer: SinkBuffer,
     // What header lines are made of, once the text has begun.
-    head: Option<Head>,
+    head: Option<HeaderLines>,
 }
 
 impl<'a, K: Sink> RawOut<'a, K> {
@@ -62,7 +62,7 @@ impl<'a, K: Sink> Out for RawOut<'a, K> {
     ghost faults = { λ out. K.write_faults out.sink.now };
 
     fn begin(&mut self, name: &[u8], about: &About, query: Query) -> Result<(), OutErr> {
-        let Ok(head) = Head::new(self.alloc, name, about, nearest_year(query.from)) else {
+        let Ok(head) = HeaderLines::new(self.alloc, name, about, nearest_year(query.from)) else {
             return Err(OutErr::Memory);
         };
         self.head = Some(head);

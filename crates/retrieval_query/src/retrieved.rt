@@ -2,7 +2,7 @@
 ghost use Rattle.std.specs.Prelude.{◌≡◌, ℕ};
 ghost use Rattle.retrieval_query.specs.Giving.{retrieved_by, IsToldAs};
 
-use crate::variable::PinErr;
+use crate::variable::PinVariableErr;
 use act_model::OutErr;
 use disk_model::{FileName, ReadAt};
 use stream_merge::Merged;
@@ -38,17 +38,17 @@ impl<R: ReadAt> From<OutErr> for Retrieved<R> {
     }
 }
 
-impl<R: ReadAt> From<PinErr> for Retrieved<R> {
+impl<R: ReadAt> From<PinVariableErr> for Retrieved<R> {
     ghost use Rattle.retrieval_query.specs.Pinning.{ended_by};
 
     ghost from_gives = { λ why end. end ≡ ended_by why };
 
-    fn from(why: PinErr) -> Retrieved<R> {
+    fn from(why: PinVariableErr) -> Retrieved<R> {
         match why {
-            PinErr::NoSuchVariable => Retrieved::NoSuchVariable,
-            PinErr::DiskFault => Retrieved::ReadFault { failed: None },
-            PinErr::Spent => Retrieved::Spent,
-            PinErr::Memory => Retrieved::Memory,
+            PinVariableErr::NoSuchVariable => Retrieved::NoSuchVariable,
+            PinVariableErr::DiskFault => Retrieved::ReadFault { failed: None },
+            PinVariableErr::Spent => Retrieved::Spent,
+            PinVariableErr::Memory => Retrieved::Memory,
         }
     }
 }

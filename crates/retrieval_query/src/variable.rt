@@ -24,7 +24,7 @@ pub struct PinnedVariable {
 
 /// Why a variable wasn't pinned.
 #[derive(Clone, Copy, Debug, PartialEq, Eq)]
-pub enum PinErr {
+pub enum PinVariableErr {
     /// No row has the name.
     NoSuchVariable,
     /// The disk failed in the act, which it has counted.
@@ -44,7 +44,7 @@ pub fn pin_variable<A: Actor>(
     actor: &mut A,
     name: &[u8],
     query: Query,
-) -> Result<PinnedVariable, PinErr>
+) -> Result<PinnedVariable, PinVariableErr>
     requires stands { (m : Machine) × A.stands actor.old m }
     ensures pins { IfOk result (λ v. MadeOne A.number A.between actor.old (Act.Pin name.now query)
         (told.Pinned v.pin v.name v.about v.pieces v.tail) actor.new) }
@@ -54,7 +54,7 @@ pub fn pin_variable<A: Actor>(
     ensures stands { (n : Machine) × A.stands actor.new n }
 {
     let Ok(asked) = Vec::from_slice(alloc, name) else {
-        return Err(PinErr::Memory);
+        return Err(PinVariableErr::Memory);
     };
     match ask_pin(actor, Blob::from(asked), query) {
         Ok(
@@ -72,9 +72,9 @@ pub fn pin_variable<A: Actor>(
             pieces,
             tail,
         }),
-        Ok(Pinned::NoSuchVariable) => Err(PinErr::NoSuchVariable),
-        Ok(Pinned::DiskFault) => Err(PinErr::DiskFault),
-        Ok(Pinned::Memory) => Err(PinErr::Memory),
-        Err(Spent) => Err(PinErr::Spent),
+        Ok(Pinned::NoSuchVariable) => Err(PinVariableErr::NoSuchVariable),
+        Ok(Pinned::DiskFault) => Err(PinVariableErr::DiskFault),
+        Ok(Pinned::Memory) => Err(PinVariableErr::Memory),
+        Err(Spent) => Err(PinVariableErr::Spent),
     }
 }

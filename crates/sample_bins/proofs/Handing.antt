@@ -13,7 +13,7 @@ use Rattle.act_model.specs.Event.{IsEvent, AreEvents}
 use Rattle.act_model.specs.Out.{Subject, MayGive}
 use Rattle.sample_bins.specs.declared.op.Op.{Op}
 use Rattle.sample_bins.specs.declared.op.Op.TheVariants.{FirstSample, LastSample, Count, Nth, NCount}
-use Rattle.sample_bins.specs.declared.beginning.Begun.{Begun}
+use Rattle.sample_bins.specs.declared.beginning.BegunText.{BegunText}
 use Rattle.sample_bins.specs.declared.kept.Kept.{Kept}
 use Rattle.sample_bins.specs.Bins.{binned, bins_of, binned_subject, is_counting, width_of}
 use Rattle.sample_bins.specs.Counts.{counted}
@@ -47,7 +47,7 @@ pub kept_early : (width : ℕ) (kept : Kept) → kept ≡ nothing → kept_start
 kept_early width kept is = subst (λ (k : Kept). kept_start width k.bin < end) (sym is) (omega arith)
 
 -- what has begun is what an output knows
-pub begun_is : (begun a : Begun) (now : Option Begun) (subject : Subject) → now ≡ Some begun → now ≡ Some a → begun ≡ a
+pub begun_is : (begun a : BegunText) (now : Option BegunText) (subject : Subject) → now ≡ Some begun → now ≡ Some a → begun ≡ a
 begun_is begun a now subject x y = cc
 
 module _ {O : Type 0} (gave broke : O → Subject → List Sample → O → Type 0) where
@@ -76,7 +76,7 @@ module _ {O : Type 0} (gave broke : O → Subject → List Sample → O → Type
   stands_next (Nth n) now kept s held one = held
   stands_next NCount now kept s held one = held
 
-  pub stands_sample : (op own : Op) (begun : Option Begun) (kept : Kept) (before : O) (subject : Subject) (xs : List Sample) (now : O) (s : Sample) → own ≡ op → GivesBins gave op begun kept before subject xs now → IsEvent subject.about.ty s → Stands gave own now (Some s)
+  pub stands_sample : (op own : Op) (begun : Option BegunText) (kept : Kept) (before : O) (subject : Subject) (xs : List Sample) (now : O) (s : Sample) → own ≡ op → GivesBins gave op begun kept before subject xs now → IsEvent subject.about.ty s → Stands gave own now (Some s)
   stands_sample op own begun kept before subject xs now s same gives event =
       subst (λ (o : Op). Stands gave o now (Some s)) (sym same) (record { before = before; subject = subject; given = gives.given; has = gives.has; event = event })
 
@@ -95,26 +95,26 @@ module _ {O : Type 0} (gave broke : O → Subject → List Sample → O → Type
       (subst (λ (k : Kept). GivesBins gave own (Some (record { ty = subject.about.ty; query = subject.query })) k before subject [] now) (sym is) (begins own before subject now some begun))
 
   -- an output that has begun knows the type
-  same_type : (a b : Begun) → Some a ≡ Some b → a.ty ≡ b.ty
-  same_type a b is = ap (λ (x : Option Begun). type_in a.ty x) is
+  same_type : (a b : BegunText) → Some a ≡ Some b → a.ty ≡ b.ty
+  same_type a b is = ap (λ (x : Option BegunText). type_in a.ty x) is
     where
-      type_in : PayloadType → Option Begun → PayloadType
+      type_in : PayloadType → Option BegunText → PayloadType
       type_in ty None = ty
       type_in ty (Some x) = x.ty
 
-  pub event_too : (begun : Option Begun) (subject subject₂ : Subject) (s : Sample) → begun ≡ Some (record { ty = subject.about.ty; query = subject.query }) → begun ≡ Some (record { ty = subject₂.about.ty; query = subject₂.query }) → IsEvent subject.about.ty s → IsEvent subject₂.about.ty s
+  pub event_too : (begun : Option BegunText) (subject subject₂ : Subject) (s : Sample) → begun ≡ Some (record { ty = subject.about.ty; query = subject.query }) → begun ≡ Some (record { ty = subject₂.about.ty; query = subject₂.query }) → IsEvent subject.about.ty s → IsEvent subject₂.about.ty s
   event_too begun subject subject₂ s one two event =
       subst (λ (ty : PayloadType). IsEvent ty s) (same_type (record { ty = subject.about.ty; query = subject.query }) (record { ty = subject₂.about.ty; query = subject₂.query }) (sym one ∙ two)) event
 
   -- what has begun stands, and this sample is an event
-  pub stands_held : (op : Op) (now : O) (held : Option Sample) (begun : Begun) (is : Option Begun) → is ≡ Some begun → IfSome is (λ b. Stands gave op now held) → Stands gave op now held
-  stands_held op now held begun is same h = subst (λ (o : Option Begun). IfSome o (λ b. Stands gave op now held)) same h
+  pub stands_held : (op : Op) (now : O) (held : Option Sample) (begun : BegunText) (is : Option BegunText) → is ≡ Some begun → IfSome is (λ b. Stands gave op now held) → Stands gave op now held
+  stands_held op now held begun is same h = subst (λ (o : Option BegunText). IfSome o (λ b. Stands gave op now held)) same h
 
   module _ (op : Op) (kept : Kept) (before : O) (subject : Subject) (xs : List Sample) (s : Sample) (event : IsEvent subject.about.ty s) where
     abbrev q : Query
     q = subject.query
 
-    module _ (begun : Option Begun) (a b : O) (low : q.from ≤ s.t) (high : s.t ≤ q.to) (gives : GivesBins gave op begun kept before subject xs a) where
+    module _ (begun : Option BegunText) (a b : O) (low : q.from ≤ s.t) (high : s.t ≤ q.to) (gives : GivesBins gave op begun kept before subject xs a) where
       here : inside q s ≡ true
       here = is_inside q s low high
 
@@ -148,7 +148,7 @@ module _ {O : Type 0} (gave broke : O → Subject → List Sample → O → Type
 
   -- THE END
 
-  module _ (op own : Op) (from : ℕ) (kept : Kept) (before : O) (subject : Subject) (xs : List Sample) (begun : Option Begun) (a b : O) (gives : GivesBins gave op begun kept before subject xs a) (same : own ≡ op) (here : from ≡ subject.query.from) where
+  module _ (op own : Op) (from : ℕ) (kept : Kept) (before : O) (subject : Subject) (xs : List Sample) (begun : Option BegunText) (a b : O) (gives : GivesBins gave op begun kept before subject xs a) (same : own ≡ op) (here : from ≡ subject.query.from) where
     ends : bins_of op subject.query xs ≡ gives.given ++ due_at_end own from kept
     ends =
         ap (binned op subject.query.from) (sym (append-nil (within subject.query xs))) ∙ gives.goes_on []

@@ -7,7 +7,7 @@ use Rattle.pb_wire.specs.declared.payload.PayloadType.TheVariants.{ScalarInt}
 use Rattle.act_model.specs.Event.{IsEvent, AreEvents}
 use Rattle.act_model.specs.Out.{Subject}
 use Rattle.sample_bins.specs.declared.op.Op.{Op}
-use Rattle.sample_bins.specs.declared.beginning.Begun.{Begun}
+use Rattle.sample_bins.specs.declared.beginning.BegunText.{BegunText}
 use Rattle.sample_bins.specs.declared.kept.Kept.{Kept}
 use Rattle.sample_bins.specs.Bins.{bin_start, binned, binned_subject}
 use Rattle.sample_bins.specs.Coming.{coming}
@@ -42,7 +42,7 @@ pub record Breaks {O : Type 0} (gave broke : O → Subject → List Sample → O
   pub all : (before : O) (subject : Subject) (xs more : List Sample) → AreEvents subject.about.ty (xs ++ (out ++ more)) → gave before subject xs old → broke before subject (xs ++ (out ++ more)) new
 
 -- It was given all of BINS that doesn't depend on the samples that are still to come.
-pub record GivesBins {O : Type 0} (gave : O → Subject → List Sample → O → Type 0) (op : Op) (begun : Option Begun) (kept : Kept) (before : O) (subject : Subject) (xs : List Sample) (now : O) : Type 0 where
+pub record GivesBins {O : Type 0} (gave : O → Subject → List Sample → O → Type 0) (op : Op) (begun : Option BegunText) (kept : Kept) (before : O) (subject : Subject) (xs : List Sample) (now : O) : Type 0 where
   pub asked : begun ≡ Some (record { ty = subject.about.ty; query = subject.query })
   pub events : AreEvents subject.about.ty xs
   pub given : List Sample

@@ -15,7 +15,7 @@ use Rattle.act_model.specs.Event.{IsEvent, AreEvents}
 use Rattle.act_model.specs.Out.{Subject}
 use Rattle.sample_bins.specs.declared.op.Op.{Op}
 use Rattle.sample_bins.specs.declared.op.Op.TheVariants.{FirstSample, LastSample, Count, Nth, NCount}
-use Rattle.sample_bins.specs.declared.beginning.Begun.{Begun}
+use Rattle.sample_bins.specs.declared.beginning.BegunText.{BegunText}
 use Rattle.sample_bins.specs.declared.kept.Kept.{Kept}
 use Rattle.sample_bins.specs.Counts.{capped, nearest_moment, most_counted}
 use Rattle.sample_bins.specs.CountEvents.{counted_event, event_time}
@@ -110,7 +110,7 @@ pub bins_on : (op : Op) (query : Query) (kept : Kept) (given xs more : List Samp
 bins_on op query kept given xs more goes_on = ap (binned op query.from) (filter-append (λ (s : Sample). nat_le query.from s.t && nat_le s.t query.to) xs more) ∙ goes_on (within query more)
 
 module _ {O : Type 0} (gave broke : O → Subject → List Sample → O → Type 0) (front : (before now : O) (subject : Subject) (xs more : List Sample) → AreEvents subject.about.ty (xs ++ more) → gave before subject xs now → broke before subject (xs ++ more) now) where
-  pub gives_breaks : (op : Op) (begun : Option Begun) (kept : Kept) (before : O) (subject : Subject) (xs more : List Sample) (now : O) → AreEvents subject.about.ty (xs ++ more) → GivesBins gave op begun kept before subject xs now
+  pub gives_breaks : (op : Op) (begun : Option BegunText) (kept : Kept) (before : O) (subject : Subject) (xs more : List Sample) (now : O) → AreEvents subject.about.ty (xs ++ more) → GivesBins gave op begun kept before subject xs now
       → broke before (binned_subject op subject) (bins_of op subject.query (xs ++ more)) now
   gives_breaks op begun kept before subject xs more now events gives =
       let all = bins_on op subject.query kept gives.given xs more gives.goes_on in

@@ -13,7 +13,7 @@ use std::alloc::Global;
 
 /// What a text has begun with: the type of the samples, and the moments that are asked for.
 #[derive(Clone, Copy)]
-pub(crate) struct Begun {
+pub(crate) struct BegunText {
     pub(crate) ty: PayloadType,
     pub(crate) query: Query,
 }

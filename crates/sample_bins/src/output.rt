@@ -5,7 +5,7 @@ ghost use Rattle.sample_bins.specs.Counts.{most_counted};
 ghost use Rattle.sample_bins.specs.Bins.{width_of, most_width};
 ghost use Rattle.sample_bins.specs.Binning.{kept_start, Stands};
 
-use crate::beginning::{Begun, begin_bins};
+use crate::beginning::{BegunText, begin_bins};
 use crate::giving::{give_at_end, give_due};
 use crate::kept::{Kept, keep};
 use crate::op::Op;
@@ -23,7 +23,7 @@ pub struct BinOut<O: Out> {
     op: Op,
     inner: O,
     // What the text has begun with, as long as nothing failed.
-    begun: Option<Begun>,
+    begun: Option<BegunText>,
     kept: Kept,
     ghost wide: { 0 < width_of op },
     ghost narrow: { width_of op ≤ most_width },
@@ -83,7 +83,7 @@ impl<O: Out> Out for BinOut<O> {
         self.begun = None;
         begin_bins(self.alloc, self.op, &mut self.inner, name, about, query)?;
         self.kept = Kept::nothing();
-        self.begun = Some(Begun {
+        self.begun = Some(BegunText {
             ty: about.ty,
             query,
         });

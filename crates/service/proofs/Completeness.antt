@@ -20,7 +20,7 @@ use Rattle.act_model.proofs.Histories.{made_joined}
 use Rattle.feed_session.specs.Asks.{FailsWith}
 use Rattle.feed_session.specs.Replies.{CutsOff, Feeds, text_of}
 use Rattle.feed_session.specs.Replies.{Tells as FeedTells}
-use Rattle.feed_session.specs.Session.{Ended, Taken, acts_of}
+use Rattle.feed_session.specs.Session.{EndsSession, TakenItem, acts_of}
 use Rattle.feed_session.specs.declared.end.Fed.{Fed}
 use Rattle.feed_session.specs.declared.end.Fed.TheVariants as fed
 use Rattle.http_front.specs.declared.request.HttpErr.{HttpErr}
@@ -37,8 +37,8 @@ use Rattle.admin_commands.specs.declared.refusal.Refusal.{Refusal}
 use Rattle.admin_commands.specs.Serving.{Serves}
 use Rattle.retrieval_query.specs.declared.retrieved.Retrieved.{Retrieved}
 use Rattle.retrieval_query.specs.declared.retrieved.Retrieved.TheVariants as retrieved
-use Rattle.retrieval_query.specs.declared.variable.PinErr.{PinErr}
-use Rattle.retrieval_query.specs.declared.variable.PinErr.TheVariants as pin_err
+use Rattle.retrieval_query.specs.declared.variable.PinVariableErr.{PinVariableErr}
+use Rattle.retrieval_query.specs.declared.variable.PinVariableErr.TheVariants as pin_err
 use Rattle.retrieval_query.specs.Openings.{openings, failing}
 use Rattle.retrieval_query.specs.Pinning.{FailsToPin, ended_by}
 use Rattle.retrieval_query.specs.Retrieving.{IsPinned}
@@ -71,7 +71,7 @@ not_told (Some why) rose count end a b other (inl t) = other t.0
 not_told {R} (Some why) rose count end a b other (inr (inl t)) = let is : ◌≡◌ {A = Retrieved R} (retrieved.Finished count) retrieved.SinkFault = t.0 in cc
 not_told {R} (Some why) rose count end a b other (inr (inr t)) = let is : ◌≡◌ {A = Retrieved R} (retrieved.Finished count) retrieved.Memory = t.0 in cc
 
-not_ended : {R : Type 0} (count : ℕ) (why : PinErr) → ◌≡◌ {A = Retrieved R} (retrieved.Finished count) (ended_by why) → ⊥
+not_ended : {R : Type 0} (count : ℕ) (why : PinVariableErr) → ◌≡◌ {A = Retrieved R} (retrieved.Finished count) (ended_by why) → ⊥
 not_ended count pin_err.NoSuchVariable is = cc
 not_ended count pin_err.DiskFault is = cc
 not_ended count pin_err.Spent is = cc
@@ -109,7 +109,7 @@ module _ (answers : AnswersAreOfActs) {A R : Type 0} (actor : OfActor A R)
   -- A FEED
 
   module _ (left : Option (List ℕ)) (clock clock' : Option Moments) (bytes : List ℕ) (items : List Item) (stop : Stop) (left_is : left ≡ Some bytes) (stream : IsWholeStream bytes items stop) where
-    fed_well : (end : Fed) (taken : List Taken) → Ended actor.number actor.between false end taken old new left clock clock' → (end ≡ fed.PeerFault → ⊥) → (end ≡ fed.Spent → ⊥) → EndsWell {R = R} (IsFedTo {R = R} stop (fed_as end)) (fed_as end)
+    fed_well : (end : Fed) (taken : List TakenItem) → EndsSession actor.number actor.between false end taken old new left clock clock' → (end ≡ fed.PeerFault → ⊥) → (end ≡ fed.Spent → ⊥) → EndsWell {R = R} (IsFedTo {R = R} stop (fed_as end)) (fed_as end)
     fed_well (fed.Fed kept held dropped) taken e peer spent =
         let halt = one_stop left bytes items _ stop None left_is stream e.session.reads in
         inl (subst (λ (s : Stop). IsFedTo {R = R} s (fed_as (fed.Fed kept held dropped))) halt (kept, held, dropped, refl))
@@ -133,7 +133,7 @@ module _ (answers : AnswersAreOfActs) {A R : Type 0} (actor : OfActor A R)
     cut_well fed.DiskFault cut peer = absurd cut
     cut_well fed.Spent cut peer = absurd cut
 
-    told_well : (result end : Fed) (taken : List Taken) (text : List ℕ) (a b : Option (List ℕ)) → Ended actor.number actor.between false end taken old new left clock clock' → (result ≡ fed.PeerFault → ⊥) → (result ≡ fed.Spent → ⊥) → FeedTells end text result a b → EndsWell {R = R} (IsFedTo {R = R} stop (fed_as result)) (fed_as result)
+    told_well : (result end : Fed) (taken : List TakenItem) (text : List ℕ) (a b : Option (List ℕ)) → EndsSession actor.number actor.between false end taken old new left clock clock' → (result ≡ fed.PeerFault → ⊥) → (result ≡ fed.Spent → ⊥) → FeedTells end text result a b → EndsWell {R = R} (IsFedTo {R = R} stop (fed_as result)) (fed_as result)
     told_well result end taken text a b e peer spent (inl t) =
         subst (λ (f : Fed). EndsWell {R = R} (IsFedTo {R = R} stop (fed_as f)) (fed_as f)) (sym t.0) (fed_well end taken e (λ bad. peer (t.0 ∙ bad)) (λ bad. spent (t.0 ∙ bad)))
     told_well result end taken text a b e peer spent (inr t) = cut_well result t.0 peer
@@ -149,7 +149,7 @@ module _ (answers : AnswersAreOfActs) {A R : Type 0} (actor : OfActor A R)
     EndedWell end = ((count : ℕ) × (end ≡ retrieved.Finished count)) ⊎ (end ≡ retrieved.Memory)
 
     module _ (form : Format) (version : ℕ) (name : List ℕ) (query : Query) (has : HasAnswer file.tells m name) where
-      refused_well : (why : PinErr) (end : Retrieved R) → FailsToPin actor.number actor.between actor.is_spent old name query why new → Tells (pin_refusal why) rose (ended_by why) retrieved.SinkFault retrieved.Memory a end b → EndedWell end
+      refused_well : (why : PinVariableErr) (end : Retrieved R) → FailsToPin actor.number actor.between actor.is_spent old name query why new → Tells (pin_refusal why) rose (ended_by why) retrieved.SinkFault retrieved.Memory a end b → EndedWell end
       refused_well pin_err.NoSuchVariable end f t = absurd (never_unknown actor.number actor.between actor.stands legal sound old new name query m has.row is has.told has.here f)
       refused_well pin_err.DiskFault end f t = absurd (no_fault [] [] (Pin name query) f)
       refused_well pin_err.Spent end f t = absurd (acts_left (now_spent actor nothing new f.1))

@@ -23,7 +23,7 @@ use Rattle.act_model.specs.MoveStep.{GoesOn, copies, has_copied, publishes, reti
 use Rattle.act_model.specs.OpenPiece.{Opens, refused_open, no_piece, opens, faults_opening, wants_memory_opening}
 use Rattle.act_model.specs.Outcome.{Acts, Ends, Outcome, all_go, refused_at_once, refused, runs, faults_first, faults_between, faults_within, faults_removing, wants_memory, wants_memory_settled}
 use Rattle.act_model.specs.Pause.{Sets, sets_of, state_refused, not_running}
-use Rattle.act_model.specs.Pin.{Pins, pins}
+use Rattle.act_model.specs.Pin.{MakesPin, pins}
 use Rattle.act_model.specs.Register.{Registers, register_refused}
 use Rattle.act_model.specs.Rename.{IsRenamed, changed_within, rename_refused, renames_of}
 use Rattle.act_model.specs.Reply.{Reply}
@@ -194,7 +194,7 @@ goes_not mid new answer (retires move into here stage covers stays pinned same) 
 goes_not mid new answer (again move len copied here stage grown less told same) is = cc
 goes_not mid new answer (damaged name place untold same) is = cc
 
-pins_not : {who : ℕ} {name : List ℕ} {query : Query} (mid new : Machine) (answer : Reply) → Pins who name query mid answer new → answer ≡ DiskFault → ⊥
+pins_not : {who : ℕ} {name : List ℕ} {query : Query} (mid new : Machine) (answer : Reply) → MakesPin who name query mid answer new → answer ≡ DiskFault → ⊥
 pins_not mid new answer (pins i row pin pieces found here free least listed order gives few same) is = cc
 
 opens_counts : {who pin i : ℕ} {old new : Machine} {answer : Reply} → Opens who pin i old answer new → HasNotFallen old.faults new.faults
@@ -235,7 +235,7 @@ step_counts who (Flush limit) old new reply s may step = Acts-counts (λ m. None
 step_counts who (MoveBegin store now) old new reply s may step = Acts-counts (λ m. None) (Begins (store_of store) now) (λ m. None) all_go step
 step_counts who (MoveStep n) old new reply s may step = Acts-counts (λ m. no_move (get m.moves n)) (GoesOn n) (λ m. change_of m (get m.moves n)) (ends_move n) step
 step_counts who Sweep old new reply s may step = Acts-counts (λ m. None) Sweeps (λ m. None) all_go step
-step_counts who (Pin name query) old new reply s may step = Acts-counts (details_refused name) (Pins who name query) (λ m. None) all_go step
+step_counts who (Pin name query) old new reply s may step = Acts-counts (details_refused name) (MakesPin who name query) (λ m. None) all_go step
 step_counts who (OpenPiece pin i) old new reply s may step = opens_counts step
 step_counts who (Unpin pin) old new reply s may step = unpins_counts step
 step_counts who (Names from most) old new reply s may step = ends_counts _ old new reply refl step
@@ -261,7 +261,7 @@ step_rose answers who (Flush limit) old new step = Acts-rose (λ m. None) (Flush
 step_rose answers who (MoveBegin store now) old new step = Acts-rose (λ m. None) (Begins (store_of store) now) (λ m. None) all_go no_none begins_not step refl
 step_rose answers who (MoveStep n) old new step = Acts-rose (λ m. no_move (get m.moves n)) (GoesOn n) (λ m. change_of m (get m.moves n)) (ends_move n) (λ m. no_step (get m.moves n)) goes_not step refl
 step_rose answers who Sweep old new step = Acts-rose (λ m. None) Sweeps (λ m. None) all_go no_none (λ mid n answer ran is. let one = sym ran.answered ∙ is in cc) step refl
-step_rose answers who (Pin name query) old new step = Acts-rose (details_refused name) (Pins who name query) (λ m. None) all_go (no_details name) pins_not step refl
+step_rose answers who (Pin name query) old new step = Acts-rose (details_refused name) (MakesPin who name query) (λ m. None) all_go (no_details name) pins_not step refl
 step_rose answers who (OpenPiece pin i) old new step = opens_rose step refl
 step_rose answers who (Unpin pin) old new step = absurd (no_answer answers who (Unpin pin) old new refl step)
 step_rose answers who (Names from most) old new step = absurd (no_answer answers who (Names from most) old new refl step)

@@ -13,11 +13,11 @@ use Rattle.act_model.specs.declared.acts.Answer.TheVariants.{NoSuchVariable, Pie
 use Rattle.act_model.specs.Details.{details_refused}
 use Rattle.act_model.specs.Growth.{Onward}
 use Rattle.act_model.specs.History.{Done, Entry, Goes, Made, MadeOne, Runs}
-use Rattle.act_model.specs.Limbo.{FileState}
+use Rattle.act_model.specs.Limbo.{RowFile}
 use Rattle.act_model.specs.Machine.{Machine, find_row, place, same_bytes}
 use Rattle.act_model.specs.OpenPiece.{bytes_of}
 use Rattle.act_model.specs.Outcome.{Acts, all_go, refused_at_once, refused, runs, faults_first, faults_between, faults_within, faults_removing, wants_memory, wants_memory_settled}
-use Rattle.act_model.specs.Pin.{Pins, pins}
+use Rattle.act_model.specs.Pin.{MakesPin, pins}
 use Rattle.act_model.specs.Pinned.{AllKeep, IsOpenedAs}
 use Rattle.act_model.specs.Reply.{Reply}
 use Rattle.act_model.specs.Rows.{RowState}
@@ -86,7 +86,7 @@ unknown name m is = by_name (find_row m name) refl
     by_name None none = none
 
 -- a pin is refused for an unknown name alone
-pin_unknown : (who : ℕ) (name : List ℕ) (query : Query) {old new : Machine} {reply : Reply} → Acts (details_refused name) (Pins who name query) (λ m. None) all_go old reply new → reply ≡ NoSuchVariable → (find_row old name ≡ None) ⊎ (find_row new name ≡ None)
+pin_unknown : (who : ℕ) (name : List ℕ) (query : Query) {old new : Machine} {reply : Reply} → Acts (details_refused name) (MakesPin who name query) (λ m. None) all_go old reply new → reply ≡ NoSuchVariable → (find_row old name ≡ None) ⊎ (find_row new name ≡ None)
 pin_unknown who name query {old} (refused_at_once answer p) is = inl (unknown name old (p ∙ ap (λ (r : Reply). Some r) is))
 pin_unknown who name query {old} {new} (refused {mid = mid} answer p settles q same more) is =
     inr (ap (λ (rows : List RowState). place (λ row. same_bytes row.name name) 0 rows) (ap (λ (m : Machine). m.rows) same) ∙ unknown name mid (q ∙ ap (λ (r : Reply). Some r) is))
@@ -116,7 +116,7 @@ told_at (p ∷ told) n (suc k, low, is) =
     record { front = p ∷ more.front; p = more.p; back = more.back; is = ap (λ (l : List PieceTold). p ∷ l) more.is; named_as = more.named_as }
 
 -- the file at a place is read as some samples
-file_read : (rows : List RowState) (ty : PayloadType) (fs : List FileState) (ps : List NamedBytes) (lists : List (List Sample)) (i : ℕ) (f : FileState) → AllZip (IsNamedAs rows) fs ps → AreReadAs ty ps lists → slice_get fs i ≡ Some f → (xs : List Sample) × IsReadAs ty (bytes_of f) xs
+file_read : (rows : List RowState) (ty : PayloadType) (fs : List RowFile) (ps : List NamedBytes) (lists : List (List Sample)) (i : ℕ) (f : RowFile) → AllZip (IsNamedAs rows) fs ps → AreReadAs ty ps lists → slice_get fs i ≡ Some f → (xs : List Sample) × IsReadAs ty (bytes_of f) xs
 file_read rows ty [] ps lists i f all read here = absurd cc
 file_read rows ty (g ∷ fs) [] lists i f all read here = absurd all
 file_read rows ty (g ∷ fs) (p ∷ ps) [] i f all read here = absurd read

@@ -12,7 +12,7 @@ use Rattle.act_model.specs.Reply.{Reply}
 use Rattle.act_model.specs.Roles.{is_of_link}
 use Rattle.feed_session.specs.Asks.{AreMade, AsksFor, asked_again, chunk_behind, flush_all}
 use Rattle.feed_session.specs.Replies.{Feeds}
-use Rattle.feed_session.specs.Session.{AreTaken, AsksLast, Taken, acts_of, chunk_after}
+use Rattle.feed_session.specs.Session.{AreTaken, AsksLast, TakenItem, acts_of, chunk_after}
 use Rattle.feed_session.specs.declared.end.Fed.{Fed}
 use Rattle.service.specs.Serving.{MakesOnly}
 use Rattle.service.proofs.Acts.{AreOfLink, makes, of_link-append}
@@ -51,7 +51,7 @@ last_asked chunk [] moments acts a = by_flush a.1
 last_asked chunk (item ∷ []) moments acts a = item_asked chunk item moments acts a
 last_asked chunk (item ∷ other ∷ items) moments acts a = absurd a
 
-taken_of_link : (chunk : Option PayloadInfo) (ts : List Taken) → AreTaken false chunk ts → AreOfLink (acts_of ts)
+taken_of_link : (chunk : Option PayloadInfo) (ts : List TakenItem) → AreTaken false chunk ts → AreOfLink (acts_of ts)
 taken_of_link chunk [] a = tt
 taken_of_link chunk (t ∷ ts) a =
     of_link-append t.done (acts_of ts) (made_of_link a.0.asked t.done [] (item_asked chunk t.item t.moments a.0.asked a.0.asks) a.0.made) (taken_of_link (chunk_behind chunk t.item) ts a.1)

@@ -9,7 +9,7 @@ use Rattle.pb_lines.specs.Fault.{fault_number}
 use Rattle.pb_lines.specs.Stream.{Item, header, sample, chunk_end}
 use Rattle.act_model.specs.History.{Done}
 use Rattle.feed_session.specs.Replies.{CutsOff, Replies, in_chunk, last_line, lines_of, reply_to, text_of}
-use Rattle.feed_session.specs.Session.{Taken, count_dropped, count_held, count_kept}
+use Rattle.feed_session.specs.Session.{TakenItem, count_dropped, count_held, count_kept}
 use Rattle.feed_session.specs.declared.end.Fed.{Fed}
 use Rattle.feed_session.specs.declared.end.Fed.TheVariants as fed
 use Rattle.service.specs.declared.served.Kind.TheVariants.{Feed}
@@ -74,7 +74,7 @@ reply_whole chunk (header info line) = inl refl
 reply_whole chunk (sample x) = inl refl
 reply_whole chunk chunk_end = inr (ok_front chunk, refl)
 
-lines_whole : (chunk : List Done) (ts : List Taken) → AreLines (lines_of chunk ts)
+lines_whole : (chunk : List Done) (ts : List TakenItem) → AreLines (lines_of chunk ts)
 lines_whole chunk [] = inl refl
 lines_whole chunk (t ∷ ts) = lines-append (reply_to chunk t.item) (lines_of (in_chunk chunk t) ts) (reply_whole chunk t.item) (lines_whole (in_chunk chunk t) ts)
 
@@ -128,11 +128,11 @@ no_cut fed.DiskFault has cuts = cuts
 no_cut fed.Spent has cuts = has
 no_cut fed.Memory has cuts = has
 
-has_reply : (before end : Fed) (taken : List Taken) (a b : Option (List ℕ)) → HasLast end → Replies before taken end a b → HasReply Feed a b
+has_reply : (before end : Fed) (taken : List TakenItem) (a b : Option (List ℕ)) → HasLast end → Replies before taken end a b → HasReply Feed a b
 has_reply before end taken a b has (inl (is, out)) = (text_of end taken, subst (λ (e : Fed). Appends a b (text_of e taken)) (sym is) out, ends_in_last end (lines_of [] taken) has (lines_whole [] taken))
 has_reply before end taken a b has (inr (cuts, front)) = absurd (no_cut end has cuts)
 
-pub feed_begun : (R : Type 0) (before end : Fed) (taken : List Taken) (a b : Option (List ℕ)) → Replies before taken end a b → HasBegun {R = R} Feed (fed_as end) a b
+pub feed_begun : (R : Type 0) (before end : Fed) (taken : List TakenItem) (a b : Option (List ℕ)) → Replies before taken end a b → HasBegun {R = R} Feed (fed_as end) a b
 feed_begun R before (fed.Fed kept held dropped) taken a b r = has_reply before (fed.Fed kept held dropped) taken a b tt r
 feed_begun R before (fed.Refused line fault) taken a b r = has_reply before (fed.Refused line fault) taken a b tt r
 feed_begun R before fed.PeerFault taken a b r = tt

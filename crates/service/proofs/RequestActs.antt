@@ -17,12 +17,12 @@ use Rattle.http_front.specs.declared.request.WebCall.{WebCall}
 use Rattle.http_front.specs.declared.request.WebCall.TheVariants as call
 use Rattle.admin_commands.specs.declared.end.AdminErr.{AdminErr}
 use Rattle.admin_commands.specs.declared.end.AdminErr.TheVariants as admin
-use Rattle.admin_commands.specs.Next.{Next, asks, details_told, flushes, names_from, next, once, page, registered, renamed, set, status_told}
+use Rattle.admin_commands.specs.Next.{NextStep, asks, details_told, flushes, names_from, next, once, page, registered, renamed, set, status_told}
 use Rattle.admin_commands.specs.Serving.{AsksMore, Follows, Proceeds, Serves}
 use Rattle.retrieval_query.specs.declared.retrieved.Retrieved.{Retrieved}
 use Rattle.retrieval_query.specs.declared.retrieved.Retrieved.TheVariants as retrieved
-use Rattle.retrieval_query.specs.declared.variable.PinErr.{PinErr}
-use Rattle.retrieval_query.specs.declared.variable.PinErr.TheVariants as pin_err
+use Rattle.retrieval_query.specs.declared.variable.PinVariableErr.{PinVariableErr}
+use Rattle.retrieval_query.specs.declared.variable.PinVariableErr.TheVariants as pin_err
 use Rattle.retrieval_query.specs.Openings.{PieceTold, failing, openings}
 use Rattle.retrieval_query.specs.Pinning.{FailsToPin, GivesUp}
 use Rattle.retrieval_query.specs.Retrieving.{Ends, ReadsPinned, given_up}
@@ -65,13 +65,13 @@ unpin_of_link pin unpin spent (inr none) = subst AreOfLink (sym none.0) tt
 -- A MANAGEMENT CALL
 
 -- an act that is asked for next is a link's
-abbrev AsksOfLink : Next → Type 0
+abbrev AsksOfLink : NextStep → Type 0
 AsksOfLink n = (act : Act) → n ≡ asks act → is_of_link act ≡ true
 
 asks_it : (mine act : Act) → is_of_link mine ≡ true → asks mine ≡ asks act → is_of_link act ≡ true
 asks_it mine act own is = let same : mine ≡ act = cc in subst (λ (a : Act). is_of_link a ≡ true) same own
 
-once_of_link : (mine : Act) (made_of : Reply → Next) → is_of_link mine ≡ true → ((reply : Reply) → AsksOfLink (made_of reply)) → (seen : List Reply) → AsksOfLink (once mine made_of seen)
+once_of_link : (mine : Act) (made_of : Reply → NextStep) → is_of_link mine ≡ true → ((reply : Reply) → AsksOfLink (made_of reply)) → (seen : List Reply) → AsksOfLink (once mine made_of seen)
 once_of_link mine made_of own none [] act is = asks_it mine act own is
 once_of_link mine made_of own none (reply ∷ seen) act is = none reply act is
 
@@ -115,7 +115,7 @@ details_asks answer.DiskFault act is = absurd (cc)
 details_asks other act is = absurd (cc)
 
 -- where one of two is asked for next
-either_asks : (b : Bool) (one other : Next) (act : Act) → (if b then one else other) ≡ asks act → (one ≡ asks act → is_of_link act ≡ true) → (other ≡ asks act → is_of_link act ≡ true) → is_of_link act ≡ true
+either_asks : (b : Bool) (one other : NextStep) (act : Act) → (if b then one else other) ≡ asks act → (one ≡ asks act → is_of_link act ≡ true) → (other ≡ asks act → is_of_link act ≡ true) → is_of_link act ≡ true
 either_asks true one other act is p q = p is
 either_asks false one other act is p q = q is
 
@@ -151,7 +151,7 @@ follows_of_link asked seen (d ∷ done) f = (next_asks asked seen d.act f.0, fol
 module _ {A R : Type 0} (actor : OfActor A R)
     (joined : (a b c : A) (xs ys : List Entry) → actor.between a xs b → actor.between b ys c → actor.between a (xs ++ ys) c)
     (stays : (a b : A) (entries : List Entry) → actor.between a entries b → actor.number b ≡ actor.number a) where
-  fails_makes : (old new : A) (name : List ℕ) (query : Query) (why : PinErr) → FailsToPin actor.number actor.between actor.is_spent old name query why new → MakesOnly actor is_of_link old new
+  fails_makes : (old new : A) (name : List ℕ) (query : Query) (why : PinVariableErr) → FailsToPin actor.number actor.between actor.is_spent old name query why new → MakesOnly actor is_of_link old new
   fails_makes old new name query pin_err.NoSuchVariable f = makes actor old new _ f (refl, tt)
   fails_makes old new name query pin_err.DiskFault f = makes actor old new _ f (refl, tt)
   fails_makes old new name query pin_err.Spent f = makes actor old new [] f.0 tt
@@ -176,14 +176,14 @@ module _ {A R : Type 0} (actor : OfActor A R)
   data_makes file rose old new a b form version name query result (inr (inr (mid, out, r))) =
       makes_more actor joined stays old r.pinned new (makes actor old r.pinned _ r.pins (refl, tt)) (reads_makes file r.about.ty r.pinned new r.pin rose result r.reads)
 
-  proceeds_makes : (asked : WebCall) (old new : A) (goes_on : Next → Type 0) → Proceeds actor.number actor.between asked old goes_on new → MakesOnly actor is_of_link old new
+  proceeds_makes : (asked : WebCall) (old new : A) (goes_on : NextStep → Type 0) → Proceeds actor.number actor.between asked old goes_on new → MakesOnly actor is_of_link old new
   proceeds_makes asked old new goes_on p = makes actor old new p.done p.made (follows_of_link asked [] p.done p.follows)
 
   serves_makes : (asked : WebCall) (old new : A) (end : Result (Unit {0}) AdminErr) (a b : Option (List ℕ)) → Serves actor.number actor.between actor.is_spent asked old end new a b → MakesOnly actor is_of_link old new
   serves_makes asked old new (Ok done) a b s = proceeds_makes asked old new _ s.1
   serves_makes asked old new (Err admin.SinkFault) a b s = by_reply _ s.1
     where
-      by_reply : {X : Type 0} (goes_on : Next → Type 0) → Proceeds actor.number actor.between asked old goes_on new ⊎ (X × Proceeds actor.number actor.between asked old AsksMore new × actor.is_spent new) → MakesOnly actor is_of_link old new
+      by_reply : {X : Type 0} (goes_on : NextStep → Type 0) → Proceeds actor.number actor.between asked old goes_on new ⊎ (X × Proceeds actor.number actor.between asked old AsksMore new × actor.is_spent new) → MakesOnly actor is_of_link old new
       by_reply goes_on (inl p) = proceeds_makes asked old new goes_on p
       by_reply goes_on (inr p) = proceeds_makes asked old new _ p.1
   serves_makes asked old new (Err admin.Spent) a b s = proceeds_makes asked old new _ s.0

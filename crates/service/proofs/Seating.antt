@@ -3,7 +3,7 @@ use Rattle.std.proofs.Common.{◌≡◌, ◌∙◌, ℕ, ◌+◌, ◌≤◌, Lis
 use Rattle.std.specs.Prelude.{IsErr}
 use Rattle.std.proofs.lemmas.List.{length-append}
 use Rattle.edge_io.specs.Moments.{Gives, Moments}
-use Rattle.turn_rooms.specs.declared.room.Entry.{Entry as RoomEntry}
+use Rattle.turn_rooms.specs.declared.room.RoomEntry.{RoomEntry}
 use Rattle.turn_rooms.specs.declared.rooms.Pass.{Pass}
 use Rattle.turn_rooms.specs.declared.rooms.Rooms.{Rooms}
 use Rattle.turn_rooms.specs.Histories.{most_acts}
@@ -21,7 +21,7 @@ use Rattle.serving.specs.Acting.{Acts}
 use Rattle.serving.specs.Rounds.{IsShift}
 use Rattle.service.specs.declared.door.DoorServed.{DoorServed}
 use Rattle.service.specs.declared.door.DoorServed.TheVariants as door
-use Rattle.service.specs.declared.posts.Ended.TheVariants as ended
+use Rattle.service.specs.declared.posts.WorkEnd.TheVariants as ended
 use Rattle.service.specs.Doors.{Shift}
 use Rattle.service.specs.Seats.{seat_by, seat_pass, seat_rooms}
 use Rattle.service.specs.Service.{FindsNone, ShiftEnds, Tends}

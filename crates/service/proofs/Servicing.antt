@@ -8,7 +8,7 @@ use Rattle.std.proofs.lemmas.List.Elements.{All-append, All-cons, All-head, All-
 use Rattle.std.proofs.lemmas.List.Folds.{list_any-append}
 use Rattle.std.proofs.lemmas.List.Sums.{sum_by-append}
 use Rattle.edge_io.specs.Moments.{Moments}
-use Rattle.turn_rooms.specs.declared.room.Entry.{Entry as RoomEntry}
+use Rattle.turn_rooms.specs.declared.room.RoomEntry.{RoomEntry}
 use Rattle.turn_rooms.specs.declared.rooms.Pass.{Pass}
 use Rattle.turn_rooms.specs.declared.rooms.Rooms.{Rooms}
 use Rattle.turn_rooms.specs.Histories.{end_of, most_acts}
@@ -39,8 +39,8 @@ use Rattle.serving.proofs.Histories.{all_parts, ends_in_turns, flush_fault}
 use Rattle.service.proofs.Tending.{give_length}
 use Rattle.service.specs.declared.door.DoorServed.{DoorServed}
 use Rattle.service.specs.declared.door.DoorServed.TheVariants as door
-use Rattle.service.specs.declared.posts.Ended.{Ended}
-use Rattle.service.specs.declared.posts.Ended.TheVariants as ended
+use Rattle.service.specs.declared.posts.WorkEnd.{WorkEnd}
+use Rattle.service.specs.declared.posts.WorkEnd.TheVariants as ended
 use Rattle.service.specs.declared.posts.Post.{Post}
 use Rattle.service.specs.declared.posts.Task.{Task}
 use Rattle.service.specs.declared.posts.Task.TheVariants as task
@@ -54,7 +54,7 @@ or_none : (b : Bool) → (b || false) ≡ b
 or_none true = refl
 or_none false = refl
 
-any_more : (test : Ended → Bool) (xs : List Ended) (x : Ended) → list_any test (xs ++ x ∷ []) ≡ (list_any test xs || test x)
+any_more : (test : WorkEnd → Bool) (xs : List WorkEnd) (x : WorkEnd) → list_any test (xs ++ x ∷ []) ≡ (list_any test xs || test x)
 any_more test xs x = list_any-append test xs (x ∷ []) ∙ ap (λ (b : Bool). list_any test xs || b) (or_none (test x))
 
 count_both : {X : Type 0} (test : X → Bool) (xs ys : List X) → count_by test (xs ++ ys) ≡ count_by test xs + count_by test ys
@@ -63,10 +63,10 @@ count_both test xs ys = sum_by-append (λ x. cond (test x) 1 0) xs ys
 count_one : {X : Type 0} (test : X → Bool) (x : X) → count_by test (x ∷ []) ≡ (if test x then 1 else 0)
 count_one test x = omega arith
 
-count_more : (test : Ended → Bool) (xs : List Ended) (x : Ended) → count_by test (xs ++ x ∷ []) ≡ count_by test xs + (if test x then 1 else 0)
+count_more : (test : WorkEnd → Bool) (xs : List WorkEnd) (x : WorkEnd) → count_by test (xs ++ x ∷ []) ≡ count_by test xs + (if test x then 1 else 0)
 count_more test xs x = count_both test xs (x ∷ []) ∙ ap (λ (n : ℕ). count_by test xs + n) (count_one test x)
 
-pub told_more : (xs : List Ended) (x : Ended) → told_of (xs ++ x ∷ []) ≡ with_end (told_of xs) x
+pub told_more : (xs : List WorkEnd) (x : WorkEnd) → told_of (xs ++ x ∷ []) ≡ with_end (told_of xs) x
 told_more xs x = rw (count_more fails xs x, any_more fails_to_write xs x, any_more finds_none xs x, any_more lacks xs x) refl
 
 -- so it is of none
@@ -102,7 +102,7 @@ front_of_range a (suc n) (x ∷ xs) ys is =
 
 module _ {S B : Type 0} (C : Type 0) (steps : S → ℕ → ℕ → Act → B → S → Type 0) (rooms : Rooms S Act B) where
   abbrev V : Type 0
-  V = Worker S C Ended Act B
+  V = Worker S C WorkEnd Act B
 
   abbrev passes_of : List V → List (Pass S Act B)
   passes_of ws = map (λ (v : V). v.pass) ws
@@ -132,7 +132,7 @@ module _ {S B : Type 0} (C : Type 0) (steps : S → ℕ → ℕ → Act → B �
 module _ (A S B C D : Type 0) (Serves : Kind → ℕ → A → Option Moments → D → DoorServed → A → Option Moments → D → Type 0) (pass_of : A → Pass S Act B) (rooms_of : A → Rooms S Act B) (coming : C → Option Moments)
     (steps : S → ℕ → ℕ → Act → B → S → Type 0) (reply : B → Reply) (rooms : Rooms S Act B) where
   abbrev W : Type 0
-  W = Worker S C Ended Act B
+  W = Worker S C WorkEnd Act B
 
   abbrev At : W → Post D → W → Post D → Type 0
   At w p w' p' = DoneAt Serves pass_of rooms_of coming steps reply rooms w p w' p'
@@ -140,10 +140,10 @@ module _ (A S B C D : Type 0) (Serves : Kind → ℕ → A → Option Moments �
   abbrev passes : List W → List (Pass S Act B)
   passes ws = map (λ (w : W). w.pass) ws
 
-  abbrev ends : List W → List Ended
+  abbrev ends : List W → List WorkEnd
   ends ws = map (λ (w : W). w.end) ws
 
-  shift_goes : (old new : Pass S Act B) (end : Ended) → ShiftEnds steps reply rooms old end new → Goes steps rooms old new
+  shift_goes : (old new : Pass S Act B) (end : WorkEnd) → ShiftEnds steps reply rooms old end new → Goes steps rooms old new
   shift_goes old new ended.NotBegun s = absurd s
   shift_goes old new (ended.Door (door.Done lacked failed)) s = s.goes
   shift_goes old new (ended.Flushed end) s = absurd s
@@ -151,7 +151,7 @@ module _ (A S B C D : Type 0) (Serves : Kind → ℕ → A → Option Moments �
   shift_goes old new (ended.Door door.Spent) s = s.goes
   shift_goes old new ended.Spent s = absurd s
 
-  task_goes : (what : Task) (old new : Pass S Act B) (clock clock' : Option Moments) (end : Ended) → TaskEnds steps reply rooms what old clock end new clock' → Goes steps rooms old new
+  task_goes : (what : Task) (old new : Pass S Act B) (clock clock' : Option Moments) (end : WorkEnd) → TaskEnds steps reply rooms what old clock end new clock' → Goes steps rooms old new
   task_goes task.Flush old new clock clock' end s = s.2.acts.goes
   task_goes task.Move old new clock clock' end s = s.2.acts.goes
 
@@ -279,7 +279,7 @@ module _ (A S B C D : Type 0) (Serves : Kind → ℕ → A → Option Moments �
     door_shifts (w ∷ ws) (q ∷ qs) (w' ∷ ws') [] g none = absurd g
     door_shifts (w ∷ ws) (q ∷ qs) (w' ∷ ws') (q' ∷ qs') g none = (by_end w'.end g.0.acts (none_first (finds_none w'.end) (list_any finds_none (ends ws')) none), door_shifts ws qs ws' qs' g.1 (none_second (finds_none w'.end) (list_any finds_none (ends ws')) none))
       where
-        by_end : (end : Ended) → ShiftEnds steps reply rooms w.pass end w'.pass → finds_none end ≡ false → Acts steps reply rooms w.pass IsShift w'.pass
+        by_end : (end : WorkEnd) → ShiftEnds steps reply rooms w.pass end w'.pass → finds_none end ≡ false → Acts steps reply rooms w.pass IsShift w'.pass
         by_end ended.NotBegun s n = absurd s
         by_end (ended.Door (door.Done lacked failed)) s n = s
         by_end (ended.Flushed end) s n = absurd s
@@ -317,10 +317,10 @@ module _ (A S B C D : Type 0) (Serves : Kind → ℕ → A → Option Moments �
     moved_all (Err spent) a b clock clock' t n l = absurd cc
 
     -- how the last two ended, as it is told of their ends
-    of_flusher : (test : Ended → Bool) (b : Bool) → test d.flusher'.end ≡ b → test (at_flushes flushed) ≡ b
+    of_flusher : (test : WorkEnd → Bool) (b : Bool) → test d.flusher'.end ≡ b → test (at_flushes flushed) ≡ b
     of_flusher test b is = sym (ap test d.flushes.1) ∙ is
 
-    of_mover : (test : Ended → Bool) (b : Bool) → test d.mover'.end ≡ b → test (at_moves moved) ≡ b
+    of_mover : (test : WorkEnd → Bool) (b : Bool) → test d.mover'.end ≡ b → test (at_moves moved) ≡ b
     of_mover test b is = sym (ap test d.moves.1) ∙ is
 
     module _ (old mid new : Pass S Act B) (drawn : Drawn steps rooms old mid (passes olds)) (met : Met steps rooms mid new (passes news)) where
@@ -354,8 +354,8 @@ module _ (A S B C D : Type 0) (Serves : Kind → ℕ → A → Option Moments �
           let as_many : length (map place d.at) ≡ length k.works = sym (ap length k.places_are) ∙ length-map k.works (λ (w : PW). w.place) in
           let ends_are : ends news ≡ map (λ (w : PW). ended.Door w.served) k.works ++ at_flushes flushed ∷ at_moves moved ∷ [] =
           ap (λ (ws : List W). ends ws) d.new_is ∙ (map-append (λ (w : W). w.end) d.at' (d.flusher' ∷ d.mover' ∷ [])
-          ∙ (ap (λ (es : List Ended). es ++ d.flusher'.end ∷ d.mover'.end ∷ []) k.ends_are
-          ∙ ap (λ (es : List Ended). map (λ (w : PW). ended.Door w.served) k.works ++ es) (both d.flusher'.end (at_flushes flushed) (d.mover'.end ∷ []) (at_moves moved ∷ []) d.flushes.1 (ap (λ (e : Ended). e ∷ []) d.moves.1)))) in
+          ∙ (ap (λ (es : List WorkEnd). es ++ d.flusher'.end ∷ d.mover'.end ∷ []) k.ends_are
+          ∙ ap (λ (es : List WorkEnd). map (λ (w : PW). ended.Door w.served) k.works ++ es) (both d.flusher'.end (at_flushes flushed) (d.mover'.end ∷ []) (at_moves moved ∷ []) d.flushes.1 (ap (λ (e : WorkEnd). e ∷ []) d.moves.1)))) in
           record {
             works = k.works;
             posts = k.posts_are;
@@ -401,7 +401,7 @@ module _ (A S B C D : Type 0) (Serves : Kind → ℕ → A → Option Moments �
       doors_full (w ∷ ws) (q ∷ qs) (w' ∷ ws') [] g = absurd g
       doors_full (w ∷ ws) (q ∷ qs) (w' ∷ ws') (q' ∷ qs') g = All-cons (λ (w : W). finds_none w.end ≡ true → most_acts ≤ length (known w.pass)) w' ws' (by_end w'.end g.0.acts) (doors_full ws qs ws' qs' g.1)
         where
-          by_end : (end : Ended) → ShiftEnds steps reply rooms w.pass end w'.pass → finds_none end ≡ true → most_acts ≤ length (known w'.pass)
+          by_end : (end : WorkEnd) → ShiftEnds steps reply rooms w.pass end w'.pass → finds_none end ≡ true → most_acts ≤ length (known w'.pass)
           by_end ended.NotBegun s n = absurd s
           by_end (ended.Door (door.Done lacked failed)) s n = absurd cc
           by_end (ended.Flushed end) s n = absurd s
@@ -433,7 +433,7 @@ module _ (A S B C D : Type 0) (Serves : Kind → ℕ → A → Option Moments �
       door_writes (w ∷ ws) (q ∷ qs) (w' ∷ ws') [] g = absurd g
       door_writes (w ∷ ws) (q ∷ qs) (w' ∷ ws') (q' ∷ qs') g = ap (λ (b : Bool). b || list_any fails_to_write (ends ws')) (by_end w'.end g.0.acts) ∙ door_writes ws qs ws' qs' g.1
         where
-          by_end : (end : Ended) → ShiftEnds steps reply rooms w.pass end w'.pass → fails_to_write end ≡ false
+          by_end : (end : WorkEnd) → ShiftEnds steps reply rooms w.pass end w'.pass → fails_to_write end ≡ false
           by_end ended.NotBegun s = absurd s
           by_end (ended.Door (door.Done lacked failed)) s = refl
           by_end (ended.Flushed end) s = absurd s

@@ -17,8 +17,8 @@ use Rattle.admin_commands.specs.Refusals.{refusal_of}
 use Rattle.admin_commands.specs.Serving.{Serves}
 use Rattle.retrieval_query.specs.declared.retrieved.Retrieved.{Retrieved}
 use Rattle.retrieval_query.specs.declared.retrieved.Retrieved.TheVariants as retrieved
-use Rattle.retrieval_query.specs.declared.variable.PinErr.{PinErr}
-use Rattle.retrieval_query.specs.declared.variable.PinErr.TheVariants as pin_err
+use Rattle.retrieval_query.specs.declared.variable.PinVariableErr.{PinVariableErr}
+use Rattle.retrieval_query.specs.declared.variable.PinVariableErr.TheVariants as pin_err
 use Rattle.retrieval_query.specs.Pinning.{FailsToPin, ended_by}
 use Rattle.retrieval_query.specs.Retrieving.{Ends, ReadsPinned}
 use Rattle.service.specs.declared.format.Format.{Format}
@@ -54,7 +54,7 @@ unreplied_spent R (http.BadParameter which) is = cc
 unreplied_spent R http.Memory is = cc
 
 -- a refusal of a pin that ended so
-by_refusal : {R : Type 0} (why : PinErr) (refusal : Option Refusal) (rose : Type 0) (a b : Option (List ℕ)) (result : Retrieved R)
+by_refusal : {R : Type 0} (why : PinVariableErr) (refusal : Option Refusal) (rose : Type 0) (a b : Option (List ℕ)) (result : Retrieved R)
     → Tells refusal rose (ended_by why) retrieved.SinkFault retrieved.Memory a result b → result ≡ retrieved.Spent → ended_by {R = R} why ≡ retrieved.Spent
 by_refusal why None rose a b result t is = absurd (let lacks : result ≡ retrieved.Memory = t.0 in cc)
 by_refusal why (Some refusal) rose a b result (inl t) is = sym t.0 ∙ is
@@ -72,7 +72,7 @@ no_request {R} why (Some refusal) rose a b result (inr (inr t)) is = unreplied_s
 -- ANY REQUEST
 
 module _ {A R : Type 0} (actor : OfActor A R) (nothing : (a : A) → actor.between a [] a) where
-  pin_spent : (old new : A) (name : List ℕ) (query : Query) (why : PinErr) → FailsToPin actor.number actor.between actor.is_spent old name query why new → ended_by {R = R} why ≡ retrieved.Spent → WasSpent actor new
+  pin_spent : (old new : A) (name : List ℕ) (query : Query) (why : PinVariableErr) → FailsToPin actor.number actor.between actor.is_spent old name query why new → ended_by {R = R} why ≡ retrieved.Spent → WasSpent actor new
   pin_spent old new name query pin_err.NoSuchVariable f is = absurd (cc)
   pin_spent old new name query pin_err.DiskFault f is = absurd (cc)
   pin_spent old new name query pin_err.Spent f is = now_spent actor nothing new f.1

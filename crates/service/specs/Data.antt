@@ -21,8 +21,8 @@ use Rattle.admin_commands.specs.declared.refusal.Refusal.{Refusal}
 use Rattle.admin_commands.specs.declared.refusal.Refusal.TheVariants as refusal
 use Rattle.admin_commands.specs.Replies.{refused_reply}
 use Rattle.json_out.specs.Json.{json}
-use Rattle.retrieval_query.specs.declared.variable.PinErr.{PinErr}
-use Rattle.retrieval_query.specs.declared.variable.PinErr.TheVariants as pin_err
+use Rattle.retrieval_query.specs.declared.variable.PinVariableErr.{PinVariableErr}
+use Rattle.retrieval_query.specs.declared.variable.PinVariableErr.TheVariants as pin_err
 use Rattle.retrieval_query.specs.declared.variable.PinnedVariable.{PinnedVariable}
 use Rattle.retrieval_query.specs.declared.retrieved.Retrieved.{Retrieved}
 use Rattle.retrieval_query.specs.declared.retrieved.Retrieved.TheVariants.{Finished, SinkFault, Memory}
@@ -96,7 +96,7 @@ Closes other rose result told more now = (result ≡ other) × (more ≡ told)
 -- NO PIN
 
 -- how a request is refused for whose variable no pin was made; nothing is replied where memory ran out
-abbrev pub pin_refusal : PinErr → Option Refusal
+abbrev pub pin_refusal : PinVariableErr → Option Refusal
 pin_refusal pin_err.NoSuchVariable = Some refusal.NoSuchVariable
 pin_refusal pin_err.DiskFault = Some refusal.DiskFault
 pin_refusal pin_err.Spent = Some refusal.Spent
@@ -110,7 +110,7 @@ Tells (Some why) rose end fault memory a result b =
 
 -- No pin was made: why, by just which act; and what was replied.
 pub record RefusesPin {A R : Type 0} (actor : OfActor A R) (rose : Type 0) (old : A) (name : List ℕ) (query : Query) (a : Option (List ℕ)) (result : Retrieved R) (new : A) (b : Option (List ℕ)) : Type 0 where
-  pub why : PinErr
+  pub why : PinVariableErr
   pub fails : FailsToPin actor.number actor.between actor.is_spent old name query why new
   pub tells : Tells (pin_refusal why) rose (ended_by why) SinkFault Memory a result b
 

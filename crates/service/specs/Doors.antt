@@ -14,8 +14,8 @@ use Rattle.act_model.specs.History.{Done, Made, MadeOne}
 use Rattle.act_model.specs.Reply.{Reply}
 use Rattle.act_model.specs.Roles.{is_of_link}
 use Rattle.serving.specs.Rounds.{IsShift}
-use Rattle.service.specs.declared.door.Asked.{Asked}
-use Rattle.service.specs.declared.door.Asked.TheVariants as asked
+use Rattle.service.specs.declared.door.DoorAsked.{DoorAsked}
+use Rattle.service.specs.declared.door.DoorAsked.TheVariants as asked
 use Rattle.service.specs.declared.door.DoorServed.{DoorServed}
 use Rattle.service.specs.declared.door.DoorServed.TheVariants as ended
 use Rattle.service.specs.declared.gate.Gate.{Ghosts as OfGate}
@@ -121,7 +121,7 @@ pub record ServesNext {D L R : Type 0} (door : OfDoor D L) (Fresh : L → Type 0
   pub faults_rise : door.door_faults old ≤ door.door_faults new
 
 -- once more; `lacked` says whether memory ran out for an earlier link
-abbrev pub AsksOn : {D L R : Type 0} → OfDoor D L → (L → Type 0) → (L → Type 0) → (L → Served R → L → Type 0) → D → Bool → Asked → D → Type 0
+abbrev pub AsksOn : {D L R : Type 0} → OfDoor D L → (L → Type 0) → (L → Type 0) → (L → Served R → L → Type 0) → D → Bool → DoorAsked → D → Type 0
 AsksOn door Fresh Is Serves old lacked (asked.Link now) new = (next : ServesNext door Fresh Serves old new) × (now ≡ (lacked || is_memory next.result)) × (now ≡ false → Is next.link)
 AsksOn door Fresh Is Serves old lacked (asked.End failed) new = (door.ledger new ≡ door.ledger old) × (door.door_faults old ≤ door.door_faults new) × IsAtEnd door.is_closed door.door_faults old failed new
 AsksOn door Fresh Is Serves old lacked asked.Spent new = ServesNext door Fresh Serves old new

@@ -26,8 +26,8 @@ use Rattle.serving.specs.Acting.{Acts}
 use Rattle.service.specs.declared.door.DoorServed.{DoorServed}
 use Rattle.service.specs.declared.door.DoorServed.TheVariants as door
 use Rattle.service.specs.declared.service.AllServed.{AllServed}
-use Rattle.service.specs.declared.posts.Ended.{Ended}
-use Rattle.service.specs.declared.posts.Ended.TheVariants as ended
+use Rattle.service.specs.declared.posts.WorkEnd.{WorkEnd}
+use Rattle.service.specs.declared.posts.WorkEnd.TheVariants as ended
 use Rattle.service.specs.declared.posts.Post.{Post}
 use Rattle.service.specs.declared.posts.Task.{Task}
 use Rattle.service.specs.declared.posts.Task.TheVariants as task
@@ -36,46 +36,46 @@ use Rattle.service.specs.declared.served.Kind.{Kind}
 -- HOW ONE ENDED
 
 -- one at a door
-abbrev pub at_door : DoorServed → Ended
+abbrev pub at_door : DoorServed → WorkEnd
 at_door served = ended.Door served
 
 -- the flusher
-abbrev pub at_flushes : Result FlushEnd Spent → Ended
+abbrev pub at_flushes : Result FlushEnd Spent → WorkEnd
 at_flushes (Ok end) = ended.Flushed end
 at_flushes (Err spent) = ended.Spent
 
 -- the mover
-abbrev pub at_moves : Result MoverEnd Spent → Ended
+abbrev pub at_moves : Result MoverEnd Spent → WorkEnd
 at_moves (Ok end) = ended.Moved end
 at_moves (Err spent) = ended.Spent
 
 -- WHAT IS TOLD
 
-abbrev pub fails : Ended → Bool
+abbrev pub fails : WorkEnd → Bool
 fails (ended.Door (door.Done lacked failed)) = failed
 fails other = false
 
-abbrev pub fails_to_write : Ended → Bool
+abbrev pub fails_to_write : WorkEnd → Bool
 fails_to_write (ended.Flushed FailsToWrite) = true
 fails_to_write other = false
 
-abbrev pub finds_none : Ended → Bool
+abbrev pub finds_none : WorkEnd → Bool
 finds_none (ended.Door door.Spent) = true
 finds_none ended.Spent = true
 finds_none other = false
 
-abbrev pub lacks : Ended → Bool
+abbrev pub lacks : WorkEnd → Bool
 lacks (ended.Door (door.Done lacked failed)) = lacked
 lacks (ended.Flushed LacksMemory) = true
 lacks (ended.Moved MeetsNoMemory) = true
 lacks other = false
 
 -- how many doors failed, and whether one of all met the others
-abbrev pub told_of : List Ended → AllServed
+abbrev pub told_of : List WorkEnd → AllServed
 told_of ends = record { door_faults = count_by fails ends; disk_fault = list_any fails_to_write ends; spent = list_any finds_none ends; memory = list_any lacks ends }
 
 -- so it is, and one more
-abbrev pub with_end : AllServed → Ended → AllServed
+abbrev pub with_end : AllServed → WorkEnd → AllServed
 with_end told end =
     record {
       door_faults = told.door_faults + (if fails end then 1 else 0);
@@ -108,7 +108,7 @@ module _ {S B : Type 0} (steps : S → ℕ → ℕ → Act → B → S → Type 
     pub all : most_acts ≤ length (known new)
 
   -- one at a door: a shift
-  abbrev pub ShiftEnds : Pass S Act B → Ended → Pass S Act B → Type 0
+  abbrev pub ShiftEnds : Pass S Act B → WorkEnd → Pass S Act B → Type 0
   ShiftEnds old ended.NotBegun new = ⊥
   ShiftEnds old (ended.Door (door.Done lacked failed)) new = Acts steps reply rooms old IsShift new
   ShiftEnds old (ended.Door door.Spent) new = FindsNone old new
@@ -125,7 +125,7 @@ module _ {S B : Type 0} (steps : S → ℕ → ℕ → Act → B → S → Type 
     pub all : IsErr end → most_acts ≤ length (known new)
 
   -- the flusher's rounds, or the mover's
-  abbrev pub TaskEnds : Task → Pass S Act B → Option Moments → Ended → Pass S Act B → Option Moments → Type 0
+  abbrev pub TaskEnds : Task → Pass S Act B → Option Moments → WorkEnd → Pass S Act B → Option Moments → Type 0
   TaskEnds task.Flush old clock end new clock' = (flushed : Result FlushEnd Spent) × (end ≡ at_flushes flushed) × Tends FlushesTo old clock flushed new clock'
   TaskEnds task.Move old clock end new clock' = (moved : Result MoverEnd Spent) × (end ≡ at_moves moved) × Tends MovesTo old clock moved new clock'
 
@@ -139,7 +139,7 @@ CanWork steps stands rooms w = (m : Machine) × StandsFor steps stands rooms w.p
 -- rooms.
 module _ {A S B D : Type 0} (Serves : Kind → ℕ → A → Option Moments → D → DoorServed → A → Option Moments → D → Type 0) (pass_of : A → Pass S Act B) (rooms_of : A → Rooms S Act B) where
   -- a door was served from a seat with this pass
-  pub record DoorEnds (rooms : Rooms S Act B) (kind : Kind) (place : ℕ) (pass : Pass S Act B) (clock : Option Moments) (door : D) (end : Ended) (pass' : Pass S Act B) (clock' : Option Moments) (door' : D) : Type 0 where
+  pub record DoorEnds (rooms : Rooms S Act B) (kind : Kind) (place : ℕ) (pass : Pass S Act B) (clock : Option Moments) (door : D) (end : WorkEnd) (pass' : Pass S Act B) (clock' : Option Moments) (door' : D) : Type 0 where
     pub seat : A
     pub seat' : A
     pub served : DoorServed
@@ -168,19 +168,19 @@ module _ {A S B C D : Type 0} (Serves : Kind → ℕ → A → Option Moments �
 
   module _ (steps : S → ℕ → ℕ → Act → B → S → Type 0) (reply : B → Reply) (rooms : Rooms S Act B) where
     -- a worker at its post
-    pub record DoneAt (w : Worker S C Ended Act B) (p : Post D) (w' : Worker S C Ended Act B) (p' : Post D) : Type 0 where
+    pub record DoneAt (w : Worker S C WorkEnd Act B) (p : Post D) (w' : Worker S C WorkEnd Act B) (p' : Post D) : Type 0 where
       pub acts : ShiftEnds steps reply rooms w.pass w'.end w'.pass
       pub door : DoorEnds Serves pass_of rooms_of rooms p.kind w.place w.pass (coming w.clock) p.door w'.end w'.pass (coming w'.clock) p'.door
       pub kind : p'.kind ≡ p.kind
 
     -- Each post had a worker of its own, and two more flushed and moved.
-    pub record WorkDone (olds : List (Worker S C Ended Act B)) (posts : List (Post D)) (news : List (Worker S C Ended Act B)) (posts' : List (Post D)) : Type 0 where
-      pub at : List (Worker S C Ended Act B)
-      pub at' : List (Worker S C Ended Act B)
-      pub flusher : Worker S C Ended Act B
-      pub flusher' : Worker S C Ended Act B
-      pub mover : Worker S C Ended Act B
-      pub mover' : Worker S C Ended Act B
+    pub record WorkDone (olds : List (Worker S C WorkEnd Act B)) (posts : List (Post D)) (news : List (Worker S C WorkEnd Act B)) (posts' : List (Post D)) : Type 0 where
+      pub at : List (Worker S C WorkEnd Act B)
+      pub at' : List (Worker S C WorkEnd Act B)
+      pub flusher : Worker S C WorkEnd Act B
+      pub flusher' : Worker S C WorkEnd Act B
+      pub mover : Worker S C WorkEnd Act B
+      pub mover' : Worker S C WorkEnd Act B
       pub old_is : olds ≡ at ++ flusher ∷ mover ∷ []
       pub new_is : news ≡ at' ++ flusher' ∷ mover' ∷ []
       pub doors : AllGive DoneAt at posts at' posts'

@@ -14,7 +14,7 @@ use admin_commands::{Refusal, refuse};
 use disk_model::ReadAt;
 use edge_io::Sink;
 use http_front::{Head, write_head};
-use retrieval_query::{PinErr, PinnedVariable, Retrieved, give_up_pin, pin_variable};
+use retrieval_query::{PinVariableErr, PinnedVariable, Retrieved, give_up_pin, pin_variable};
 use series_model::Query;
 use std::alloc::Global;
 
@@ -88,7 +88,7 @@ fn reply_pinned<A: Actor, K: Sink>(
 }
 
 // Writes the refusal that says why no pin was made.
-fn refuse_pin<K: Sink, R: ReadAt>(alloc: Global, why: PinErr, link: &mut K) -> Retrieved<R>
+fn refuse_pin<K: Sink, R: ReadAt>(alloc: Global, why: PinVariableErr, link: &mut K) -> Retrieved<R>
     ensures tells { Tells (pin_refusal why) (Rose (K.write_faults link.old) (K.write_faults link.new))
         (ended_by why) Retrieved.SinkFault Retrieved.Memory (K.written link.old) result (K.written link.new) }
     ensures faults { K.write_faults link.old ≤ K.write_faults link.new }
@@ -104,13 +104,13 @@ fn refuse_pin<K: Sink, R: ReadAt>(alloc: Global, why: PinErr, link: &mut K) -> R
 }
 
 // How a request is refused for whose variable no pin was made. Nothing is replied where memory ran out.
-fn pin_refusal(why: PinErr) -> Option<Refusal>
+fn pin_refusal(why: PinVariableErr) -> Option<Refusal>
     ensures { result ≡ pin_refusal why }
 {
     match why {
-        PinErr::NoSuchVariable => Some(Refusal::NoSuchVariable),
-        PinErr::DiskFault => Some(Refusal::DiskFault),
-        PinErr::Spent => Some(Refusal::Spent),
-        PinErr::Memory => None,
+        PinVariableErr::NoSuchVariable => Some(Refusal::NoSuchVariable),
+        PinVariableErr::DiskFault => Some(Refusal::DiskFault),
+        PinVariableErr::Spent => Some(Refusal::Spent),
+        PinVariableErr::Memory => None,
     }
 }

@@ -26,7 +26,7 @@ pub enum DoorServed {
 
 // What was asked of a door once more.
 #[derive(Clone, Copy, Drop)]
-enum Asked {
+enum DoorAsked {
     // A link came, and was served. Whether memory ran out for it, or for an earlier one.
     Link { lacked: bool },
     // No link comes any more, or none could be had, as is told.
@@ -88,9 +88,9 @@ fn serve_links<A: Actor, W: Door, C: Clock, G: Gate>(
     let mut lacked = false;
     for _ in rt.forever() {
         match serve_next(rt, alloc, actor, kind, door, clock, hook, lacked) {
-            Asked::Link { lacked: now } => lacked = now,
-            Asked::End { failed } => return DoorServed::Done { lacked, failed },
-            Asked::Spent => return DoorServed::Spent,
+            DoorAsked::Link { lacked: now } => lacked = now,
+            DoorAsked::End { failed } => return DoorServed::Done { lacked, failed },
+            DoorAsked::Spent => return DoorServed::Spent,
         }
     }
     unreachable!()
@@ -106,7 +106,7 @@ fn serve_next<A: Actor, W: Door, C: Clock, G: Gate>(
     clock: &mut C,
     hook: &PostHook<'_, G>,
     lacked: bool,
-) -> Asked
+) -> DoorAsked
     requires stands { (m : Machine) × A.stands actor.old m }
     ensures acts { MakesOnly A.Actor is_of_link actor.old actor.new }
     ensures asked { AsksOn W.Door (IsFresh W.L.Sink.written W.L.Source.read_faults W.L.Sink.write_faults)
@@ -114,9 +114,9 @@ fn serve_next<A: Actor, W: Door, C: Clock, G: Gate>(
         (λ was served link. ServesLinkTold A.Actor A.Reader.ReadAt W.L.Source W.L.Sink
         (IsTold G.Gate hook.now.gate.now hook.now.post) kind actor.old (C.coming clock.old) was
         served actor.new (C.coming clock.new) link) door.old lacked result door.new }
-    ensures stays { (failed : Bool) → result ≡ Asked.End failed
+    ensures stays { (failed : Bool) → result ≡ DoorAsked.End failed
         → (actor.new ≡ actor.old) × (C.coming clock.new ≡ C.coming clock.old) }
-    ensures spent { result ≡ Asked.Spent → WasSpent A.Actor actor.new }
+    ensures spent { result ≡ DoorAsked.Spent → WasSpent A.Actor actor.new }
     ensures stands { (n : Machine) × A.stands actor.new n }
 {
     match door.next() {
@@ -126,12 +126,12 @@ fn serve_next<A: Actor, W: Door, C: Clock, G: Gate>(
             hook.leave(&served);
             door.back(link);
             match served {
-                Served::Spent => return Asked::Spent,
-                Served::Memory => return Asked::Link { lacked: true },
-                _ => return Asked::Link { lacked },
+                Served::Spent => return DoorAsked::Spent,
+                Served::Memory => return DoorAsked::Link { lacked: true },
+                _ => return DoorAsked::Link { lacked },
             }
         }
-        Next::Closed => Asked::End { failed: false },
-        Next::Failed => Asked::End { failed: true },
+        Next::Closed => DoorAsked::End { failed: false },
+        Next::Failed => DoorAsked::End { failed: true },
     }
 }

@@ -29,7 +29,7 @@ pub struct Post<W> {
 
 /// How the work of one in a service ended.
 #[derive(Clone, Copy, Drop)]
-pub(crate) enum Ended {
+pub(crate) enum WorkEnd {
     // It hasn't begun.
     NotBegun,
     Door(DoorServed),
@@ -52,7 +52,7 @@ pub(crate) fn serve_post<R: Wait, X: Applies, C: Clock, W: Door, G: Gate>(
     alloc: Global,
     rooms: &Rooms<Shared<X>>,
     gate: &G,
-    worker: &mut Worker<Shared<X>, C, Ended>,
+    worker: &mut Worker<Shared<X>, C, WorkEnd>,
     post: &mut Post<W>,
 )
     requires stands { (m : Machine)
@@ -79,14 +79,14 @@ pub(crate) fn serve_post<R: Wait, X: Applies, C: Clock, W: Door, G: Gate>(
         &mut worker.clock,
         &hook,
     );
-    worker.end = Ended::Door(served);
+    worker.end = WorkEnd::Door(served);
 }
 
 /// The work of one who flushes or moves, by turns of a pass.
 pub(crate) fn tend<R: Wait, X: Applies, C: Clock>(
     rt: &R,
     rooms: &Rooms<Shared<X>>,
-    worker: &mut Worker<Shared<X>, C, Ended>,
+    worker: &mut Worker<Shared<X>, C, WorkEnd>,
     task: &mut Task,
 )
     requires stands { (m : Machine)
@@ -98,12 +98,12 @@ pub(crate) fn tend<R: Wait, X: Applies, C: Clock>(
     let mut actor = Seated::new(rt, rooms, &mut worker.pass);
     match *task {
         Task::Flush => match flush_to_end(rt, &mut actor, &mut worker.clock) {
-            Ok(end) => worker.end = Ended::Flushed(end),
-            Err(Spent) => worker.end = Ended::Spent,
+            Ok(end) => worker.end = WorkEnd::Flushed(end),
+            Err(Spent) => worker.end = WorkEnd::Spent,
         },
         Task::Move => match move_to_end(rt, &mut actor, &mut worker.clock) {
-            Ok(end) => worker.end = Ended::Moved(end),
-            Err(Spent) => worker.end = Ended::Spent,
+            Ok(end) => worker.end = WorkEnd::Moved(end),
+            Err(Spent) => worker.end = WorkEnd::Spent,
         },
     }
 }

@@ -15,7 +15,7 @@ ghost use Rattle.serving.specs.Acting.{EndsInTurns, HasFlushFault, room_reply, r
 
 use crate::door::DoorServed;
 use crate::gate::Gate;
-use crate::posts::{Ended, Post, Task, serve_post, tend};
+use crate::posts::{Post, Task, WorkEnd, serve_post, tend};
 use act_model::Actor;
 use archive_actors::{Applies, Seated, Shared};
 use edge_io::{Clock, Door};
@@ -40,32 +40,32 @@ pub struct AllServed {
 }
 
 // One more of those who worked.
-fn with_end(told: AllServed, end: Ended) -> AllServed
+fn with_end(told: AllServed, end: WorkEnd) -> AllServed
     requires few { told.door_faults < 2 ^ 64 - 1 }
     ensures { result ≡ with_end told end }
 {
     match end {
-        Ended::NotBegun => told,
-        Ended::Door(DoorServed::Done { lacked, failed }) => AllServed {
+        WorkEnd::NotBegun => told,
+        WorkEnd::Door(DoorServed::Done { lacked, failed }) => AllServed {
             door_faults: told.door_faults + u64::from(failed),
             memory: told.memory || lacked,
             ..told
         },
-        Ended::Flushed(FlushEnd::LeavesNone) => told,
-        Ended::Flushed(FlushEnd::FailsToWrite) => AllServed {
+        WorkEnd::Flushed(FlushEnd::LeavesNone) => told,
+        WorkEnd::Flushed(FlushEnd::FailsToWrite) => AllServed {
             disk_fault: true,
             ..told
         },
-        Ended::Flushed(FlushEnd::LacksMemory) => AllServed {
+        WorkEnd::Flushed(FlushEnd::LacksMemory) => AllServed {
             memory: true,
             ..told
         },
-        Ended::Moved(MoverEnd::MeetsNoMemory) => AllServed {
+        WorkEnd::Moved(MoverEnd::MeetsNoMemory) => AllServed {
             memory: true,
             ..told
         },
-        Ended::Moved(_) => told,
-        Ended::Door(DoorServed::Spent) | Ended::Spent => AllServed {
+        WorkEnd::Moved(_) => told,
+        WorkEnd::Door(DoorServed::Spent) | WorkEnd::Spent => AllServed {
             spent: true,
             ..told
         },
@@ -73,7 +73,7 @@ fn with_end(told: AllServed, end: Ended) -> AllServed
 }
 
 // What is told of all who worked.
-fn tell<R: Room, C>(workers: &[Worker<R, C, Ended>]) -> AllServed
+fn tell<R: Room, C>(workers: &[Worker<R, C, WorkEnd>]) -> AllServed
     ensures { result ≡ told_of (map (λ w. w.end) workers.now) }
 {
     let mut told = AllServed {
@@ -100,7 +100,7 @@ fn work_all<
     alloc: Global,
     rooms: &Rooms<Shared<X>>,
     gate: &G,
-    workers: &mut [Worker<Shared<X>, C, Ended>],
+    workers: &mut [Worker<Shared<X>, C, WorkEnd>],
     posts: &mut [Post<W>],
 )
 where
@@ -118,7 +118,7 @@ where
     let mut tasks = [Task::Flush, Task::Move];
     run_with(
         rt,
-        &|worker: &mut Worker<Shared<X>, C, Ended>, task: &mut Task|
+        &|worker: &mut Worker<Shared<X>, C, WorkEnd>, task: &mut Task|
             requires { (m : Machine)
                 × StandsFor (room_steps X.Applies X.Reader.ReadAt) (SharedStands X.stands) rooms.now worker.now.pass m }
             ensures { TaskEnds (room_steps X.Applies X.Reader.ReadAt) (room_reply X.Reader.ReadAt) rooms.entry.now
@@ -127,7 +127,7 @@ where
         { tend(rt, rooms, worker, task) },
         beside,
         &mut tasks,
-        &|worker: &mut Worker<Shared<X>, C, Ended>, post: &mut Post<W>|
+        &|worker: &mut Worker<Shared<X>, C, WorkEnd>, post: &mut Post<W>|
             requires { (m : Machine)
                 × StandsFor (room_steps X.Applies X.Reader.ReadAt) (SharedStands X.stands) rooms.now worker.now.pass m }
             ensures acts { ShiftEnds (room_steps X.Applies X.Reader.ReadAt) (room_reply X.Reader.ReadAt)
@@ -198,7 +198,7 @@ where
         pass,
         clock,
         posts.len() + 2,
-        Ended::NotBegun,
+        WorkEnd::NotBegun,
     ) {
         Ok(mut workers) => {
             work_all(rt, alloc, rooms, gate, workers.as_mut_slice(), posts);

@@ -1,7 +1,7 @@
 // What a service hands in to be told.
 use crate::drops::Drops;
 use disk_model::FileName;
-use folder_disk::{Faults, Met};
+use folder_disk::{FaultMet, Faults};
 use series_model::Reason;
 use service::Gate;
 use std::alloc::{AllocError, Global};
@@ -64,7 +64,7 @@ impl Log {
     }
 
     /// Takes the faults that nobody took yet.
-    pub fn take_faults(&self) -> Option<Vec<Met>> {
+    pub fn take_faults(&self) -> Option<Vec<FaultMet>> {
         match &self.notes {
             Some(notes) => Some(notes.faults.take()),
             None => None,

@@ -1,7 +1,7 @@
 // Who tells what a service handed in.
 use crate::service_log::Log;
 use crate::telling::tell;
-use folder_disk::Met;
+use folder_disk::FaultMet;
 use std::time::Instant;
 
 // For so many seconds a fault isn't met that is over, and so many lie between two lines of one that stays.
@@ -12,7 +12,7 @@ const MOST: usize = 256;
 
 // A fault that was told, and may be met again.
 #[derive(Drop)]
-struct Standing {
+struct StandingFault {
     text: String,
     // The seconds at which it was told last, and met last.
     told: u64,
@@ -22,13 +22,13 @@ struct Standing {
     times: u64,
 }
 
-impl Standing {
+impl StandingFault {
     fn is_over(&self, now: u64) -> bool {
         now.saturating_sub(self.met) >= MINUTE
     }
 
     // Whether this one was met.
-    fn meet(&mut self, met: &Met, now: u64) -> bool {
+    fn meet(&mut self, met: &FaultMet, now: u64) -> bool {
         if self.text.as_str() != met.text.as_str() {
             return false;
         }
@@ -63,7 +63,7 @@ impl Standing {
 #[derive(Drop)]
 pub struct Teller {
     begun: Option<Instant>,
-    standing: Vec<Standing>,
+    standing: Vec<StandingFault>,
     // The seconds at which it told of dropped samples last.
     dropped: Option<u64>,
 }
@@ -121,16 +121,16 @@ impl Teller {
     }
 
     // A fault was met, which is told unless it was.
-    fn meet(&mut self, rt: &HostRuntime, met: Met, now: u64) {
+    fn meet(&mut self, rt: &HostRuntime, met: FaultMet, now: u64) {
         for fault in self.standing.iter_mut() {
             if fault.meet(&met, now) {
                 return;
             }
         }
-        let Met { text, times } = met;
+        let FaultMet { text, times } = met;
         tell(rt, format!(in rt.alloc(); "{text}"));
         if self.standing.len() < MOST {
-            let _ = self.standing.push(Standing {
+            let _ = self.standing.push(StandingFault {
                 text,
                 told: now,
                 met: now,

@@ -9,7 +9,7 @@ use Rattle.pb_messages.specs.declared.about.State.{State}
 use Rattle.act_model.specs.Reply.{Reply}
 use Rattle.act_model.specs.Machine.{Machine, MoveState, Change, AddsRow, SetsState, Renames, Appends, Publishes, Unlists, find_row}
 use Rattle.act_model.specs.Changes.{made, changed, added, each, at, Settles, no_doubt, as_not_made, as_made}
-use Rattle.act_model.specs.Limbo.{FileState}
+use Rattle.act_model.specs.Limbo.{RowFile}
 use Rattle.act_model.specs.Outcome.{Outcome, Ends, Same, Acts, refused_at_once, refused, runs, faults_first, faults_between, faults_within, faults_removing, wants_memory, wants_memory_settled, all_go}
 use Rattle.act_model.specs.Register.{register_refused, Registers}
 use Rattle.act_model.specs.Pause.{state_refused, Sets, sets_of}
@@ -19,7 +19,7 @@ use Rattle.act_model.specs.Details.{Describes, details_refused}
 use Rattle.act_model.specs.MoveBegin.{Begins, begins, all_run, none_to_make}
 use Rattle.act_model.specs.MoveStep.{GoesOn, copies, has_copied, publishes, retires, again, damaged, no_move, change_of, ends_move}
 use Rattle.act_model.specs.Sweep.{Sweeps}
-use Rattle.act_model.specs.Pin.{Pins, pins}
+use Rattle.act_model.specs.Pin.{MakesPin, pins}
 use Rattle.act_model.specs.OpenPiece.{Opens, refused_open, no_piece, opens, faults_opening, wants_memory_opening}
 use Rattle.act_model.specs.Unpin.{Unpins, refused_unpin, unpins}
 use Rattle.act_model.specs.Step.{Step, MayAsk, store_of}
@@ -47,7 +47,7 @@ keeps_trans a b c p q = record { rows = let x = p.rows in let y = q.rows in omeg
 keeps_counts : (old new : Machine) → Same old new → Keeps old new
 keeps_counts old new same = keeps_same old new (ap (λ (m : Machine). m.rows) same) (ap (λ (m : Machine). m.doors) same)
 
-keeps_made : (into : List FileState) (change : Change) (m : Machine) → Keeps m (made into change m)
+keeps_made : (into : List RowFile) (change : Change) (m : Machine) → Keeps m (made into change m)
 keeps_made into change m =
     record {
       rows = let long = length-append (each (changed m.told m.limbo change) 0 m.rows) (added change m.rows) in let same = length-each (changed m.told m.limbo change) 0 m.rows in omega arith;
@@ -55,7 +55,7 @@ keeps_made into change m =
     }
 
 -- a change was made, and other members than rows and doors may have changed
-keeps_change : (into : List FileState) (change : Change) (m new : Machine) → new.rows ≡ (made into change m).rows → new.doors ≡ m.doors → Keeps m new
+keeps_change : (into : List RowFile) (change : Change) (m new : Machine) → new.rows ≡ (made into change m).rows → new.doors ≡ m.doors → Keeps m new
 keeps_change into change m new rows doors = keeps_trans m (made into change m) new (keeps_made into change m) (keeps_same (made into change m) new rows doors)
 
 keeps_settled : {old mid : Machine} → Settles old mid → Keeps old mid
@@ -76,7 +76,7 @@ module _ (refuse : Machine → Option Reply) (run : Machine → Reply → Machin
   Acts-keeps {old} {new} (wants_memory same q) = keeps_counts old new same
   Acts-keeps {old} {new} (wants_memory_settled {mid = mid} p settles same q) = keeps_trans old mid new (keeps_settled settles) (keeps_counts mid new same)
 
-makes_keeps : (into : List FileState) (change : Change) (mid new : Machine) → Same (made into change mid) new → Keeps mid new
+makes_keeps : (into : List RowFile) (change : Change) (mid new : Machine) → Same (made into change mid) new → Keeps mid new
 makes_keeps into change mid new same = keeps_trans mid (made into change mid) new (keeps_made into change mid) (keeps_counts (made into change mid) new same)
 
 act_keeps : (m : Machine) (end : Outcome) → RowAct m end → Keeps m end.after
@@ -100,7 +100,7 @@ goes_keeps {mid = mid} {new = new} (retires move into here stage covers stays pi
 goes_keeps {mid = mid} {new = new} (again move len copied here stage grown less told same) = keeps_same mid new (ap (λ (m : Machine). m.rows) same) (ap (λ (m : Machine). m.doors) same)
 goes_keeps {mid = mid} {new = new} (damaged name place untold same) = keeps_same mid new (ap (λ (m : Machine). m.rows) same) (ap (λ (m : Machine). m.doors) same)
 
-pins_keeps : {who : ℕ} {name : List ℕ} {query : _} {mid new : Machine} {reply : Reply} → Pins who name query mid reply new → Keeps mid new
+pins_keeps : {who : ℕ} {name : List ℕ} {query : _} {mid new : Machine} {reply : Reply} → MakesPin who name query mid reply new → Keeps mid new
 pins_keeps {mid = mid} {new = new} (pins i row pin pieces a b c d e f g few same) = keeps_same mid new (ap (λ (m : Machine). m.rows) same) (ap (λ (m : Machine). m.doors) same)
 
 opens_keeps : {who pin i : ℕ} {old new : Machine} {reply : Reply} → Opens who pin i old reply new → Keeps old new
@@ -138,7 +138,7 @@ step_counts who (Flush limit) old new reply s ask step = counted (Acts-keeps (λ
 step_counts who (MoveBegin store now) old new reply s ask step = counted (Acts-keeps (λ m. None) (Begins (store_of store) now) (λ m. None) all_go (λ mid answer new ran. begins_keeps ran) step)
 step_counts who (MoveStep n) old new reply s ask step = counted (Acts-keeps (λ m. no_move (get m.moves n)) (GoesOn n) (λ m. change_of m (get m.moves n)) (ends_move n) (λ mid answer new ran. goes_keeps ran) step)
 step_counts who Sweep old new reply s ask step = counted (Acts-keeps (λ m. None) Sweeps (λ m. None) all_go (λ mid answer new ran. keeps_same mid new (ap (λ (m : Machine). m.rows) ran.same) (ap (λ (m : Machine). m.doors) ran.same)) step)
-step_counts who (Pin name query) old new reply s ask step = counted (Acts-keeps (details_refused name) (Pins who name query) (λ m. None) all_go (λ mid answer new ran. pins_keeps ran) step)
+step_counts who (Pin name query) old new reply s ask step = counted (Acts-keeps (details_refused name) (MakesPin who name query) (λ m. None) all_go (λ mid answer new ran. pins_keeps ran) step)
 step_counts who (OpenPiece pin i) old new reply s ask step = counted (opens_keeps step)
 step_counts who (Unpin pin) old new reply s ask step = counted (unpins_keeps step)
 step_counts who (Names from most) old new reply s ask step = counted (ends_keeps _ old new reply (keeps_refl old) step)

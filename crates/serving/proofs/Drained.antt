@@ -15,7 +15,7 @@ use Rattle.act_model.specs.declared.acts.Answer.TheVariants.{NoRow, Flushed, Mem
 use Rattle.pb_messages.specs.declared.about.State.TheVariants.{Retired}
 use Rattle.act_model.specs.Reply.{Reply}
 use Rattle.act_model.specs.Rows.{RowState, Store, Short, Medium, Long, durable, accepted, is_running, period_of, tier, with_tier, next_store}
-use Rattle.act_model.specs.Limbo.{FileState, files_of, put}
+use Rattle.act_model.specs.Limbo.{RowFile, files_of, put}
 use Rattle.act_model.specs.Machine.{Machine, MoveState, Change, AddsRow, SetsState, Renames, Appends, Publishes, Unlists, held_bytes}
 use Rattle.act_model.specs.Changes.{made, changed, at, of_row, published, retired, without_held, Settles, no_doubt, as_not_made, as_made}
 use Rattle.act_model.specs.Outcome.{Outcome, Acts, refused_at_once, refused, runs, faults_first, faults_between, faults_within, faults_removing, wants_memory, wants_memory_settled, all_go}
@@ -53,7 +53,7 @@ at_tail k f i row same = by_test (i == k)
     by_test true = same
     by_test false = refl
 
-published_tail : (told : Bool) (limbo : List FileState) (store : Store) (xs : List Sample) (row : RowState) → (published told limbo store xs row).tail ≡ row.tail
+published_tail : (told : Bool) (limbo : List RowFile) (store : Store) (xs : List Sample) (row : RowState) → (published told limbo store xs row).tail ≡ row.tail
 published_tail true limbo store xs row = tier_tail row store (put xs limbo (tier row store))
 published_tail false limbo store xs row = refl
 
@@ -61,7 +61,7 @@ retired_tail : (told : Bool) (store : Store) (to : ℕ) (row : RowState) → (re
 retired_tail true store to row = tier_tail row store (since to (tier row store))
 retired_tail false store to row = refl
 
-changed_tail : (told : Bool) (limbo : List FileState) (change : Change) (i : ℕ) (row : RowState) → row.tail ≡ [] → (changed told limbo change i row).tail ≡ []
+changed_tail : (told : Bool) (limbo : List RowFile) (change : Change) (i : ℕ) (row : RowState) → row.tail ≡ [] → (changed told limbo change i row).tail ≡ []
 changed_tail told limbo (AddsRow name about) i row none = none
 changed_tail told limbo (SetsState k state) i row none = at_tail k (without_held state) i row refl ∙ none
 changed_tail told limbo (Renames k name) i row none = at_tail k (without_held Retired) i row refl ∙ none
@@ -70,7 +70,7 @@ changed_tail told limbo (Publishes k store copied) i row none =
     at_tail k (published told (files_of k (next_store store) limbo) (next_store store) copied) i row (published_tail told (files_of k (next_store store) limbo) (next_store store) copied row) ∙ none
 changed_tail told limbo (Unlists k store to) i row none = at_tail k (retired told store to) i row (retired_tail told store to row) ∙ none
 
-drained_made : (m : Machine) (into : List FileState) (change : Change) → IsDrained m → IsDrained (made into change m)
+drained_made : (m : Machine) (into : List RowFile) (change : Change) → IsDrained m → IsDrained (made into change m)
 drained_made m into change d i new here = by_row (came m.told m.limbo change m.rows i new here)
   where
     of_fresh : IsFresh change m.rows new → new.tail ≡ []

@@ -4,10 +4,10 @@ use Rattle.std.specs.Prelude.{All, Contains, map}
 use Rattle.std.specs.List.{AllZip}
 use Rattle.std.proofs.lemmas.List.{map-append, length-map, length-append}
 use Rattle.std.proofs.lemmas.List.Elements.{All-nil, All-cons, All-head, All-tail, Contains-append_left, Contains-append_right, Contains-append_cases}
-use Rattle.turn_rooms.specs.declared.room.Entry.{Entry as RoomEntry}
+use Rattle.turn_rooms.specs.declared.room.RoomEntry.{RoomEntry}
 use Rattle.turn_rooms.specs.declared.rooms.Pass.{Pass}
 use Rattle.turn_rooms.specs.declared.rooms.Rooms.{Rooms}
-use Rattle.turn_rooms.specs.declared.view.Standing.{Standing}
+use Rattle.turn_rooms.specs.declared.view.SeatNumbers.{SeatNumbers}
 use Rattle.turn_rooms.specs.Histories.{by}
 use Rattle.turn_rooms.specs.Passes.{Goes, KnowsAllOf, known, stands}
 use Rattle.turn_rooms.proofs.Lists.{has_first, only_element, cons_more}
@@ -23,7 +23,7 @@ use Rattle.archive_actors.specs.Steps.{RoomStep, kept, all_kept}
 use Rattle.serving.specs.declared.ends.FlushEnd.TheVariants.{LeavesNone, FailsToWrite}
 use Rattle.serving.specs.declared.ends.MoverEnd.{MoverEnd}
 use Rattle.serving.specs.declared.ends.MoverEnd.TheVariants.{MeetsNoMemory}
-use Rattle.serving.specs.End.{Served}
+use Rattle.serving.specs.End.{ServesToEnd}
 use Rattle.serving.specs.Rounds.{IsFlushing, IsMoving, IsShift}
 use Rattle.serving.proofs.Law.{serving_ends}
 use Rattle.serving.proofs.Works.{own_map, nothing_before, nothing_since}
@@ -59,7 +59,7 @@ module _ {S B : Type 0} (steps : S → ℕ → ℕ → Act → B → S → Type 
     one_mine Such n n' acts fresh knows =
         let q = n.number in
         let before : by q (known old) ≡ [] = subst (λ (h : List (RoomEntry S Act B)). by q h ≡ []) fresh.knows fresh.acts in
-        let there : stands n' ≡ q ∷ [] = ap (λ (s : Standing). s.stands) acts.goes.same_standing ∙ fresh.stands_for in
+        let there : stands n' ≡ q ∷ [] = ap (λ (s : SeatNumbers). s.stands) acts.goes.same_standing ∙ fresh.stands_for in
         let known_is : by q (known new) ≡ by q (known n') = knows.acts q (subst (λ (xs : List ℕ). Contains xs q) (sym there) (has_first q [])) in
         let here : known n' ≡ known old ++ acts.more = acts.goes_on ∙ ap (λ (h : List (RoomEntry S Act B)). h ++ acts.more) fresh.knows in
         let same : own q (all_kept reply acts.more) ≡ own q (all_kept reply more) =
@@ -81,7 +81,7 @@ module _ {S B : Type 0} (steps : S → ℕ → ℕ → Act → B → S → Type 
   nobody old q [] (n' ∷ ns') w f other = absurd w
   nobody old q (n ∷ ns) [] w f other = absurd w
   nobody old q (n ∷ ns) (n' ∷ ns') w f other =
-      let there : stands n' ≡ n.number ∷ [] = ap (λ (s : Standing). s.stands) w.0.same_standing ∙ (All-head (λ (n : P). IsNew old n) n ns f).stands_for in
+      let there : stands n' ≡ n.number ∷ [] = ap (λ (s : SeatNumbers). s.stands) w.0.same_standing ∙ (All-head (λ (n : P). IsNew old n) n ns f).stands_for in
       let first : ¬ Contains (stands n') q = λ c. other (subst (λ (z : ℕ). Contains (map (λ (n : P). n.number) (n ∷ ns)) z) (only_element n.number q (subst (λ (xs : List ℕ). Contains xs q) there c)) (has_first n.number (map (λ (n : P). n.number) ns))) in
       All-cons (λ (n : P). ¬ Contains (stands n) q) n' ns' first (nobody old q ns ns' w.1 (All-tail (λ (n : P). IsNew old n) n ns f) (λ c. other (cons_more n.number (map (λ (n : P). n.number) ns) q c)))
 
@@ -125,7 +125,7 @@ module _ {S B : Type 0} (steps : S → ℕ → ℕ → Act → B → S → Type 
       let knows_two = All-tail (λ (n : P). KnowsAllOf n new) flusher' (mover' ∷ []) knows.1 in
       let went = zip_append steps reply rooms workers workers' tenders (flusher' ∷ mover' ∷ []) (zip_goes steps reply rooms IsShift workers workers' ws) (fs.goes, (ms.goes, tt)) in
       let some : 0 < length (workers' ++ flusher' ∷ mover' ∷ []) = let long = length-append workers' (flusher' ∷ mover' ∷ []) in omega arith in
-      let served : Served m (all_kept reply more) goes.after (map number workers) flusher.number mover.number LeavesNone moved = record {
+      let served : ServesToEnd m (all_kept reply more) goes.after (map number workers) flusher.number mover.number LeavesNone moved = record {
         sound = sound _ m here.now;
         runs = goes.runs;
         doors = doors ∙ sym (length-map workers number);

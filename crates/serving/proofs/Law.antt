@@ -19,7 +19,7 @@ use Rattle.serving.specs.declared.ends.FlushEnd.{FlushEnd}
 use Rattle.serving.specs.declared.ends.FlushEnd.TheVariants.{LeavesNone}
 use Rattle.serving.specs.declared.ends.MoverEnd.{MoverEnd}
 use Rattle.serving.specs.declared.ends.MoverEnd.TheVariants.{Rests, MeetsFault, MeetsNoMemory}
-use Rattle.serving.specs.End.{Served, MadeIn, FirstShut, FaultsShut, FindsNothing, EndsWell}
+use Rattle.serving.specs.End.{ServesToEnd, MadeIn, FirstShut, FaultsShut, FindsNothing, EndsWell}
 use Rattle.serving.proofs.Owns.{drops, dones, dones_in, dones_in-append, among, contains_among, all_done_by, shifts_done, shift_left, mine_fewer}
 use Rattle.serving.proofs.Counts.{runs_counts}
 use Rattle.serving.proofs.Drained.{IsDrained, drained_durable, IsMovers, asks_doors, begins_move, steps_move, sweeps, runs_drained, flush_drains, tick_no_row}
@@ -130,7 +130,7 @@ module _ (flusher : ℕ) (mid new : Machine) (c : List Entry) (d : Entry) (b : L
 
 -- THE LAW
 
-module _ (old new : Machine) (es : List Entry) (workers : List ℕ) (flusher mover : ℕ) (flushed : FlushEnd) (moved : MoverEnd) (s : Served old es new workers flusher mover flushed moved) where
+module _ (old new : Machine) (es : List Entry) (workers : List ℕ) (flusher mover : ℕ) (flushed : FlushEnd) (moved : MoverEnd) (s : ServesToEnd old es new workers flusher mover flushed moved) where
   shifts : AllByRecursion (λ (w : ℕ). IsShift (mine w es)) workers
   shifts = recursion_from_All (λ (w : ℕ). IsShift (mine w es)) workers s.shifts
 
@@ -316,7 +316,7 @@ module _ (old new : Machine) (es : List Entry) (workers : List ℕ) (flusher mov
       by_end MeetsFault is f = inr (met_fault f)
       by_end MeetsNoMemory is f = absurd (clean is)
 
-pub serving_ends : (old new : Machine) (entries : List Entry) (workers : List ℕ) (flusher mover : ℕ) (moved : MoverEnd) → Served old entries new workers flusher mover LeavesNone moved → (moved ≡ MeetsNoMemory → ⊥) → EndsWell old entries new mover
+pub serving_ends : (old new : Machine) (entries : List Entry) (workers : List ℕ) (flusher mover : ℕ) (moved : MoverEnd) → ServesToEnd old entries new workers flusher mover LeavesNone moved → (moved ≡ MeetsNoMemory → ⊥) → EndsWell old entries new mover
 serving_ends old new entries workers flusher mover moved s clean =
     record {
       shut = ends_shut old new entries workers flusher mover LeavesNone moved s;

@@ -12,7 +12,7 @@ use Rattle.act_model.specs.History.{Entry, Done}
 use Rattle.serving.specs.declared.ends.MoverEnd.{MoverEnd}
 use Rattle.serving.specs.declared.ends.MoverEnd.TheVariants.{Rests, MeetsFault, MeetsNoMemory}
 use Rattle.serving.specs.Rounds.{IsFault, IsMemory, GoesOn, IsOver, IsMove, BeginsMove, AreMoves, no_move, one_more_move, CutsMove, EndsMoves, at_its_begin, at_a_step, IsOfStore, EndsStore, EndsSo}
-use Rattle.serving.specs.declared.moves.Begun.TheVariants as begun
+use Rattle.serving.specs.declared.moves.BegunMove.TheVariants as begun
 use Rattle.serving.specs.declared.moves.MoveErr.{MoveErr}
 use Rattle.serving.specs.declared.moves.MoveErr.TheVariants as err
 use Rattle.serving.specs.declared.moves.OneMove.TheVariants as one

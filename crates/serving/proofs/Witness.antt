@@ -18,7 +18,7 @@ use Rattle.act_model.specs.Roles.{is_of_link}
 use Rattle.serving.specs.Rounds.{IsShift, no_round, IsOfStore, EndsStore, no_move, at_its_begin}
 use Rattle.serving.specs.declared.ends.FlushEnd.TheVariants.{LeavesNone}
 use Rattle.serving.specs.declared.ends.MoverEnd.TheVariants.{Rests}
-use Rattle.serving.specs.End.{Served, MayEndSo}
+use Rattle.serving.specs.End.{ServesToEnd, MayEndSo}
 
 abbrev start : ℕ → Machine
 start n = record { rule = record { granularity = []; hold = []; gather = []; header = λ message. None }; rows = []; limbo = []; pins = empty; moves = empty; doubt = None; doors = n; faults = 0; told = true }
@@ -107,7 +107,7 @@ run = (
 of_store : (store : ℕ) → IsOfStore EndsStore store 9 (record { act = MoveBegin store 9; answer = Nothing 0 } ∷ [])
 of_store store = record { before = []; end = record { act = MoveBegin store 9; answer = Nothing 0 } ∷ []; is = refl; moves = no_move; ends = at_its_begin (record { act = MoveBegin store 9; answer = Nothing 0 }) refl (inl (0, refl)) }
 
-premises : Served (start 1) entries (start 0) (3 ∷ []) 1 2 LeavesNone Rests
+premises : ServesToEnd (start 1) entries (start 0) (3 ∷ []) 1 2 LeavesNone Rests
 premises = record {
   sound = start_sound 1;
   runs = run;

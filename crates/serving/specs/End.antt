@@ -13,7 +13,7 @@ use Rattle.serving.specs.declared.ends.MoverEnd.{MoverEnd}
 use Rattle.serving.specs.declared.ends.MoverEnd.TheVariants.{Rests}
 
 -- The entries of a run are those of workers, of one flusher and of one mover, each of whom did its work to its end.
-pub record Served (old : Machine) (entries : List Entry) (new : Machine) (workers : List ℕ) (flusher mover : ℕ) (flushed : FlushEnd) (moved : MoverEnd) : Type 0 where
+pub record ServesToEnd (old : Machine) (entries : List Entry) (new : Machine) (workers : List ℕ) (flusher mover : ℕ) (flushed : FlushEnd) (moved : MoverEnd) : Type 0 where
   pub sound : IsSound old
   pub runs : Runs old entries new
   pub doors : old.doors ≡ length workers
@@ -64,4 +64,4 @@ pub record MayEndSo : Type 0 where
   pub worker : ℕ
   pub flusher : ℕ
   pub mover : ℕ
-  pub served : Served old entries new (worker ∷ []) flusher mover LeavesNone Rests
+  pub served : ServesToEnd old entries new (worker ∷ []) flusher mover LeavesNone Rests

@@ -10,8 +10,8 @@ use Rattle.act_model.specs.History.{Done}
 use Rattle.serving.specs.declared.ends.MoverEnd.{MoverEnd}
 use Rattle.serving.specs.declared.ends.MoverEnd.TheVariants.{Rests, MeetsFault, MeetsNoMemory}
 use Rattle.serving.specs.Rounds.{IsFault, IsMemory, GoesOn, IsOver, IsMove, BeginsMove, AreMoves, EndsMoves, IsOfStore, EndsStore, IsMoveRound, EndsSo}
-use Rattle.serving.specs.declared.moves.Begun.{Begun}
-use Rattle.serving.specs.declared.moves.Begun.TheVariants as begun
+use Rattle.serving.specs.declared.moves.BegunMove.{BegunMove}
+use Rattle.serving.specs.declared.moves.BegunMove.TheVariants as begun
 use Rattle.serving.specs.declared.moves.MoveErr.{MoveErr}
 use Rattle.serving.specs.declared.moves.MoveErr.TheVariants as err
 use Rattle.serving.specs.declared.moves.OneMove.{OneMove}
@@ -71,12 +71,12 @@ pub record AreSoFar (store now : ℕ) (ds : List Done) : Type 0 where
   pub goes : IsBegun store now rest
 
 -- the one act that begins a move, by its answer
-abbrev pub BegunSo : ℕ → ℕ → Result Begun MoveErr → Done → Type 0
+abbrev pub BegunSo : ℕ → ℕ → Result BegunMove MoveErr → Done → Type 0
 BegunSo store now (Ok (begun.Moves m)) d = BeginsMove store now m d
 BegunSo store now (Ok (begun.Nothing doors)) d = (d.act ≡ MoveBegin store now) × (d.answer ≡ answer.Nothing doors)
 BegunSo store now (Err why) d = (d.act ≡ MoveBegin store now) × StoppedBy why d.answer
 
-abbrev pub BeginsSo : ℕ → ℕ → Result Begun MoveErr → List Done → Type 0
+abbrev pub BeginsSo : ℕ → ℕ → Result BegunMove MoveErr → List Done → Type 0
 BeginsSo store now result ds = UnlessSpent AreNone (λ result ds. (d : Done) × (ds ≡ d ∷ []) × BegunSo store now result d) result ds
 
 -- one step, and how many partitions the move retired, if it is over

@@ -5,7 +5,7 @@ ghost use Rattle.act_model.specs.History.{Entry};
 ghost use Rattle.serving.specs.declared.ends.FlushEnd.TheVariants.{LeavesNone};
 ghost use Rattle.serving.specs.declared.ends.MoverEnd.{MoverEnd};
 ghost use Rattle.serving.specs.declared.ends.MoverEnd.TheVariants.{MeetsNoMemory};
-ghost use Rattle.serving.specs.End.{Served, EndsWell, MayEndSo};
+ghost use Rattle.serving.specs.End.{ServesToEnd, EndsWell, MayEndSo};
 ghost use Rattle.std.specs.List.{AllZip};
 ghost use Rattle.turn_rooms.specs.declared.rooms.Pass.{Pass};
 ghost use Rattle.turn_rooms.specs.declared.rooms.Rooms.{Rooms};
@@ -26,7 +26,7 @@ use archive_actors::Applies;
 pub fn serving_ends()
     ensures ends { (old new : Machine) (entries : List Entry) (workers : List ℕ)
         (flusher mover : ℕ) (moved : MoverEnd)
-        → Served old entries new workers flusher mover LeavesNone moved
+        → ServesToEnd old entries new workers flusher mover LeavesNone moved
         → moved ≢ MeetsNoMemory → EndsWell old entries new mover }
     ensures possible { MayEndSo }
 {}

@@ -25,7 +25,7 @@ pub enum MoveErr {
 
 // How a move began.
 #[derive(Clone, Copy, Drop)]
-enum Begun {
+enum BegunMove {
     // This move is to go on.
     Moves(u32),
     // The store has nothing to move, at a time when so many doors are left.
@@ -51,7 +51,7 @@ pub(crate) struct StoreMoved {
 }
 
 // Begins a move, or finds the one that runs.
-fn begin_move<A: Actor>(actor: &mut A, store: u8, now: u64) -> Result<Begun, MoveErr>
+fn begin_move<A: Actor>(actor: &mut A, store: u8, now: u64) -> Result<BegunMove, MoveErr>
     requires stands { (m : Machine) × A.stands actor.old m }
     requires low { 1 ≤ store }
     requires high { store ≤ 2 }
@@ -60,9 +60,9 @@ fn begin_move<A: Actor>(actor: &mut A, store: u8, now: u64) -> Result<Begun, Mov
     ensures stands { (n : Machine) × A.stands actor.new n }
 {
     match ask_move_begin(actor, store, now) {
-        Ok(MoveBegun::Begun { m, .. }) => Ok(Begun::Moves(m)),
-        Ok(MoveBegun::Busy { m }) => Ok(Begun::Moves(m)),
-        Ok(MoveBegun::Nothing { doors }) => Ok(Begun::Nothing(doors)),
+        Ok(MoveBegun::Begun { m, .. }) => Ok(BegunMove::Moves(m)),
+        Ok(MoveBegun::Busy { m }) => Ok(BegunMove::Moves(m)),
+        Ok(MoveBegun::Nothing { doors }) => Ok(BegunMove::Nothing(doors)),
         Ok(MoveBegun::DiskFault) => Err(MoveErr::DiskFault),
         Ok(MoveBegun::Memory) => Err(MoveErr::Memory),
         Err(Spent) => Err(MoveErr::Spent),
@@ -122,11 +122,11 @@ fn move_once<A: Actor>(
     ensures stands { (n : Machine) × A.stands actor.new n }
 {
     match begin_move(actor, store, now) {
-        Ok(Begun::Moves(m)) => match move_through(rt, actor, m) {
+        Ok(BegunMove::Moves(m)) => match move_through(rt, actor, m) {
             Ok(parts) => Ok(OneMove::Over(parts)),
             Err(err) => Err(err),
         },
-        Ok(Begun::Nothing(doors)) => Ok(OneMove::Nothing(doors)),
+        Ok(BegunMove::Nothing(doors)) => Ok(OneMove::Nothing(doors)),
         Err(err) => Err(err),
     }
 }

@@ -12,7 +12,7 @@ use Rattle.gate_journal.specs.Generations.{IsOwn, HasBatchesOf, AtOwn, HasOneOf,
 use Rattle.gate_journal.specs.Journal.{JournalState, IsSettledWith, is_of_commit}
 use Rattle.gate_journal.specs.Kept as of_batches
 use Rattle.gate_journal.specs.Kept.{Says, SaysEither, CommitsValue}
-use Rattle.gate_journal.specs.Standing.{Standing}
+use Rattle.gate_journal.specs.DiskShown.{DiskShown}
 use Rattle.gate_journal.proofs.Keeping.{commits_mean, change_says, nothing_said, one_value}
 use Rattle.gate_journal.proofs.Results.{on_ok_always, on_err_always}
 use Rattle.gate_journal.proofs.Holding.{holds_left}
@@ -57,7 +57,7 @@ module _ (g : Granularity) (bs : List (List ℕ)) (entries : List Entry) (change
   pub commit_means : Configured g (bs ++ batch ∷ []) (all_changed entries changes)
   commit_means = configured_more g bs entries (all_changed entries changes) batch means (written_batch g entries changes batch is some sizes follow)
 
-  pub add_commits : (journal now : JournalState) (listed later next : List Entry) (result : Result (Unit {0}) DiskErr) (old new : Standing) → next ≡ all_changed entries changes → is_of_commit now.pending ≡ true → OnOk result (listed ≡ next)
+  pub add_commits : (journal now : JournalState) (listed later next : List Entry) (result : Result (Unit {0}) DiskErr) (old new : DiskShown) → next ≡ all_changed entries changes → is_of_commit now.pending ≡ true → OnOk result (listed ≡ next)
       → OnErr result ((listed ≡ entries) × (later ≡ next)) → CommitsBatches bs (bs ++ batch ∷ []) result journal now old new
       → CommitsValue (Configured g) entries next listed later (OnOk result) (IsErrOf result Fault) (IsErrOf result Memory) journal now old new
   add_commits journal now listed later next result old new is_next of_commit done failed commits =
@@ -74,7 +74,7 @@ whole_means g bs entries batch is means =
     let folds = configured_folds g bs entries means in
     let P : List ℕ → Type 0 = λ b. Configured g (b ∷ []) entries in subst P (sym is) (whole_lists g entries (folds_entries g bs entries folds) (folds_sized g bs entries folds))
 
-pub whole_commits : (g : Granularity) (bs : List (List ℕ)) (entries next : List Entry) (batch : List ℕ) → batch ≡ whole g entries → Configured g bs entries → (journal now : JournalState) (result : Result (Unit {0}) DiskErr) (old new : Standing)
+pub whole_commits : (g : Granularity) (bs : List (List ℕ)) (entries next : List Entry) (batch : List ℕ) → batch ≡ whole g entries → Configured g bs entries → (journal now : JournalState) (result : Result (Unit {0}) DiskErr) (old new : DiskShown)
     → (IsErrOf result Fault → is_of_commit now.pending ≡ false) → CommitsBatches bs (batch ∷ []) result journal now old new
     → CommitsValue (Configured g) entries entries entries next (OnOk result) (IsErrOf result Fault) (IsErrOf result Memory) journal now old new
 whole_commits g bs entries next batch is means journal now result old new of_checkpoint commits =
@@ -89,7 +89,7 @@ module _ (g : Granularity) (journal : JournalState) (entries : List Entry) (now 
   was = record { journal = journal; granularity = g; entries = entries; next = entries }
 
   -- the disk was left alone
-  pub nothing_configured : (at : Standing) → of_batches.IsKept (Configured g) journal at entries → IsKept now at → (IsErrOf result Fault → ⊥) → CommitsEntries Configured next result was now at at
+  pub nothing_configured : (at : DiskShown) → of_batches.IsKept (Configured g) journal at entries → IsKept now at → (IsErrOf result Fault → ⊥) → CommitsEntries Configured next result was now at at
   nothing_configured at kept still no_fault = record {
     made = on_ok_always result still;
     doubt = λ fault. absurd (no_fault fault);
@@ -99,7 +99,7 @@ module _ (g : Granularity) (journal : JournalState) (entries : List Entry) (now 
     opened = λ n other. refl;
   }
 
-  pub commits_folds : (old new : Standing) → CommitsEntries Configured next result was now old new → CommitsEntries Folds next result was now old new
+  pub commits_folds : (old new : DiskShown) → CommitsEntries Configured next result was now old new → CommitsEntries Folds next result was now old new
   commits_folds old new commits = record {
     made = commits.made;
     doubt = commits.doubt;
@@ -116,7 +116,7 @@ once : (g : Granularity) (entries next : List Entry) (name : Name) (old new : Fi
 once g entries next name old new (inl says) = inl says
 once g entries next name old new (inr says) = inl says
 
-module _ (was : ManifestState) (next later : List Entry) (short : ManifestState) (old mid : Standing) (failed : Result (Unit {0}) DiskErr)
+module _ (was : ManifestState) (next later : List Entry) (short : ManifestState) (old mid : DiskShown) (failed : Result (Unit {0}) DiskErr)
     (first : CommitsEntries Configured was.entries failed (record { journal = was.journal; granularity = was.granularity; entries = was.entries; next = later }) short old mid) where
   short_moment : Passes (AtOwn was.journal.name (SaysEither (Configured was.granularity) was.entries next was.journal.name)) old.past mid.past
   short_moment =
@@ -135,7 +135,7 @@ module _ (was : ManifestState) (next later : List Entry) (short : ManifestState)
   })
 
   -- and then the changes are added
-  pub both_commits : (result : Result (Unit {0}) DiskErr) (now : ManifestState) (new : Standing) → short.granularity ≡ was.granularity → short.journal.name ≡ was.journal.name → short.entries ≡ was.entries → short.next ≡ next
+  pub both_commits : (result : Result (Unit {0}) DiskErr) (now : ManifestState) (new : DiskShown) → short.granularity ≡ was.granularity → short.journal.name ≡ was.journal.name → short.entries ≡ was.entries → short.next ≡ next
       → CommitsEntries Configured short.next result short now mid new → CommitsEntries Configured next result was now old new
   both_commits result now new same_g same_name same_entries same_next second = record {
     made = second.made;
@@ -171,7 +171,7 @@ review_moment g false before after entries next name old new means means_after p
     })
 
 -- a review that makes no changes in memory: the batches list the entries from before
-pub review_kept : (g : Granularity) (of_commit made : Bool) (journal : JournalState) (disk : Standing) (before after : List (List ℕ)) (entries next : List Entry) → Configured g before entries → Configured g after (cond of_commit next entries)
+pub review_kept : (g : Granularity) (of_commit made : Bool) (journal : JournalState) (disk : DiskShown) (before after : List (List ℕ)) (entries next : List Entry) → Configured g before entries → Configured g after (cond of_commit next entries)
     → (IsTrue made → IsSettledWith journal disk after) → (made ≡ false → IsSettledWith journal disk before) → ((made ≡ true) × (of_commit ≡ false)) ⊎ (made ≡ false) → of_batches.IsKept (Configured g) journal disk entries
 review_kept g of_commit made journal disk before after entries next means means_after taken left which = elim which [
   | inl both ↦ record { batches = after; settled = taken both.0; means = sure_means g of_commit after entries next both.1 means_after }
@@ -209,7 +209,7 @@ load_means g k h bs es entries same_k same_h same means =
     let P : Granularity → Type 0 = λ z. Configured z bs es in
     let Q : List Entry → Type 0 = λ l. Configured h bs l in subst Q (sym same) (subst P (same_k ∙ sym same_h) means)
 
-pub load_kept : (m : ManifestState) (g k : Granularity) (journal : JournalState) (disk : Standing) (bs : List (List ℕ)) (es : List Entry) → m.journal ≡ journal → m.granularity ≡ g → k ≡ g → m.entries ≡ es
+pub load_kept : (m : ManifestState) (g k : Granularity) (journal : JournalState) (disk : DiskShown) (bs : List (List ℕ)) (es : List Entry) → m.journal ≡ journal → m.granularity ≡ g → k ≡ g → m.entries ≡ es
     → IsSettledWith journal disk bs → Configured k bs es → of_batches.IsKept (Configured m.granularity) m.journal disk m.entries
 load_kept m g k journal disk bs es same_journal same_m same_k same settled means =
     let P : JournalState → Type 0 = λ j. IsSettledWith j disk bs in record { batches = bs; settled = subst P (sym same_journal) settled; means = load_means g k m.granularity bs es m.entries same_k same_m same means }
@@ -232,7 +232,7 @@ module _ (g : Granularity) (name own : Name) (is : own ≡ name) where
   said_or_not image (inl has) = record { batches = []; has = has; means = refl }
   said_or_not image (inr has) = record { batches = config g ∷ []; has = has; means = ([], begun_empty g (config g) refl, refl) }
 
-  module _ (journal : JournalState) (named : journal.name ≡ own) (disk : Standing) (bs : List (List ℕ)) (none : bs ≡ []) (settled : IsSettledWith journal disk bs) where
+  module _ (journal : JournalState) (named : journal.name ≡ own) (disk : DiskShown) (bs : List (List ℕ)) (none : bs ≡ []) (settled : IsSettledWith journal disk bs) where
     both : journal.name ≡ name
     both = named ∙ is
 

@@ -8,7 +8,7 @@ use Rattle.gate_journal.specs.Generations.{HasBatchesOf, KeepsBatches}
 use Rattle.gate_journal.specs.Commits.{Commits}
 use Rattle.gate_journal.specs.Journal.{JournalState}
 use Rattle.gate_journal.specs.Kept as journal
-use Rattle.gate_journal.specs.Standing.{Standing}
+use Rattle.gate_journal.specs.DiskShown.{DiskShown}
 use Rattle.partition_names.specs.declared.granularity.Granularity.{Granularity}
 use Rattle.store_manifest.specs.declared.entry.Entry.{Entry}
 use Rattle.store_manifest.specs.Batches.{Configured, Folds}
@@ -33,15 +33,15 @@ pub record ManifestState : Type 0 where
   pub next : List Entry
 
 -- Between calls: the manifest's batches list its entries, and all of its files is on the disk.
-abbrev pub IsKept : ManifestState → Standing → Type 0
+abbrev pub IsKept : ManifestState → DiskShown → Type 0
 IsKept m disk = journal.IsKept (Configured m.granularity) m.journal disk m.entries
 
 -- After a commit that failed: the batches list the entries from before it or those that it was to make.
-abbrev pub IsUnsure : ManifestState → Standing → Type 0
+abbrev pub IsUnsure : ManifestState → DiskShown → Type 0
 IsUnsure m disk = journal.IsUnsure (Configured m.granularity) m.journal disk m.entries m.next
 
 -- A call that commits to a manifest: its entries go over to the next ones. Means tells what batches list.
-abbrev pub CommitsEntries : (Granularity → List (List ℕ) → List Entry → Type 0) → List Entry → Result (Unit {0}) DiskErr → ManifestState → ManifestState → Standing → Standing → Type 0
+abbrev pub CommitsEntries : (Granularity → List (List ℕ) → List Entry → Type 0) → List Entry → Result (Unit {0}) DiskErr → ManifestState → ManifestState → DiskShown → DiskShown → Type 0
 CommitsEntries Means next result was now old new =
     Commits was.journal.name (journal.SaysEither (Means was.granularity) was.entries next was.journal.name) (OnOk result) (IsErrOf result Fault) (IsErrOf result Memory) (IsKept now new)
     (IsUnsure now new) (IsKept now new) old new

@@ -9,7 +9,7 @@ ghost use Rattle.gate_journal.specs.Batches.{greatest_batch};
 ghost use Rattle.gate_journal.specs.Generations.{IsOwn, AtOwn, HasBatchesOf, HasOneOf, IsBadOf};
 ghost use Rattle.gate_journal.specs.Journal.{IsSettledWith, is_of_commit, OnlyRemoves};
 ghost use Rattle.gate_journal.specs.Kept.{Says, SaysEither};
-ghost use Rattle.gate_journal.specs.Standing.{standing};
+ghost use Rattle.gate_journal.specs.DiskShown.{shown_by};
 ghost use Rattle.partition_names.specs.declared.granularity.Granularity.{Granularity as GranularityValue};
 ghost use Rattle.store_manifest.specs.declared.entry.Entry.{Entry as EntryValue};
 ghost use Rattle.store_manifest.specs.declared.error.ManifestErr.TheVariants.{Disk as OfDisk, BadJournal, BadBatch};
@@ -70,7 +70,7 @@ impl Manifest {
         requires store { IsInRange 1 3 store }
         requires unopened { IsTrue D.tells → (n : Name) → IsOwn (manifest_name store) n → D.opened disk.old n ≡ 0 }
 
-        ensures kept { IsTrue D.tells → IfOk result (λ m. IsKept m (standing D.Disk disk.new)) }
+        ensures kept { IsTrue D.tells → IfOk result (λ m. IsKept m (shown_by D.Disk disk.new)) }
         ensures entries { IsTrue D.tells
             → IfOk result (λ m. Lists g m.entries (manifest_name store) (D.files disk.old)) }
         ensures are { IfOk result (λ m. AreEntries g m.entries) }
@@ -161,13 +161,13 @@ impl Manifest {
         requires sound { IsTrue self.old.journal.sound }
         requires follow { AllCanFollow self.old.granularity self.old.entries changes.now }
         requires few { length (batch_of changes.now) ≤ greatest_batch }
-        requires kept { IsTrue D.tells → IsKept self.old (standing D.Disk disk.old) }
+        requires kept { IsTrue D.tells → IsKept self.old (shown_by D.Disk disk.old) }
 
         // A crash at any moment leaves the entries from before it or those with all the changes, and of every name that
         // isn't the manifest's what it might have left before.
         ensures commits { IsTrue D.tells
             → CommitsEntries Folds (all_changed self.old.entries changes.now) result self.old self.new
-            (standing D.Disk disk.old) (standing D.Disk disk.new) }
+            (shown_by D.Disk disk.old) (shown_by D.Disk disk.new) }
         ensures entries { OnOk result (self.new.entries ≡ all_changed self.old.entries changes.now) }
         ensures state { (self.new.granularity ≡ self.old.granularity)
             × (self.new.journal.name ≡ self.old.journal.name) }
@@ -212,9 +212,9 @@ impl Manifest {
     /// commit took it: `Memory` is the disk's.
     pub fn review<D: Disk>(&mut self, disk: &mut D) -> Result<(), DiskErr>
         requires unsound { self.old.journal.sound ≡ false }
-        requires doubt { IsTrue D.tells → IsUnsure self.old (standing D.Disk disk.old) }
+        requires doubt { IsTrue D.tells → IsUnsure self.old (shown_by D.Disk disk.old) }
 
-        ensures kept { IsTrue D.tells → OnOk result (IsKept self.new (standing D.Disk disk.new)) }
+        ensures kept { IsTrue D.tells → OnOk result (IsKept self.new (shown_by D.Disk disk.new)) }
         ensures entries { OnOk result ((self.new.entries ≡ self.old.entries) ⊎ (self.new.entries ≡ self.old.next)) }
         ensures sound { OnOk result (self.new.journal.sound ≡ true) }
         ensures state { (self.new.granularity ≡ self.old.granularity)
@@ -224,7 +224,7 @@ impl Manifest {
 
         // A crash at any moment leaves the entries from before the commit or those that it was to make, and of every
         // name that isn't the manifest's what it might have left before.
-        ensures doubtful { IsTrue D.tells → OnErr result (IsUnsure self.new (standing D.Disk disk.new)) }
+        ensures doubtful { IsTrue D.tells → OnErr result (IsUnsure self.new (shown_by D.Disk disk.new)) }
         ensures any_moment { IsTrue D.tells → Passes (AtOwn self.old.journal.name
             (SaysEither (Configured self.old.granularity) self.old.entries self.old.next self.old.journal.name))
             (D.past disk.old) (D.past disk.new) }
@@ -256,9 +256,9 @@ impl Manifest {
     // Begins the journal anew with a batch that lists all entries, where it is long for them.
     fn shorten<D: Disk>(&mut self, disk: &mut D) -> Result<(), DiskErr>
         requires sound { IsTrue self.old.journal.sound }
-        requires kept { IsTrue D.tells → IsKept self.old (standing D.Disk disk.old) }
+        requires kept { IsTrue D.tells → IsKept self.old (shown_by D.Disk disk.old) }
         ensures commits { IsTrue D.tells → CommitsEntries Configured self.old.entries result self.old self.new
-            (standing D.Disk disk.old) (standing D.Disk disk.new) }
+            (shown_by D.Disk disk.old) (shown_by D.Disk disk.new) }
         ensures state { (self.new.granularity ≡ self.old.granularity)
             × (self.new.journal.name ≡ self.old.journal.name)
             × (self.new.entries ≡ self.old.entries)
@@ -290,9 +290,9 @@ impl Manifest {
         requires prepared { self.old.next ≡ all_changed self.old.entries changes.now }
         requires follow { AllCanFollow self.old.granularity self.old.entries changes.now }
         requires few { length (batch_of changes.now) ≤ greatest_batch }
-        requires kept { IsTrue D.tells → IsKept self.old (standing D.Disk disk.old) }
+        requires kept { IsTrue D.tells → IsKept self.old (shown_by D.Disk disk.old) }
         ensures commits { IsTrue D.tells → CommitsEntries Configured self.old.next result self.old self.new
-            (standing D.Disk disk.old) (standing D.Disk disk.new) }
+            (shown_by D.Disk disk.old) (shown_by D.Disk disk.new) }
         ensures entries { OnOk result (self.new.entries ≡ self.old.next) }
         ensures state { (self.new.granularity ≡ self.old.granularity)
             × (self.new.journal.name ≡ self.old.journal.name) }
@@ -341,8 +341,8 @@ fn configure<D: Disk>(
     g: Granularity,
 ) -> Result<Manifest, DiskErr>
     requires sound { IsTrue journal.sound }
-    requires settled { IsTrue D.tells → IsSettledWith journal (standing D.Disk disk.old) [] }
-    ensures kept { IsTrue D.tells → IfOk result (λ m. IsKept m (standing D.Disk disk.new)) }
+    requires settled { IsTrue D.tells → IsSettledWith journal (shown_by D.Disk disk.old) [] }
+    ensures kept { IsTrue D.tells → IfOk result (λ m. IsKept m (shown_by D.Disk disk.new)) }
     ensures are { IfOk result (λ m. AreEntries g m.entries) }
     ensures manifest { IfOk result (λ m.
         (m.journal.name ≡ journal.name) × (m.granularity ≡ g) × (m.journal.sound ≡ true) × (m.entries ≡ [])) }

@@ -10,7 +10,7 @@ use Rattle.std.proofs.lemmas.Bool.Decides.{nat_tests, Decides-eqb}
 use Rattle.std.proofs.lemmas.List.Elements.{All-contains, Contains-append_left, Contains-append_right}
 use Rattle.disk_model.specs.declared.disk.Disk.{Ghosts}
 use Rattle.gate_journal.specs.Kept.{Says}
-use Rattle.gate_journal.specs.Standing.{standing}
+use Rattle.gate_journal.specs.DiskShown.{shown_by}
 use Rattle.partition_names.specs.Path.{path_of}
 use Rattle.partition_names.proofs.PartLemmas.{one_part, within, one_name}
 use Rattle.pv_catalog.specs.Catalogue.{CatalogueState, registered, catalogue_name, Refuses}
@@ -184,7 +184,7 @@ module _ {D R : Type 0} (disk : Ghosts D R) (gs : List Granularity) (mid new : D
       omega (arith, zero_then, less)
 
 -- where journals were loaded alone
-pub found_loaded : {D R : Type 0} (disk : Ghosts D R) (gs : List Granularity) (old mid : D) → KeepsSaid gs (standing disk old) (standing disk mid) → NoneFoundOpened gs (disk.files old) (disk.opened old)
+pub found_loaded : {D R : Type 0} (disk : Ghosts D R) (gs : List Granularity) (old mid : D) → KeepsSaid gs (shown_by disk old) (shown_by disk mid) → NoneFoundOpened gs (disk.files old) (disk.opened old)
     → NoneFoundOpened gs (disk.files mid) (disk.opened mid)
 found_loaded {D} {R} disk gs old mid keeps none s reads i n low store own = keeps.same_opened n (λ is. absurd (omega (arith, store, is))) ∙ none s before i n low store own
   where
@@ -274,7 +274,7 @@ only_opens {D} {R} disk gs old new reopens marked found site leaves = record {
 site_loaded : (gs : List Granularity) (old new : Past) → Passes (StillSay gs) old new → Passes OnlySite old new
 site_loaded gs old new passes = passes_weaker (StillSay gs) OnlySite old new passes (λ a c left step n apart other. step.others n apart)
 
-pub load_site : {D R : Type 0} (disk : Ghosts D R) (gs : List Granularity) (old mid : D) → KeepsSaid gs (standing disk old) (standing disk mid) → OnlySite (disk.files old) (disk.files mid) × Passes OnlySite (disk.past old) (disk.past mid)
+pub load_site : {D R : Type 0} (disk : Ghosts D R) (gs : List Granularity) (old mid : D) → KeepsSaid gs (shown_by disk old) (shown_by disk mid) → OnlySite (disk.files old) (disk.files mid) × Passes OnlySite (disk.past old) (disk.past mid)
 load_site {D} {R} disk gs old mid keeps = (λ n apart other. keeps.now.others n apart, site_loaded gs (disk.past old) (disk.past mid) keeps.passes)
 
 module _ {D R : Type 0} (disk : Ghosts D R) (gs : List Granularity) (old mid new : D) (c : CatalogueState) (ms : List ManifestState) (c₁ : CatalogueState) (m₁ : List ManifestState) (told : IsTrue disk.tells) (same : granularities ms ≡ gs) (begun : Reopens disk gs old mid) (left : MayLeave (disk.past new) (disk.files new)) where
@@ -305,7 +305,7 @@ module _ {D R : Type 0} (disk : Ghosts D R) (gs : List Granularity) (old mid new
 
   -- an adoption that was done, or left
   module _ (whole_image : IsWhole gs (disk.files old)) (loads : (before after : Stores) → OpensEither gs (disk.past old) before after → HasLoaded disk gs old c ms mid before after) (some : Stores) (has : Has disk.tells (loaded disk c ms mid) some) (changes : ChangesSite disk mid new)
-      (keeps : KeepsSaid gs (standing disk old) (standing disk mid)) (none : NoneUnlistedOpened c.rows ms (disk.opened mid)) where
+      (keeps : KeepsSaid gs (shown_by disk old) (shown_by disk mid)) (none : NoneUnlistedOpened c.rows ms (disk.opened mid)) where
     marked_of : ((held : Stores) → Has disk.tells (loaded disk c ms mid) held → Passes (IsMarked gs (disk.files old) held) (disk.past mid) (disk.past new))
         → (before after : Stores) → OpensEither gs (disk.past old) before after → Passes (IsMarkedOf gs (disk.files old) before after) (disk.past old) (disk.past new)
     marked_of marks before after opens =
@@ -371,7 +371,7 @@ module _ {D R : Type 0} (disk : Ghosts D R) (gs : List Granularity) (old mid new
 
 -- THE LOAD
 
-module _ {D R : Type 0} (disk : Ghosts D R) (gs : List Granularity) (old mid : D) (c : CatalogueState) (ms : List ManifestState) (same : granularities ms ≡ gs) (keeps : KeepsSaid gs (standing disk old) (standing disk mid))
+module _ {D R : Type 0} (disk : Ghosts D R) (gs : List Granularity) (old mid : D) (c : CatalogueState) (ms : List ManifestState) (same : granularities ms ≡ gs) (keeps : KeepsSaid gs (shown_by disk old) (shown_by disk mid))
     (held : Stores) (has : Has disk.tells (loaded disk c ms mid) held) (told : IsTrue disk.tells) (seen : MayLeave (disk.past mid) (disk.files mid)) where
   -- what the stores have behind it, reads gave before it
   read_before : AreSaid gs (disk.files old) c.rows (lists_of ms) → HoldsAll gs (disk.files old) held

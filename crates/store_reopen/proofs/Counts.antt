@@ -8,7 +8,7 @@ use Rattle.store_manifest.specs.Manifest.{ManifestState}
 use Rattle.tier_store.specs.Seen.{granularities}
 use Rattle.store_reopen.specs.Adoption.{place_of, row_of, Takes, IsListedAs, TakesTurns, Finds, ListsAll, done as adoption_done, lists as lists_step, nothing, stopped, IsUnlisted, ListsNone, Counts, GetRows, about_of, capped, entry_as, goes_on, listed_by, listed_in, AreUnlisted, NoneFiner}
 use Rattle.store_reopen.specs.Listing.{MayList, AtEachTurn, AllMayList, AreTurns, AreUnopened, ListsTaken, commit_of, turns_of, AllHaveParts, AllUnopened, AreCoarse, AreFew}
-use Rattle.store_reopen.specs.declared.finding.Taken.{Taken}
+use Rattle.store_reopen.specs.declared.finding.TakenFile.{TakenFile}
 use Rattle.store_reopen.specs.declared.finding.Unlisted.{Unlisted}
 use Rattle.tier_store.specs.Stores.{Stores, list_at}
 use Rattle.std.proofs.lemmas.List.Elements.{All-head, All-tail, All-weaker, All-append, All-cons, All-map, filter-append, All-from_recursion, recursion_from_All}
@@ -74,10 +74,10 @@ module _ {D R : Type 0} (disk : Ghosts D R) (c : CatalogueState) (ms : List Mani
 
 -- THE FILES OF A TURN, LATER ON
 
-pub may_later : (g : Granularity) (image later : Files) (rows : List Row) (series place : ℕ) (xs : List Taken) → SameStores image later → All (MayList g image rows series place) xs → All (MayList g later rows series place) xs
+pub may_later : (g : Granularity) (image later : Files) (rows : List Row) (series place : ℕ) (xs : List TakenFile) → SameStores image later → All (MayList g image rows series place) xs → All (MayList g later rows series place) xs
 may_later g image later rows series place xs same = All-weaker (MayList g image rows series place) (MayList g later rows series place) one xs
   where
-    one : (x : Taken) → MayList g image rows series place x → MayList g later rows series place x
+    one : (x : TakenFile) → MayList g image rows series place x → MayList g later rows series place x
     one x may =
         let is = may.is in
         let store = may.store in
@@ -90,13 +90,13 @@ may_later g image later rows series place xs same = All-weaker (MayList g image 
           type = may.type;
         }
 
-pub unopened_later : (opened after : Name → ℕ) (xs : List Taken) → ((n : Name) → after n ≤ opened n) → AreUnopened opened xs → AreUnopened after xs
-unopened_later opened after xs fewer = All-weaker (λ (x : Taken). opened x.file ≡ 0) (λ (x : Taken). after x.file ≡ 0) (λ x none. let le = fewer x.file in omega (arith, le, none)) xs
+pub unopened_later : (opened after : Name → ℕ) (xs : List TakenFile) → ((n : Name) → after n ≤ opened n) → AreUnopened opened xs → AreUnopened after xs
+unopened_later opened after xs fewer = All-weaker (λ (x : TakenFile). opened x.file ≡ 0) (λ (x : TakenFile). after x.file ≡ 0) (λ x none. let le = fewer x.file in omega (arith, le, none)) xs
 
 -- ONE TURN
 
 module _ (image first now : Files) (g : Granularity) (rows : List Row) (series place : ℕ) (same : SameStores image now) where
-  listed_before : (xs : List Taken) (files : List Filed) → All (MayList g first rows series place) xs → AllZip (IsListedAs now series) xs files → AllZip (IsListedAs image series) xs files
+  listed_before : (xs : List TakenFile) (files : List Filed) → All (MayList g first rows series place) xs → AllZip (IsListedAs now series) xs files → AllZip (IsListedAs image series) xs files
   listed_before [] [] may all = tt
   listed_before [] (f ∷ fs) may all = absurd all
   listed_before (x ∷ xs) [] may all = absurd all
@@ -104,7 +104,7 @@ module _ (image first now : Files) (g : Granularity) (rows : List Row) (series p
       let store = (may 0 x (omega arith)).store in
       (record { entry = all.0.entry; bytes = all.0.bytes; there = sym (same x.file (λ none. absurd (omega (arith, store, none)))) ∙ all.0.there; file = all.0.file }, listed_before xs fs (λ k d lt. may (suc k) d (omega (arith, lt))) all.1)
 
-module _ {D R : Type 0} (disk : Ghosts D R) (image : Files) (held : Stores) (rows : List Row) (xs : List Unlisted) (turn left : ℕ) (taken : List Taken) (takes : Takes held rows (row_of turn) (place_of turn) xs taken) (c : CatalogueState) (ms : List ManifestState) (d : D) (m₁ : List ManifestState) (d₁ : D) where
+module _ {D R : Type 0} (disk : Ghosts D R) (image : Files) (held : Stores) (rows : List Row) (xs : List Unlisted) (turn left : ℕ) (taken : List TakenFile) (takes : Takes held rows (row_of turn) (place_of turn) xs taken) (c : CatalogueState) (ms : List ManifestState) (d : D) (m₁ : List ManifestState) (d₁ : D) where
   abbrev Before : Rule
   Before whole = TakesTurns image held rows xs whole turn (suc left)
 
@@ -127,9 +127,9 @@ module _ {D R : Type 0} (disk : Ghosts D R) (image : Files) (held : Stores) (row
 
 -- ALL TURNS
 
-pub turn_here : (turns : List (Vec Taken Global)) (i : ℕ) (v : Vec Taken Global) → i < length turns → v ≡ get_or turns i v → slice_get (turns_of turns) i ≡ Some v.items
+pub turn_here : (turns : List (Vec TakenFile Global)) (i : ℕ) (v : Vec TakenFile Global) → i < length turns → v ≡ get_or turns i v → slice_get (turns_of turns) i ≡ Some v.items
 turn_here [] i v low is = absurd (omega (arith, low))
-turn_here (t ∷ ts) zero v low is = ap (λ (w : Vec Taken Global). Some w.items) (sym is)
+turn_here (t ∷ ts) zero v low is = ap (λ (w : Vec TakenFile Global). Some w.items) (sym is)
 turn_here (t ∷ ts) (suc i) v low is = turn_here ts i v (omega (arith, low)) is
 
 -- the granularity at a place stays
@@ -151,7 +151,7 @@ module _ {D R : Type 0} (disk : Ghosts D R) (image : Files) (held : Stores) (row
       by = λ whole more is. let none : n - turn ≡ 0 = omega (arith, le) in goes.by whole more (subst (λ (k : ℕ). Turns turn k whole more) (sym none) (subst (λ (l : List Step). Turns turn 0 whole l) (sym is) adoption_done));
     }
 
-    module _ (low : turn < n) (g : Granularity) (taken : List Taken) (takes : Takes held rows (row_of turn) (place_of turn) xs taken) (may : All (MayList g (disk.files d) rows (row_of turn) (place_of turn)) taken) (same : SameStores image (disk.files d₁)) (m₂ : List ManifestState) (d₂ : D) where
+    module _ (low : turn < n) (g : Granularity) (taken : List TakenFile) (takes : Takes held rows (row_of turn) (place_of turn) xs taken) (may : All (MayList g (disk.files d) rows (row_of turn) (place_of turn)) taken) (same : SameStores image (disk.files d₁)) (m₂ : List ManifestState) (d₂ : D) where
       abbrev left : ℕ
       left = n - (turn + 1)
 
@@ -216,20 +216,20 @@ module _ (c : CatalogueState) (ms : List ManifestState) (held : Stores) (rows : 
     none = subst (λ (p : ℕ). ListNone p (row_of turn) ms) (sym is.here) (none_listed c ms held known (place_of turn) (row_of turn) low_place is.none);
   }
 
-  pub turn_is : (xs : List Unlisted) (taken : List Taken) → TakesOf ms rows turn xs taken → Takes held rows (row_of turn) (place_of turn) xs taken
+  pub turn_is : (xs : List Unlisted) (taken : List TakenFile) → TakesOf ms rows turn xs taken → Takes held rows (row_of turn) (place_of turn) xs taken
   turn_is [] [] done = rule.done
   turn_is [] (t ∷ ts) of = elim of [ ]
   turn_is (x ∷ xs) (t ∷ ts) (takes_turn {c = k} some of rest) = rule.takes (is_taken x k some of) (turn_is xs ts rest)
   turn_is (x ∷ xs) ts (other_turn none rest) = rule.other (λ k is. none k is.found (of_taken x k is)) (turn_is xs ts rest)
 
-pub turns_are : (c : CatalogueState) (ms : List ManifestState) (held : Stores) (rows : List Row) (xs : List Unlisted) (turns : List (List Taken)) → IsKnown c ms held → AtEachTurn (λ turn taken. TakesOf ms rows turn xs taken) turns → AreTurns held rows xs turns
+pub turns_are : (c : CatalogueState) (ms : List ManifestState) (held : Stores) (rows : List Row) (xs : List Unlisted) (turns : List (List TakenFile)) → IsKnown c ms held → AtEachTurn (λ turn taken. TakesOf ms rows turn xs taken) turns → AreTurns held rows xs turns
 turns_are c ms held rows xs turns known all turn taken here = turn_is c ms held rows known turn xs taken (all turn taken here)
 
 -- WHAT IS KNOWN OF EACH FILE
 
 -- of what is known of all files, for what a turn takes
-takes_all : (ms : List ManifestState) (rows : List Row) (turn : ℕ) (P : Unlisted → Type 0) (Q : Taken → Type 0) → ((x : Unlisted) (c : Candidate) → x.candidate ≡ Some c → IsOfTurn ms rows turn x.place c → P x → Q (record { file = x.file; candidate = c }))
-    → (xs : List Unlisted) (taken : List Taken) → TakesOf ms rows turn xs taken → All P xs → All Q taken
+takes_all : (ms : List ManifestState) (rows : List Row) (turn : ℕ) (P : Unlisted → Type 0) (Q : TakenFile → Type 0) → ((x : Unlisted) (c : Candidate) → x.candidate ≡ Some c → IsOfTurn ms rows turn x.place c → P x → Q (record { file = x.file; candidate = c }))
+    → (xs : List Unlisted) (taken : List TakenFile) → TakesOf ms rows turn xs taken → All P xs → All Q taken
 takes_all ms rows turn P Q one [] [] done all = λ k d low. absurd (omega (arith, low))
 takes_all ms rows turn P Q one [] (t ∷ ts) of all = elim of [ ]
 takes_all ms rows turn P Q one (x ∷ xs) (t ∷ ts) (takes_turn {c = k} some of rest) all = All-cons Q t ts (one x k some of (All-head P x xs all)) (takes_all ms rows turn P Q one xs ts rest (All-tail P x xs all))
@@ -241,9 +241,9 @@ granularity_there ms k m g here at = same_Some m.granularity g (sym (slice_get-m
 some_part : (o : Option Candidate) (k : Candidate) (g : Granularity) → o ≡ Some k → IfSome o (λ (c : Candidate). IsPart g c.part) → IsPart g k.part
 some_part o k g some all = subst (λ (o : Option Candidate). IfSome o (λ (c : Candidate). IsPart g c.part)) some all
 
-pub turns_have_parts : (ms : List ManifestState) (rows : List Row) (xs : List Unlisted) (turns : List (List Taken)) → All (IsOfPlace ms) xs → AtEachTurn (λ turn taken. TakesOf ms rows turn xs taken) turns → AllHaveParts (granularities ms) turns
+pub turns_have_parts : (ms : List ManifestState) (rows : List Row) (xs : List Unlisted) (turns : List (List TakenFile)) → All (IsOfPlace ms) xs → AtEachTurn (λ turn taken. TakesOf ms rows turn xs taken) turns → AllHaveParts (granularities ms) turns
 turns_have_parts ms rows xs turns places all turn taken here g at =
-    takes_all ms rows turn (IsOfPlace ms) (λ (t : Taken). IsPart g t.candidate.part) (λ x k some of is.
+    takes_all ms rows turn (IsOfPlace ms) (λ (t : TakenFile). IsPart g t.candidate.part) (λ x k some of is.
     subst (λ (g : Granularity). IsPart g k.part) (granularity_there ms (place_of turn) is.manifest g (subst (λ (p : ℕ). slice_get ms p ≡ Some is.manifest) of.here is.here) at) (some_part x.candidate k is.manifest.granularity some is.unit))
     xs taken (all turn taken here) places
 
@@ -272,7 +272,7 @@ all_found image rows ms xs three are = subst (All (IsFoundIn image rows ms)) (sy
         let found = are.are_each i m.0 m.1 in
         finds_all image rows ms i m.0 m.1 found.names (are.each i) (λ k d low. (found.all.each k d low).0) found.finds
 
-pub turns_may : (image : Files) (before rows : List Row) (ms : List ManifestState) (xs : List Unlisted) (turns : List (List Taken)) → length ms ≡ 3 → AreUnlistedOf image before ms xs → AtEachTurn (λ turn taken. TakesOf ms rows turn xs taken) turns → AllMayList (granularities ms) image rows turns
+pub turns_may : (image : Files) (before rows : List Row) (ms : List ManifestState) (xs : List Unlisted) (turns : List (List TakenFile)) → length ms ≡ 3 → AreUnlistedOf image before ms xs → AtEachTurn (λ turn taken. TakesOf ms rows turn xs taken) turns → AllMayList (granularities ms) image rows turns
 turns_may image before rows ms xs turns three are all turn taken here g at =
     takes_all ms rows turn (IsFoundIn image before ms) (MayList g image rows (row_of turn) (place_of turn)) (λ x k some of is. record {
       store = is.store ∙ ap (λ (p : ℕ). p + 1) of.here;
@@ -283,8 +283,8 @@ turns_may image before rows ms xs turns three are all turn taken here g at =
       type = of.type;
     }) xs taken (all turn taken here) (all_found image before ms xs three are)
 
-pub turns_unopened : (opened : Name → ℕ) (rows : List Row) (ms : List ManifestState) (xs : List Unlisted) (turns : List (List Taken)) → All (λ (x : Unlisted). opened x.file ≡ 0) xs → AtEachTurn (λ turn taken. TakesOf ms rows turn xs taken) turns → AllUnopened opened turns
-turns_unopened opened rows ms xs turns none all turn taken here = takes_all ms rows turn (λ (x : Unlisted). opened x.file ≡ 0) (λ (t : Taken). opened t.file ≡ 0) (λ x k some of is. is) xs taken (all turn taken here) none
+pub turns_unopened : (opened : Name → ℕ) (rows : List Row) (ms : List ManifestState) (xs : List Unlisted) (turns : List (List TakenFile)) → All (λ (x : Unlisted). opened x.file ≡ 0) xs → AtEachTurn (λ turn taken. TakesOf ms rows turn xs taken) turns → AllUnopened opened turns
+turns_unopened opened rows ms xs turns none all turn taken here = takes_all ms rows turn (λ (x : Unlisted). opened x.file ≡ 0) (λ (t : TakenFile). opened t.file ≡ 0) (λ x k some of is. is) xs taken (all turn taken here) none
 
 -- The numbers of an adoption, by what its turns take.
 
@@ -300,20 +300,20 @@ lt_is a b false both = go (nat_lt a b) refl
 
 module _ (image : Files) (rows : List Row) where
   -- the file of the candidate, and of the entry by which its row lists it
-  named_as : (g : Granularity) (series place : ℕ) (t : Taken) (f : Filed) → MayList g image rows series place t → f.entry ≡ entry_as series t.candidate → file_of (place + 1, rows) f.entry ≡ t.file
+  named_as : (g : Granularity) (series place : ℕ) (t : TakenFile) (f : Filed) → MayList g image rows series place t → f.entry ≡ entry_as series t.candidate → file_of (place + 1, rows) f.entry ≡ t.file
   named_as g series place t f may is =
       let row : name_of (slice_get rows series) ≡ may.row.name = ap name_of may.stands in
       let path : path_of (name_of (slice_get rows series)) t.candidate.part.name ≡ t.file.1 = ap (λ (l : List ℕ). path_of l t.candidate.part.name) (row ∙ sym may.name) ∙ may.is.named.path in
       ap (file_of (place + 1, rows)) is ∙ (λ i. (sym may.store i, path i))
 
-  one_cut : (g : Granularity) (series place : ℕ) (t : Taken) (f : Filed) → MayList g image rows series place t → IsListedAs image series t f → goes_on image rows (place + 1, f) ≡ t.candidate.cut
+  one_cut : (g : Granularity) (series place : ℕ) (t : TakenFile) (f : Filed) → MayList g image rows series place t → IsListedAs image series t f → goes_on image rows (place + 1, f) ≡ t.candidate.cut
   one_cut g series place t f may listed =
       let named = named_as g series place t f may listed.entry in
       let there : image (file_of (place + 1, rows) f.entry) ≡ Some may.is.bytes = ap image named ∙ may.is.there in
       ap (λ (n : ℕ). nat_lt n (length (bytes_in (image (file_of (place + 1, rows) f.entry))))) (ap (λ (e : Entry). e.len) listed.entry) ∙ ap (λ (c : Content). nat_lt t.candidate.front.len (length (bytes_in c))) there ∙ lt_is t.candidate.front.len (length may.is.bytes) t.candidate.cut may.is.named.cut
 
   -- what is listed adds up to what was taken
-  pub record AddUp (taken : List Taken) (listed : List (ℕ × Filed)) : Type 0 where
+  pub record AddUp (taken : List TakenFile) (listed : List (ℕ × Filed)) : Type 0 where
     pub files : length listed ≡ length taken
     pub samples : sum_by (λ (x : ℕ × Filed). x.1.entry.count) listed ≡ samples_in taken
     pub cut : length (filter (goes_on image rows) listed) ≡ cut_in taken
@@ -324,14 +324,14 @@ module _ (image : Files) (rows : List Row) where
   cut_listed : (xs ys : List (ℕ × Filed)) → length (filter (goes_on image rows) (xs ++ ys)) ≡ length (filter (goes_on image rows) xs) + length (filter (goes_on image rows) ys)
   cut_listed xs ys = ap (λ (l : List (ℕ × Filed)). length l) (filter-append (goes_on image rows) xs ys) ∙ length-append (filter (goes_on image rows) xs) (filter (goes_on image rows) ys)
 
-  add_both : (a b : List Taken) (x y : List (ℕ × Filed)) → AddUp a x → AddUp b y → AddUp (a ++ b) (x ++ y)
+  add_both : (a b : List TakenFile) (x y : List (ℕ × Filed)) → AddUp a x → AddUp b y → AddUp (a ++ b) (x ++ y)
   add_both a b x y one two = record {
     files = omega (arith, length-append a b, length-append x y, one.files, two.files);
     samples = omega (arith, samples_both a b, sum_by-append (λ (x : ℕ × Filed). x.1.entry.count) x y, one.samples, two.samples);
     cut = omega (arith, cut_both a b, cut_listed x y, one.cut, two.cut);
   }
 
-  add_turn : (g : Granularity) (series place : ℕ) (taken : List Taken) (files : List Filed) → All (MayList g image rows series place) taken → AllZip (IsListedAs image series) taken files → AddUp taken (map (λ (f : Filed). (place + 1, f)) files)
+  add_turn : (g : Granularity) (series place : ℕ) (taken : List TakenFile) (files : List Filed) → All (MayList g image rows series place) taken → AllZip (IsListedAs image series) taken files → AddUp taken (map (λ (f : Filed). (place + 1, f)) files)
   add_turn g series place [] [] may listed = add_none
   add_turn g series place [] (f ∷ fs) may listed = absurd listed
   add_turn g series place (t ∷ ts) [] may listed = absurd listed
@@ -348,7 +348,7 @@ module _ (image : Files) (rows : List Row) where
           same = ap (λ (e : Entry). e.count) listed.0.entry
 
           count : sum_by (λ (x : ℕ × Filed). x.1.entry.count) (here ∷ []) ≡ samples_in (t ∷ [])
-          count = omega (arith, same, sum_by-cons (λ (x : ℕ × Filed). x.1.entry.count) here [], sum_by-cons (λ (t : Taken). t.candidate.front.count) t [])
+          count = omega (arith, same, sum_by-cons (λ (x : ℕ × Filed). x.1.entry.count) here [], sum_by-cons (λ (t : TakenFile). t.candidate.front.count) t [])
 
           cut : length (filter (goes_on image rows) (here ∷ [])) ≡ cut_in (t ∷ [])
           cut = ap (λ (b : Bool). length (cond b (here ∷ []) [])) (one_cut g series place t f (All-head (MayList g image rows series place) t ts may) listed.0) ∙ go t.candidate.cut
@@ -359,22 +359,22 @@ module _ (image : Files) (rows : List Row) where
 
   -- TURN AFTER TURN
 
-  takes_one : (held : Stores) (series place : ℕ) (xs : List Unlisted) (a b : List Taken) → Takes held rows series place xs a → Takes held rows series place xs b → a ≡ b
+  takes_one : (held : Stores) (series place : ℕ) (xs : List Unlisted) (a b : List TakenFile) → Takes held rows series place xs a → Takes held rows series place xs b → a ≡ b
   takes_one held series place [] [] [] one two = refl
   takes_one held series place [] (x ∷ xs) b one two = elim one [ ]
   takes_one held series place [] [] (x ∷ xs) one two = elim two [ ]
   takes_one held series place (x ∷ xs) (t ∷ ts) (u ∷ us) (rule.takes {c = k} is one) (rule.takes {c = h} of two) =
-      ap (λ (k : Candidate). record { file = x.file; candidate = k } ∷ ts) (same_Some k h (sym is.found ∙ of.found)) ∙ ap (λ (l : List Taken). record { file = x.file; candidate = h } ∷ l) (takes_one held series place xs ts us one two)
+      ap (λ (k : Candidate). record { file = x.file; candidate = k } ∷ ts) (same_Some k h (sym is.found ∙ of.found)) ∙ ap (λ (l : List TakenFile). record { file = x.file; candidate = h } ∷ l) (takes_one held series place xs ts us one two)
   takes_one held series place (x ∷ xs) (t ∷ ts) b (rule.takes {c = k} is one) (rule.other none two) = absurd (none k is)
   takes_one held series place (x ∷ xs) a (u ∷ us) (rule.other none one) (rule.takes {c = h} of two) = absurd (none h of)
   takes_one held series place (x ∷ xs) a b (rule.other none one) (rule.other off two) = takes_one held series place xs a b one two
 
   -- these turns, from one on
-  abbrev pub AreFrom : Stores → List Unlisted → ℕ → List (List Taken) → Type 0
+  abbrev pub AreFrom : Stores → List Unlisted → ℕ → List (List TakenFile) → Type 0
   AreFrom held xs turn [] = Unit {0}
   AreFrom held xs turn (taken ∷ rest) = (g : Granularity) × Takes held rows (row_of turn) (place_of turn) xs taken × All (MayList g image rows (row_of turn) (place_of turn)) taken × AreFrom held xs (suc turn) rest
 
-  turns_add : (held : Stores) (xs : List Unlisted) (turn left : ℕ) (turns : List (List Taken)) (steps : List Step) → length turns ≡ left → AreFrom held xs turn turns → TakesTurns image held rows xs true turn left steps → AddUp (all_taken turns) (listed_in steps)
+  turns_add : (held : Stores) (xs : List Unlisted) (turn left : ℕ) (turns : List (List TakenFile)) (steps : List Step) → length turns ≡ left → AreFrom held xs turn turns → TakesTurns image held rows xs true turn left steps → AddUp (all_taken turns) (listed_in steps)
   turns_add held xs turn zero [] [] is from rule.done = add_none
   turns_add held xs turn zero [] [] is from (rule.stopped cut_off) = absurd (false≢true (sym cut_off))
   turns_add held xs turn zero [] (step ∷ steps) is from all = elim all [ ]
@@ -383,19 +383,19 @@ module _ (image : Files) (rows : List Row) where
   turns_add held xs turn (suc n) (t ∷ ts) [] is from (rule.stopped cut_off) = absurd (false≢true (sym cut_off))
   turns_add held xs turn (suc n) (t ∷ ts) steps is from (rule.nothing la rest) =
       let same = takes_one held (row_of turn) (place_of turn) xs la.taken t la.takes from.1 in
-      add_both t (all_taken ts) [] (listed_in steps) (add_turn from.0 (row_of turn) (place_of turn) t [] from.2 (subst (λ (l : List Taken). AllZip (IsListedAs image (row_of turn)) l []) same la.listed)) (turns_add held xs (suc turn) n ts steps (omega (arith, is)) from.3 rest)
+      add_both t (all_taken ts) [] (listed_in steps) (add_turn from.0 (row_of turn) (place_of turn) t [] from.2 (subst (λ (l : List TakenFile). AllZip (IsListedAs image (row_of turn)) l []) same la.listed)) (turns_add held xs (suc turn) n ts steps (omega (arith, is)) from.3 rest)
   turns_add held xs turn (suc n) (t ∷ ts) (step ∷ steps) is from (rule.lists {f = f} {files = files} la rest) =
       let same = takes_one held (row_of turn) (place_of turn) xs la.taken t la.takes from.1 in
-      add_both t (all_taken ts) (map (λ (f : Filed). (place_of turn + 1, f)) (f ∷ files)) (listed_in steps) (add_turn from.0 (row_of turn) (place_of turn) t (f ∷ files) from.2 (subst (λ (l : List Taken). AllZip (IsListedAs image (row_of turn)) l (f ∷ files)) same la.listed))
+      add_both t (all_taken ts) (map (λ (f : Filed). (place_of turn + 1, f)) (f ∷ files)) (listed_in steps) (add_turn from.0 (row_of turn) (place_of turn) t (f ∷ files) from.2 (subst (λ (l : List TakenFile). AllZip (IsListedAs image (row_of turn)) l (f ∷ files)) same la.listed))
       (turns_add held xs (suc turn) n ts steps (omega (arith, is)) from.3 rest)
 
 -- turns that are known one by one, one after another
-from_each : (image : Files) (rows : List Row) (held : Stores) (xs : List Unlisted) (k : ℕ) (turns : List (List Taken))
-    → ((j n : ℕ) (taken : List Taken) → n ≡ k + j → slice_get turns j ≡ Some taken → (g : Granularity) × Takes held rows (row_of n) (place_of n) xs taken × All (MayList g image rows (row_of n) (place_of n)) taken) → AreFrom image rows held xs k turns
+from_each : (image : Files) (rows : List Row) (held : Stores) (xs : List Unlisted) (k : ℕ) (turns : List (List TakenFile))
+    → ((j n : ℕ) (taken : List TakenFile) → n ≡ k + j → slice_get turns j ≡ Some taken → (g : Granularity) × Takes held rows (row_of n) (place_of n) xs taken × All (MayList g image rows (row_of n) (place_of n)) taken) → AreFrom image rows held xs k turns
 from_each image rows held xs k [] each = tt
 from_each image rows held xs k (t ∷ ts) each = let one = each 0 k t (omega arith) refl in (one.0, one.1, one.2, from_each image rows held xs (suc k) ts (λ j n taken is here. each (suc j) n taken (omega (arith, is)) here))
 
-pub from_turns : (image : Files) (rows : List Row) (held : Stores) (xs : List Unlisted) (gs : List Granularity) (turns : List (List Taken)) → length gs ≡ 3 → AreTurns held rows xs turns → AllMayList gs image rows turns → AreFrom image rows held xs 0 turns
+pub from_turns : (image : Files) (rows : List Row) (held : Stores) (xs : List Unlisted) (gs : List Granularity) (turns : List (List TakenFile)) → length gs ≡ 3 → AreTurns held rows xs turns → AllMayList gs image rows turns → AreFrom image rows held xs 0 turns
 from_turns image rows held xs gs turns three are may = from_each image rows held xs 0 turns (λ j n taken is here.
     let there = subst (λ (i : ℕ). slice_get turns i ≡ Some taken) (let h : j ≡ n = omega (arith, is) in h) here in
     let g = granularity_at gs (place_of n) (omega (arith, three)) in
@@ -424,16 +424,16 @@ lists_keep image held rows xs turn left [] (rule.stopped cut_off) s = refl
 lists_keep image held rows xs turn (suc left) steps (rule.nothing la rest) s = lists_keep image held rows xs (suc turn) left steps rest s
 lists_keep image held rows xs turn (suc left) (step ∷ steps) (rule.lists {f = f} {files = files} la rest) s = lists_keep image held rows xs (suc turn) left steps rest (stepped (Lists (place_of turn) (f ∷ files)) s)
 
-cut_low : (xs : List Taken) → cut_in xs ≤ length xs
+cut_low : (xs : List TakenFile) → cut_in xs ≤ length xs
 cut_low [] = omega arith
 cut_low (x ∷ xs) = go x.candidate.cut (cut_low xs)
   where
-    go : (b : Bool) → cut_in xs ≤ length xs → length (cond b (x ∷ filter (λ (t : Taken). t.candidate.cut) xs) (filter (λ (t : Taken). t.candidate.cut) xs)) ≤ suc (length xs)
+    go : (b : Bool) → cut_in xs ≤ length xs → length (cond b (x ∷ filter (λ (t : TakenFile). t.candidate.cut) xs) (filter (λ (t : TakenFile). t.candidate.cut) xs)) ≤ suc (length xs)
     go true low = omega (arith, low)
     go false low = omega (arith, low)
 
 -- the numbers that are told are those of all steps
-pub counts_are : (whole : Bool) (image : Files) (held : Stores) (xs : List Unlisted) (new_rows lists : List Step) (turns : List (List Taken)) (made : ℕ) (told : Adopted) → GetRows whole held.rows [] xs new_rows → AreFrom image (made_by new_rows held).rows held xs 0 turns
+pub counts_are : (whole : Bool) (image : Files) (held : Stores) (xs : List Unlisted) (new_rows lists : List Step) (turns : List (List TakenFile)) (made : ℕ) (told : Adopted) → GetRows whole held.rows [] xs new_rows → AreFrom image (made_by new_rows held).rows held xs 0 turns
     → TakesTurns image held (made_by new_rows held).rows xs true 0 (length turns) lists → AreNumbers made (length xs) (all_taken turns) told → made + length held.rows ≡ length (made_by new_rows held).rows → length (all_taken turns) ≤ length xs → length xs < 2 ^ 64
     → Counts image held (new_rows ++ lists) xs told
 counts_are whole image held xs new_rows lists turns made told rows_made from takes numbers added fewer fits =
@@ -454,7 +454,7 @@ counts_are whole image held xs new_rows lists turns made told rows_made from tak
     }
 
 -- so are those of what was found
-pub counted : (image first : Files) (before rows : List Row) (ms : List ManifestState) (held : Stores) (xs : List Unlisted) (turns : List (List Taken)) (new_rows lists : List Step) (n made : ℕ) (told : Adopted) → SameStores image first → length ms ≡ 3 → AreUnlistedOf first before ms xs
+pub counted : (image first : Files) (before rows : List Row) (ms : List ManifestState) (held : Stores) (xs : List Unlisted) (turns : List (List TakenFile)) (new_rows lists : List Step) (n made : ℕ) (told : Adopted) → SameStores image first → length ms ≡ 3 → AreUnlistedOf first before ms xs
     → AtEachTurn (λ turn taken. TakesOf ms rows turn xs taken) turns → AreTurns held rows xs turns → rows ≡ (made_by new_rows held).rows → GetRows true held.rows [] xs new_rows → n ≡ length turns → TakesTurns image held rows xs true 0 n lists → AreNumbers made (length xs) (all_taken turns) told
     → made + length held.rows ≡ length rows → length (all_taken turns) ≤ length xs → length xs < 2 ^ 64 → Counts image held (new_rows ++ lists) xs told
 counted image first before rows ms held xs turns new_rows lists n made told same three found takes are of_rows rows_made count listed numbers added fewer fits =
@@ -583,18 +583,18 @@ all_differ image rows ms xs three are =
 -- WHAT IS TAKEN
 
 -- no two of these files are one
-abbrev AreApart : List Taken → Type 0
+abbrev AreApart : List TakenFile → Type 0
 AreApart [] = Unit {0}
-AreApart (y ∷ ys) = AllByRecursion (λ (z : Taken). z.file ≢ y.file) ys × AreApart ys
+AreApart (y ∷ ys) = AllByRecursion (λ (z : TakenFile). z.file ≢ y.file) ys × AreApart ys
 
 module _ (ms : List ManifestState) (rows : List Row) (turn : ℕ) where
-  taken_all : (P : Name → Type 0) (xs : List Unlisted) (ys : List Taken) → TakesOf ms rows turn xs ys → AllByRecursion P (map file_in xs) → AllByRecursion (λ (z : Taken). P z.file) ys
+  taken_all : (P : Name → Type 0) (xs : List Unlisted) (ys : List TakenFile) → TakesOf ms rows turn xs ys → AllByRecursion P (map file_in xs) → AllByRecursion (λ (z : TakenFile). P z.file) ys
   taken_all P [] [] done all = tt
   taken_all P [] (y ∷ ys) of all = elim of [ ]
   taken_all P (x ∷ xs) (y ∷ ys) (takes_turn some of rest) all = (all.0, taken_all P xs ys rest all.1)
   taken_all P (x ∷ xs) ys (other_turn none rest) all = taken_all P xs ys rest all.1
 
-  taken_apart : (xs : List Unlisted) (ys : List Taken) → TakesOf ms rows turn xs ys → Differ (map file_in xs) → AreApart ys
+  taken_apart : (xs : List Unlisted) (ys : List TakenFile) → TakesOf ms rows turn xs ys → Differ (map file_in xs) → AreApart ys
   taken_apart [] [] done differ = tt
   taken_apart [] (y ∷ ys) of differ = elim of [ ]
   taken_apart (x ∷ xs) (y ∷ ys) (takes_turn some of rest) differ = (taken_all (λ (n : Name). n ≢ x.file) xs ys rest differ.0, taken_apart xs ys rest differ.1)
@@ -602,15 +602,15 @@ module _ (ms : List ManifestState) (rows : List Row) (turn : ℕ) where
 
 -- THEIR PARTITIONS
 
-abbrev begins_in : Taken → ℕ
+abbrev begins_in : TakenFile → ℕ
 begins_in y = quarter y.candidate.part
 
 module _ (g : Granularity) (image : Files) (rows : List Row) (series place : ℕ) (coarse : g ≢ FiveMinutes) where
-  abbrev May : Taken → Type 0
+  abbrev May : TakenFile → Type 0
   May y = MayList g image rows series place y
 
   -- of one partition a row has one file
-  one_file : (y z : Taken) → May y → May z → begins_in y ≡ begins_in z → z.file ≡ y.file
+  one_file : (y z : TakenFile) → May y → May z → begins_in y ≡ begins_in z → z.file ≡ y.file
   one_file y z a b same =
       let part : z.candidate.part ≡ y.candidate.part = one_quarter g z.candidate.part y.candidate.part coarse b.is.unit a.is.unit (sym same) in
       let row : b.row ≡ a.row = same_Some b.row a.row (sym b.stands ∙ a.stands) in
@@ -619,23 +619,23 @@ module _ (g : Granularity) (image : Files) (rows : List Row) (series place : ℕ
       let store : z.file.0 ≡ y.file.0 = b.store ∙ sym a.store in
       λ i. (store i, path i)
 
-  differs : (y z : Taken) → May y → May z → z.file ≢ y.file → eqb (begins_in y) (begins_in z) ≡ false
+  differs : (y z : TakenFile) → May y → May z → z.file ≢ y.file → eqb (begins_in y) (begins_in z) ≡ false
   differs y z a b apart = go (eqb (begins_in y) (begins_in z)) refl
     where
       go : (t : Bool) → eqb (begins_in y) (begins_in z) ≡ t → t ≡ false
       go true is = absurd (apart (one_file y z a b ((Decides-eqb (begins_in y) (begins_in z)).0 is)))
       go false is = refl
 
-  distinct : (ys : List Taken) → All May ys → AreApart ys → IsDistinct eqb (map begins_in ys)
+  distinct : (ys : List TakenFile) → All May ys → AreApart ys → IsDistinct eqb (map begins_in ys)
   unfolding IsDistinct
   distinct [] may apart = tt
   distinct (y ∷ ys) may apart = (behind ys (All-tail May y ys may) apart.0, distinct ys (All-tail May y ys may) apart.1)
     where
-      behind : (zs : List Taken) → All May zs → AllByRecursion (λ (z : Taken). z.file ≢ y.file) zs → AllByRecursion (λ (q : ℕ). eqb (begins_in y) q ≡ false) (map begins_in zs)
+      behind : (zs : List TakenFile) → All May zs → AllByRecursion (λ (z : TakenFile). z.file ≢ y.file) zs → AllByRecursion (λ (q : ℕ). eqb (begins_in y) q ≡ false) (map begins_in zs)
       behind [] all others = tt
       behind (z ∷ zs) all others = (differs y z (All-head May y ys may) (All-head May z zs all) others.0, behind zs (All-tail May z zs all) others.1)
 
-  low_each : (ys : List Taken) → All May ys → (q : ℕ) → list_any (eqb q) (map begins_in ys) ≡ true → q < 18_583_584
+  low_each : (ys : List TakenFile) → All May ys → (q : ℕ) → list_any (eqb q) (map begins_in ys) ≡ true → q < 18_583_584
   low_each [] may q is = absurd (cc (is))
   low_each (y ∷ ys) may q is = go (eqb q (begins_in y)) refl (low_each ys (All-tail May y ys may) q) is
     where
@@ -646,12 +646,12 @@ module _ (g : Granularity) (image : Files) (rows : List Row) (series place : ℕ
           omega (arith, here, low)
       go false differ behind any = behind any
 
-  few : (ys : List Taken) → All May ys → AreApart ys → length ys ≤ 18_600_000
+  few : (ys : List TakenFile) → All May ys → AreApart ys → length ys ≤ 18_600_000
   few ys may apart =
       let most = length-le_from_distinct_below (map begins_in ys) 18_583_584 (distinct ys may apart) (low_each ys may) in
       omega (arith, most, length-map ys begins_in)
 
-pub turns_few : (image : Files) (before rows : List Row) (ms : List ManifestState) (xs : List Unlisted) (turns : List (List Taken)) → length ms ≡ 3 → AreCoarse (granularities ms) → AreUnlistedOf image before ms xs
+pub turns_few : (image : Files) (before rows : List Row) (ms : List ManifestState) (xs : List Unlisted) (turns : List (List TakenFile)) → length ms ≡ 3 → AreCoarse (granularities ms) → AreUnlistedOf image before ms xs
     → AtEachTurn (λ turn taken. TakesOf ms rows turn xs taken) turns → AreFew turns
 turns_few image before rows ms xs turns three coarse are all turn taken here =
     let m = manifest_at ms (place_of turn) (omega (arith, three)) in

@@ -20,7 +20,7 @@ use Rattle.store_reopen.specs.OneJournal.{NoneOpened, IsGate, IsBadFile}
 use Rattle.std.proofs.lemmas.Option.{same_Some, none-some, slice_get_cases, slice_get_within}
 use Rattle.gate_journal.specs.Batches.{HasBatches, IsBadJournal, IsShort, open_gates, framed_bytes}
 use Rattle.disk_model.proofs.Passing.{passes_weaker, passes_then}
-use Rattle.store_reopen.specs.Loading.{Catalogue, Manifest, granularity_at, StillSay, KeepsSaid, Journal, Value, Means, KeepsJournal, name_of}
+use Rattle.store_reopen.specs.Loading.{Catalogue, Manifest, granularity_at, StillSay, KeepsSaid, WhichJournal, Value, Means, KeepsJournal, name_of}
 use Rattle.gate_journal.specs.Journal.{JournalState, IsSettledWith}
 use Rattle.pv_catalog.proofs.Meaning.{one_meaning}
 use Rattle.std.specs.Int.{to_le_bytes, w32}
@@ -51,7 +51,7 @@ use Rattle.tier_store.proofs.Places.{within_three, granularity_at as granularity
 use Rattle.store_reopen.specs.Verdict.{AreSaid, IsThere, Listings, HasRow}
 use Rattle.store_reopen.specs.Reopen.{IsReady, IsUnopened, OpensEither, HoldsEither, AllIn, StillHolds, Reopens, stores_of, lists_of, entries_in, SameStores}
 use Rattle.gate_journal.specs.Kept as in_journal
-use Rattle.gate_journal.specs.Standing.{Standing, standing}
+use Rattle.gate_journal.specs.DiskShown.{DiskShown, shown_by}
 
 -- One journal: what it says goes on through loads and reads, and where it is bad.
 
@@ -66,14 +66,14 @@ journals_differ store is = let first : get_or catalogue_name.1 0 0 ≡ get_or (m
 -- ONE CALL AFTER ANOTHER
 
 -- what is kept of a journal stays while calls only read
-pub kept_reads : {A : Type 0} (Means : List (List ℕ) → A → Type 0) (journal : JournalState) (old new : Standing) (value : A) → IsJournalKept Means journal old value → new.files ≡ old.files → Passes (λ a b. b ≡ a) old.past new.past → new.opened ≡ old.opened
+pub kept_reads : {A : Type 0} (Means : List (List ℕ) → A → Type 0) (journal : JournalState) (old new : DiskShown) (value : A) → IsJournalKept Means journal old value → new.files ≡ old.files → Passes (λ a b. b ≡ a) old.past new.past → new.opened ≡ old.opened
     → IsJournalKept Means journal new value
 kept_reads {A} Means journal old new value kept same passes opened_same =
     kept_stays Means journal old new (λ a b. b ≡ a) passes (λ a c is n own. ap (λ (f : Files). f n) is) (λ n own. ap (λ (f : Files). f n) same)
     (λ n own. let fewer : new.opened n ≡ old.opened n = ap (λ (o : Name → ℕ). o n) opened_same in omega (arith, fewer)) value kept
 
 -- the catalogue stays while a manifest is loaded
-pub catalogue_stays : (store : ℕ) (R : Files → Files → Type 0) (journal : JournalState) (old new : Standing) (rows : List Row) → journal.name ≡ catalogue_name → IsJournalKept IsCatalogue journal old rows
+pub catalogue_stays : (store : ℕ) (R : Files → Files → Type 0) (journal : JournalState) (old new : DiskShown) (rows : List Row) → journal.name ≡ catalogue_name → IsJournalKept IsCatalogue journal old rows
     → ((n : Name) → (IsOwn (manifest_name store) n → ⊥) → new.files n ≡ old.files n) → Passes (AtOwn (manifest_name store) R) old.past new.past → ((n : Name) → (IsOwn (manifest_name store) n → ⊥) → new.opened n ≡ old.opened n) → IsJournalKept IsCatalogue journal new rows
 catalogue_stays store R journal old new rows named kept others passes others_opened =
     kept_stays IsCatalogue journal old new (AtOwn (manifest_name store) R) passes (λ a c step n own. step.elsewhere n (apart n own)) (λ n own. others n (apart n own))
@@ -107,7 +107,7 @@ says_before g h name old new entries (inr begun) says =
 -- A JOURNAL THAT IS LOADED ONCE MORE
 
 -- what its load keeps
-pub record LoadsAgain (name : Name) (old new : Standing) : Type 0 where
+pub record LoadsAgain (name : Name) (old new : DiskShown) : Type 0 where
   pub kept : AtOwn name (KeepsBatches name) old.files new.files
   pub passes : Passes (AtOwn name (KeepsBatches name)) old.past new.past
   pub others : (n : Name) → (IsOwn name n → ⊥) → new.opened n ≡ old.opened n
@@ -134,7 +134,7 @@ pub gates_more : (bs : List (List ℕ)) (i : ℕ) (b : List ℕ) → slice_get b
 gates_more bs i b here = rw add-one (gates_more_at bs i b here)
 
 -- the file of a settled journal's current generation, where its load has kept the batches
-pub settled_file_of : (journal : JournalState) (name : Name) (old : Files) (new : Standing) (bs cs : List (List ℕ)) → journal.name ≡ name → IsSettledWith journal new cs → KeepsBatches name old new.files
+pub settled_file_of : (journal : JournalState) (name : Name) (old : Files) (new : DiskShown) (bs cs : List (List ℕ)) → journal.name ≡ name → IsSettledWith journal new cs → KeepsBatches name old new.files
     → (has : HasBatchesOf name old bs) → journal.current.name ≡ generation_name name has.generation
 settled_file_of journal name old new bs cs named settled keeps has =
     let at_is : journal.at.name ≡ at_name name = settled.named.at ∙ ap at_name named in
@@ -215,7 +215,7 @@ is_at gs i g here = ap (λ (o : Option Granularity). unwrap_or o Hour) here
 pub one_store : (s t : ℕ) → manifest_name s ≡ manifest_name t → s ≡ t
 one_store s t is = let digit : 48 + s ≡ 48 + t = ap (λ (n : Name). get_or n.1 8 0) is in omega (arith, digit)
 
-pub journal_cases : (i j : Journal) → (i ≡ j) ⊎ (i ≢ j)
+pub journal_cases : (i j : WhichJournal) → (i ≡ j) ⊎ (i ≢ j)
 journal_cases Catalogue Catalogue = inl refl
 journal_cases Catalogue (Manifest t) = inr (λ is. journals_differ (t + 1) (ap name_of is))
 journal_cases (Manifest s) Catalogue = inr (λ is. journals_differ (s + 1) (sym (ap name_of is)))
@@ -224,18 +224,18 @@ journal_cases (Manifest s) (Manifest t) = elim (cases_eq s t) [
   | inr apart ↦ inr (λ is. let same = one_store (s + 1) (t + 1) (ap name_of is) in apart (omega (arith, same)))
 ]
 
-pub journals_apart : (i j : Journal) → i ≢ j → (n : Name) → IsOwn (name_of i) n → IsOwn (name_of j) n → ⊥
+pub journals_apart : (i j : WhichJournal) → i ≢ j → (n : Name) → IsOwn (name_of i) n → IsOwn (name_of j) n → ⊥
 journals_apart Catalogue Catalogue apart n own too = apart refl
 journals_apart Catalogue (Manifest t) apart n own too = other_journal (t + 1) n own too
 journals_apart (Manifest s) Catalogue apart n own too = other_journal (s + 1) n too own
 journals_apart (Manifest s) (Manifest t) apart n own too = manifests_differ (s + 1) (t + 1) (λ is. let same : s ≡ t = omega (arith, is) in apart (ap (λ (k : ℕ). Manifest k) same)) n own too
 
-pub of_zero : (j : Journal) → (name_of j).0 ≡ 0
+pub of_zero : (j : WhichJournal) → (name_of j).0 ≡ 0
 of_zero Catalogue = refl
 of_zero (Manifest i) = refl
 
 -- a name of another store is no journal's
-pub no_journal : (n : Name) (j : Journal) → n.0 ≢ 0 → IsOwn (name_of j) n → ⊥
+pub no_journal : (n : Name) (j : WhichJournal) → n.0 ≢ 0 → IsOwn (name_of j) n → ⊥
 no_journal n j other own = other (own_store (name_of j) n own ∙ of_zero j)
 
 -- ONE CALL AFTER ANOTHER
@@ -258,21 +258,21 @@ begins_then g name a b c (inl one) (inr two) = inr ((one.batches []).1 two.0, tw
 begins_then g name a b c (inr one) two = inr (one.0, (begins_says g name b c two []).0 one.1)
 
 -- where its files are as they were
-pub journal_none : (gs : List Granularity) (j : Journal) (a c : Files) → ((n : Name) → IsOwn (name_of j) n → c n ≡ a n) → KeepsJournal gs j a c
+pub journal_none : (gs : List Granularity) (j : WhichJournal) (a c : Files) → ((n : Name) → IsOwn (name_of j) n → c n ≡ a n) → KeepsJournal gs j a c
 journal_none gs Catalogue a c same = keeps_none catalogue_name a c same
 journal_none gs (Manifest i) a c same = inl (keeps_none (manifest_name (i + 1)) a c same)
 
-pub journal_then : (gs : List Granularity) (j : Journal) (a b c : Files) → KeepsJournal gs j a b → KeepsJournal gs j b c → KeepsJournal gs j a c
+pub journal_then : (gs : List Granularity) (j : WhichJournal) (a b c : Files) → KeepsJournal gs j a b → KeepsJournal gs j b c → KeepsJournal gs j a c
 journal_then gs Catalogue a b c one two = keeps_then catalogue_name a b c one two
 journal_then gs (Manifest i) a b c one two = begins_then (granularity_at gs i) (manifest_name (i + 1)) a b c one two
 
 -- it says what it said
-pub journal_says : (gs : List Granularity) (j : Journal) (a c : Files) → KeepsJournal gs j a c → StillSays (Means gs j) (name_of j) a c
+pub journal_says : (gs : List Granularity) (j : WhichJournal) (a c : Files) → KeepsJournal gs j a c → StillSays (Means gs j) (name_of j) a c
 journal_says gs Catalogue a c keeps = keeps_says IsCatalogue catalogue_name a c keeps
 journal_says gs (Manifest i) a c keeps = begins_says (granularity_at gs i) (manifest_name (i + 1)) a c keeps
 
 -- and nothing more, whatever the granularities are
-pub no_more : (gs hs : List Granularity) (j : Journal) (a c : Files) (value : Value j) → KeepsJournal gs j a c → Says (Means hs j) value (name_of j) c → Says (Means hs j) value (name_of j) a
+pub no_more : (gs hs : List Granularity) (j : WhichJournal) (a c : Files) (value : Value j) → KeepsJournal gs j a c → Says (Means hs j) value (name_of j) c → Says (Means hs j) value (name_of j) a
 no_more gs hs Catalogue a c value keeps says = (keeps_says IsCatalogue catalogue_name a c keeps value).1 says
 no_more gs hs (Manifest i) a c value keeps says = says_before (granularity_at gs i) (granularity_at hs i) (manifest_name (i + 1)) a c value keeps says
 
@@ -286,7 +286,7 @@ still_then gs a b c one two = record {
   others = λ n apart. two.others n apart ∙ one.others n apart;
 }
 
-pub kept_then : (gs : List Granularity) (f₀ f₁ f₂ : Standing) → KeepsSaid gs f₀ f₁ → KeepsSaid gs f₁ f₂ → KeepsSaid gs f₀ f₂
+pub kept_then : (gs : List Granularity) (f₀ f₁ f₂ : DiskShown) → KeepsSaid gs f₀ f₁ → KeepsSaid gs f₁ f₂ → KeepsSaid gs f₀ f₂
 kept_then gs f₀ f₁ f₂ one two = record {
   passes = passes_then (StillSay gs) (StillSay gs) f₀.past f₁.past f₂.past one.passes two.passes (λ a b c was before now step. still_then gs a b c before step);
   now = still_then gs f₀.files f₁.files f₂.files one.now two.now;
@@ -295,7 +295,7 @@ kept_then gs f₀ f₁ f₂ one two = record {
 }
 
 -- calls that only read
-pub kept_reading : (gs : List Granularity) (old new : Standing) → new.files ≡ old.files → Passes (λ a b. b ≡ a) old.past new.past → new.opened ≡ old.opened → KeepsSaid gs old new
+pub kept_reading : (gs : List Granularity) (old new : DiskShown) → new.files ≡ old.files → Passes (λ a b. b ≡ a) old.past new.past → new.opened ≡ old.opened → KeepsSaid gs old new
 kept_reading gs old new same passes opened_same = record {
   passes = passes_weaker (λ a b. b ≡ a) (StillSay gs) old.past new.past passes (λ a c was is. subst (StillSay gs a) (sym is) (still_none gs a));
   now = subst (StillSay gs old.files) (sym same) (still_none gs old.files);
@@ -304,11 +304,11 @@ kept_reading gs old new same passes opened_same = record {
 }
 
 -- no call at all
-pub kept_same : (gs : List Granularity) (disk : Standing) → Passes (λ a b. b ≡ a) disk.past disk.past → KeepsSaid gs disk disk
+pub kept_same : (gs : List Granularity) (disk : DiskShown) → Passes (λ a b. b ≡ a) disk.past disk.past → KeepsSaid gs disk disk
 kept_same gs disk passes = kept_reading gs disk disk refl passes refl
 
 -- what is kept of a manifest stays while that of another store is loaded
-pub manifest_stays : (store : ℕ) (R : Files → Files → Type 0) (other : ℕ) (m : ManifestState) (old new : Standing) → m.journal.name ≡ manifest_name other → other ≢ store → IsKept m old
+pub manifest_stays : (store : ℕ) (R : Files → Files → Type 0) (other : ℕ) (m : ManifestState) (old new : DiskShown) → m.journal.name ≡ manifest_name other → other ≢ store → IsKept m old
     → ((n : Name) → (IsOwn (manifest_name store) n → ⊥) → new.files n ≡ old.files n) → Passes (AtOwn (manifest_name store) R) old.past new.past → ((n : Name) → (IsOwn (manifest_name store) n → ⊥) → new.opened n ≡ old.opened n) → IsKept m new
 manifest_stays store R other m old new named distinct kept others passes others_opened =
     kept_stays (Configured m.granularity) m.journal old new (AtOwn (manifest_name store) R) passes (λ a c step n own. step.elsewhere n (apart n own)) (λ n own. others n (apart n own))
@@ -320,13 +320,13 @@ manifest_stays store R other m old new named distinct kept others passes others_
 -- ONE JOURNAL IS LOADED
 
 -- it keeps its batches, and every name that isn't one of its files is as it was
-record LoadsOne (gs : List Granularity) (j : Journal) (old new : Standing) : Type 0 where
+record LoadsOne (gs : List Granularity) (j : WhichJournal) (old new : DiskShown) : Type 0 where
   passes : Passes (AtOwn (name_of j) (KeepsJournal gs j)) old.past new.past
   kept : AtOwn (name_of j) (KeepsJournal gs j) old.files new.files
   others_opened : (n : Name) → (IsOwn (name_of j) n → ⊥) → new.opened n ≡ old.opened n
   is : NoneOpened (name_of j) new.opened
 
-kept_load : (gs : List Granularity) (j : Journal) (old new : Standing) → LoadsOne gs j old new → KeepsSaid gs old new
+kept_load : (gs : List Granularity) (j : WhichJournal) (old new : DiskShown) → LoadsOne gs j old new → KeepsSaid gs old new
 kept_load gs j old new load = record {
   passes = passes_weaker (AtOwn (name_of j) (KeepsJournal gs j)) (StillSay gs) old.past new.past load.passes (λ a c left step. still a c step);
   now = still old.files new.files load.kept;
@@ -334,8 +334,8 @@ kept_load gs j old new load = record {
   none_opened = λ i. unopened i (journal_cases i j);
 }
   where
-    journal : (i : Journal) (a c : Files) → AtOwn (name_of j) (KeepsJournal gs j) a c → (i ≡ j) ⊎ (i ≢ j) → KeepsJournal gs i a c
-    journal i a c step (inl is) = subst (λ (k : Journal). KeepsJournal gs k a c) (sym is) step.here
+    journal : (i : WhichJournal) (a c : Files) → AtOwn (name_of j) (KeepsJournal gs j) a c → (i ≡ j) ⊎ (i ≢ j) → KeepsJournal gs i a c
+    journal i a c step (inl is) = subst (λ (k : WhichJournal). KeepsJournal gs k a c) (sym is) step.here
     journal i a c step (inr apart) = journal_none gs i a c (λ n own. step.elsewhere n (journals_apart i j apart n own))
 
     still : (a c : Files) → AtOwn (name_of j) (KeepsJournal gs j) a c → StillSay gs a c
@@ -345,11 +345,11 @@ kept_load gs j old new load = record {
       others = λ n apart. step.elsewhere n (apart j);
     }
 
-    unopened : (i : Journal) → (i ≡ j) ⊎ (i ≢ j) → NoneOpened (name_of i) old.opened → NoneOpened (name_of i) new.opened
-    unopened i (inl is) none = subst (λ (k : Journal). NoneOpened (name_of k) new.opened) (sym is) load.is
+    unopened : (i : WhichJournal) → (i ≡ j) ⊎ (i ≢ j) → NoneOpened (name_of i) old.opened → NoneOpened (name_of i) new.opened
+    unopened i (inl is) none = subst (λ (k : WhichJournal). NoneOpened (name_of k) new.opened) (sym is) load.is
     unopened i (inr apart) none = λ n own. load.others_opened n (journals_apart i j apart n own) ∙ none n own
 
-module _ (gs : List Granularity) (old new : Standing) where
+module _ (gs : List Granularity) (old new : DiskShown) where
   -- the catalogue alone
   pub kept_rows : Passes (AtOwn catalogue_name (KeepsBatches catalogue_name)) old.past new.past → AtOwn catalogue_name (KeepsBatches catalogue_name) old.files new.files → ((n : Name) → (IsOwn catalogue_name n → ⊥) → new.opened n ≡ old.opened n) → NoneOpened catalogue_name new.opened → KeepsSaid gs old new
   kept_rows passes kept others_opened is = kept_load gs Catalogue old new (record { passes = passes; kept = kept; others_opened = others_opened; is = is })
@@ -655,7 +655,7 @@ only_at g (suc zero) low = refl
 only_at g (suc (suc zero)) low = refl
 only_at g (suc (suc (suc i))) low = absurd (omega (arith, low))
 
-pub still_unopened : (gs : List Granularity) (old new : Standing) → KeepsSaid gs old new → IsUnopened old.files old.opened → IsUnopened new.files new.opened
+pub still_unopened : (gs : List Granularity) (old new : DiskShown) → KeepsSaid gs old new → IsUnopened old.files old.opened → IsUnopened new.files new.opened
 still_unopened gs old new keeps unopened = record {
   catalogue = keeps.none_opened Catalogue unopened.catalogue;
   manifests = λ i low. keeps.none_opened (Manifest i) (unopened.manifests i low);
@@ -665,7 +665,7 @@ still_unopened gs old new keeps unopened = record {
       unopened_later i rows entries old.opened new.opened keeps.same_opened (unopened.listed rows (no_more gs gs Catalogue old.files new.files rows (keeps.now.journals Catalogue) rows_said) i low g entries was);
 }
 
-pub loaded_again : (gs : List Granularity) (s : Seen) (old : Standing) → length gs ≡ 3 → KeepsSaid gs old (on_disk s) → IsUnopened old.files old.opened → IsReady gs s.catalogue s.manifests → IsStored s.catalogue (on_disk s)
+pub loaded_again : (gs : List Granularity) (s : Seen) (old : DiskShown) → length gs ≡ 3 → KeepsSaid gs old (on_disk s) → IsUnopened old.files old.opened → IsReady gs s.catalogue s.manifests → IsStored s.catalogue (on_disk s)
     → AtEach s.manifests (λ i m. IsKept m (on_disk s)) → s.catalogue.journal.name ≡ catalogue_name → AtEach s.manifests (λ i m. m.journal.name ≡ manifest_name (i + 1)) → AreSaid gs old.files s.catalogue.rows (lists_of s.manifests)
     → AtEach s.manifests (λ i m. All (IsThere i old.files s.catalogue.rows) m.entries) → IsLoaded s
 loaded_again gs s old three keeps unopened ready stored kept named named_manifests said there = record {
@@ -681,14 +681,14 @@ loaded_again gs s old three keeps unopened ready stored kept named named_manifes
 }
 
 pub reopened : {D R : Type 0} (disk : Ghosts D R) (gs : List Granularity) (old new : D) → IsUnopened (disk.files old) (disk.opened old)
-    → KeepsSaid gs (standing disk old) (standing disk new) → Reopens disk gs old new
+    → KeepsSaid gs (shown_by disk old) (shown_by disk new) → Reopens disk gs old new
 reopened {D} {R} disk gs old new unopened keeps = record {
   any_moment = still_holds gs (disk.past old) (disk.past new) keeps.passes;
   either = λ before after opens. still_either gs (disk.past old) (disk.past new) before after opens keeps.passes;
   opens = λ before after opens. opens_again gs (disk.past old) (disk.past new) before after keeps.passes opens;
   elsewhere = keeps.now.elsewhere;
   stores = passes_weaker (StillSay gs) SameStores (disk.past old) (disk.past new) keeps.passes (λ a c left step. step.elsewhere);
-  unopened = still_unopened gs (standing disk old) (standing disk new) keeps unopened;
+  unopened = still_unopened gs (shown_by disk old) (shown_by disk new) keeps unopened;
 }
 
 -- the settings

@@ -22,7 +22,7 @@ use Rattle.std.proofs.lemmas.Bool.{cases_lt}
 use Rattle.store_reopen.specs.Loading.{StillSay, Catalogue, Manifest, KeepsSaid, name_of}
 use Rattle.pv_catalog.specs.declared.row.Row.{Row}
 use Rattle.gate_journal.specs.Journal.{JournalState}
-use Rattle.gate_journal.specs.Standing.{standing}
+use Rattle.gate_journal.specs.DiskShown.{shown_by}
 use Rattle.gate_journal.proofs.Keeping.{says_stays}
 use Rattle.pv_catalog.specs.Rows.{IsCatalogue}
 use Rattle.store_files.specs.Fronts.{Begins}
@@ -174,12 +174,12 @@ module _ (Step : Files → Files → Type 0) (Spared : Name → Type 0) (kept : 
           let left = leaves told in
           record {
             rows =
-                catalogue_stays Step catalogue.journal (standing disk old) (standing disk new) left.any_moment (untouched left catalogue.journal catalogue_name stored.rows.named own_rows) held.rows stored.rows;
+                catalogue_stays Step catalogue.journal (shown_by disk old) (shown_by disk new) left.any_moment (untouched left catalogue.journal catalogue_name stored.rows.named own_rows) held.rows stored.rows;
             each = λ k m here.
                 let own = stored.each k m here in
                 let files = spared k m here in
-                tier_stays Step m.journal (standing disk old) (standing disk new) left.any_moment (untouched left m.journal (manifest_name (k + 1)) own.named (own_lists (k + 1))) m.granularity (tier k held) own
-                (safe_stays (tier k held) Step (standing disk old) (standing disk new) own.safe left.any_moment (λ a c step. in_spared (tier k held) a c files step)
+                tier_stays Step m.journal (shown_by disk old) (shown_by disk new) left.any_moment (untouched left m.journal (manifest_name (k + 1)) own.named (own_lists (k + 1))) m.granularity (tier k held) own
+                (safe_stays (tier k held) Step (shown_by disk old) (shown_by disk new) own.safe left.any_moment (λ a c step. in_spared (tier k held) a c files step)
                 (long_spared (tier k held) (disk.files old) (disk.files new) files left.now own.safe.long) left.fewer);
           };
     }
@@ -397,7 +397,7 @@ module _ {D R : Type 0} (disk : Ghosts D R) (gs : List Granularity) where
   )
 
   -- a load of the journals
-  pub site_loaded : (old new : D) → KeepsSaid gs (standing disk old) (standing disk new) → LeavesSite disk gs old new
+  pub site_loaded : (old new : D) → KeepsSaid gs (shown_by disk old) (shown_by disk new) → LeavesSite disk gs old new
   site_loaded old new keeps =
       (still_kept gs (disk.files old) (disk.files new) keeps.now, passes_weaker (StillSay gs) (KeepsSite gs) (disk.past old) (disk.past new) keeps.passes (λ a c left step. still_kept gs a c step))
 

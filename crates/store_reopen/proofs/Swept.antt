@@ -14,7 +14,7 @@ use Rattle.disk_model.specs.Past.{Passes, MayLeave}
 use Rattle.disk_model.specs.declared.disk.Disk.{Ghosts}
 use Rattle.disk_model.proofs.Passing.{passes_weaker, passes_then}
 use Rattle.gate_journal.specs.Generations.{IsOwn, AtOwn}
-use Rattle.gate_journal.specs.Standing.{standing}
+use Rattle.gate_journal.specs.DiskShown.{shown_by}
 use Rattle.pv_catalog.specs.Catalogue.{CatalogueState, catalogue_name, Refuses, registered, IsStored}
 use Rattle.tier_store.specs.Seen.{Seen, granularities, AtEach, on_disk}
 use Rattle.tier_store.proofs.Places.{within_three, manifest_at, holding, same_granularities, set_cases, tier_set, tier_other, manifest_of}
@@ -45,7 +45,7 @@ use Rattle.durable_write.proofs.Places.{all_put, all_put_all, rise_put_all}
 use Rattle.durable_write.proofs.Staying.{safe_both, same_cases}
 use Rattle.tier_store.specs.Moving.{of_files}
 use Rattle.store_reopen.specs.Marking.{LeavesOthers, Marks}
-use Rattle.store_reopen.specs.Loading.{Journal, name_of, KeepsSaid, StillSay}
+use Rattle.store_reopen.specs.Loading.{WhichJournal, name_of, KeepsSaid, StillSay}
 use Rattle.store_reopen.proofs.Marking.{leaves_by, leaves_none, leaves_read, leaves_then, AreSpared, has_spared, holds_spared}
 use Rattle.pv_catalog.specs.declared.error.RegisterErr.TheVariants as of_register
 use Rattle.gate_journal.proofs.Keeping.{kept_unopened, unsure_unopened}
@@ -96,7 +96,7 @@ module _ {D R : Type 0} (disk : Ghosts D R) where
   spares_then old mid new one two = leaves_then disk OnlyJournals (λ a b c first second n other. second n other ∙ first n other) old mid new one two
 
   -- what changes one journal's files
-  pub own_spares : (R : Files → Files → Type 0) (name : Name) (j : Journal) → name ≡ name_of j → (old new : D) → Passes (AtOwn name R) (disk.past old) (disk.past new) → ((n : Name) → (IsOwn name n → ⊥) → disk.files new n ≡ disk.files old n)
+  pub own_spares : (R : Files → Files → Type 0) (name : Name) (j : WhichJournal) → name ≡ name_of j → (old new : D) → Passes (AtOwn name R) (disk.past old) (disk.past new) → ((n : Name) → (IsOwn name n → ⊥) → disk.files new n ≡ disk.files old n)
       → ((n : Name) → disk.opened new n ≤ disk.opened old n) → ChangesJournals disk old new
   own_spares R name j is old new passes elsewhere fewer = record {
     any_moment = passes_weaker (AtOwn name R) OnlyJournals (disk.past old) (disk.past new) passes (λ a c left step n apart. step.elsewhere n (none n apart));
@@ -462,7 +462,7 @@ module _ (gs : List Granularity) (files : Files) (catalogue : CatalogueState) (m
 -- THE WHOLE OPENING
 
 module _ {D R : Type 0} (disk : Ghosts D R) (gs : List Granularity) (old mid new : D) (catalogue : CatalogueState) (ms : List ManifestState) (three : length gs ≡ 3) (same : granularities ms ≡ gs) (three_manifests : length ms ≡ 3) (told : IsTrue disk.tells)
-    (unopened : IsUnopened (disk.files old) (disk.opened old)) (keeps : KeepsSaid gs (standing disk old) (standing disk mid))
+    (unopened : IsUnopened (disk.files old) (disk.opened old)) (keeps : KeepsSaid gs (shown_by disk old) (shown_by disk mid))
     (removes : Removes disk (Goes catalogue ms) mid new) (some : Stores) (has : Has disk.tells (loaded disk catalogue ms mid) some)
     (whole : IsWhole gs (disk.files old)) (of_rows : whole.rows ≡ catalogue.rows) (of_lists : whole.lists ≡ lists_of ms)
     (read : (before after : Stores) → OpensEither gs (disk.past old) before after → HasLoaded disk gs old catalogue ms mid before after) (seen : MayLeave (disk.past new) (disk.files new)) where
@@ -535,7 +535,7 @@ sweeps_or_none {D} {R} disk gs old mid new false left reopens swept = swept refl
 -- A LOAD BEHIND A CALL THAT ONLY READ
 
 pub read_reopens : {D R : Type 0} (disk : Ghosts D R) (gs : List Granularity) (old now : D) → IsUnopened (disk.files old) (disk.opened old) → disk.files now ≡ disk.files old → Passes (λ a b. b ≡ a) (disk.past old) (disk.past now) → disk.opened now ≡ disk.opened old → Reopens disk gs old now
-read_reopens {D} {R} disk gs old now unopened same passes opened = reopened disk gs old now unopened (kept_reading gs (standing disk old) (standing disk now) same passes opened)
+read_reopens {D} {R} disk gs old now unopened same passes opened = reopened disk gs old now unopened (kept_reading gs (shown_by disk old) (shown_by disk now) same passes opened)
 
 pub loaded_behind : {D R : Type 0} (disk : Ghosts D R) (gs : List Granularity) (old now new : D) (catalogue : CatalogueState) (ms : List ManifestState) (before after : Stores) → disk.files now ≡ disk.files old → HasLoaded disk gs now catalogue ms new before after → HasLoaded disk gs old catalogue ms new before after
 loaded_behind {D} {R} disk gs old now new catalogue ms before after same loaded = record { held = loaded.held; either = loaded.either; read = subst (λ (f : Files). HoldsAll gs f loaded.held) same loaded.read; has = loaded.has }
@@ -559,8 +559,8 @@ sweeps_behind {D} {R} disk gs old now new reopens same sweeps = record {
 -- A LOAD, AND A SWEEP BEHIND IT
 
 module _ {D R : Type 0} (disk : Ghosts D R) (gs : List Granularity) (old mid new : D) (catalogue : CatalogueState) (ms : List ManifestState) (three : length gs ≡ 3) (ready : IsReady gs catalogue ms)
-    (unopened : IsTrue disk.tells → IsUnopened (disk.files old) (disk.opened old)) (keeps : IsTrue disk.tells → KeepsSaid gs (standing disk old) (standing disk mid))
-    (stored : IsTrue disk.tells → IsStored catalogue (standing disk mid)) (kept : IsTrue disk.tells → AtEach ms (λ i m. IsKept m (standing disk mid)))
+    (unopened : IsTrue disk.tells → IsUnopened (disk.files old) (disk.opened old)) (keeps : IsTrue disk.tells → KeepsSaid gs (shown_by disk old) (shown_by disk mid))
+    (stored : IsTrue disk.tells → IsStored catalogue (shown_by disk mid)) (kept : IsTrue disk.tells → AtEach ms (λ i m. IsKept m (shown_by disk mid)))
     (named : catalogue.journal.name ≡ catalogue_name) (named_manifests : AtEach ms (λ i m. m.journal.name ≡ manifest_name (i + 1))) (said : IsTrue disk.tells → AreSaid gs (disk.files old) catalogue.rows (lists_of ms))
     (there : IsTrue disk.tells → AtEach ms (λ i m. All (IsThere i (disk.files old) catalogue.rows) m.entries)) (left : (d : D) → IsTrue disk.tells → MayLeave (disk.past d) (disk.files d))
     (removes : IsTrue disk.tells → Removes disk (Goes catalogue ms) mid new) where
@@ -568,7 +568,7 @@ module _ {D R : Type 0} (disk : Ghosts D R) (gs : List Granularity) (old mid new
   three_manifests = count_of gs ms three ready.granularity
 
   again : IsTrue disk.tells → IsLoaded (loaded disk catalogue ms mid)
-  again told = loaded_again gs (loaded disk catalogue ms mid) (standing disk old) three (keeps told) (unopened told) ready (stored told) (kept told) named named_manifests (said told) (there told)
+  again told = loaded_again gs (loaded disk catalogue ms mid) (shown_by disk old) three (keeps told) (unopened told) ready (stored told) (kept told) named named_manifests (said told) (there told)
 
   some : (held : Stores) × Has disk.tells (loaded disk catalogue ms mid) held
   some = has_some disk.tells gs (loaded disk catalogue ms mid) three ready three_manifests again

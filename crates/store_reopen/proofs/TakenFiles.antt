@@ -18,7 +18,7 @@ use Rattle.series_model.specs.Series.{end_of, over, since}
 use Rattle.series_model.specs.declared.sample.Sample.{Sample}
 use Rattle.store_manifest.specs.declared.entry.Entry.{Entry}
 use Rattle.store_reopen.specs.Adoption.{GetRows, IsListedAs, done as done_step, gets, stopped, IsAdoption, ListsAll, ListsNone, Takes, TakesTurns, kept, lists, nothing as nothing_step, other as other_step, place_of, refused, row_of, takes, too_long, IsFree, IsShort, about_of, headers_len, entry_as, AreUnlisted, Finds, listed as listed_step, unlisted, IsFoundAs, IsUnlisted}
-use Rattle.store_reopen.specs.declared.finding.Taken.{Taken}
+use Rattle.store_reopen.specs.declared.finding.TakenFile.{TakenFile}
 use Rattle.disk_model.specs.declared.disk.DiskErr.{DiskErr}
 use Rattle.disk_model.specs.declared.disk.DiskErr.TheVariants.{Fault, Memory}
 use Rattle.disk_model.specs.declared.disk.Disk.{Ghosts}
@@ -40,7 +40,7 @@ use Rattle.std.proofs.lemmas.Slice.Eq.{slice_eq-Decides}
 use Rattle.pb_messages.specs.declared.about.About.{About}
 use Rattle.pv_catalog.specs.Format.{entry, header, string}
 use Rattle.pv_catalog.specs.Writing.{members_of}
-use Rattle.pv_catalog.specs.declared.entry.Entry.TheVariants.{Added}
+use Rattle.pv_catalog.specs.declared.entry.BatchEntry.TheVariants.{Added}
 use Rattle.pv_catalog.specs.declared.error.RegisterErr.{RegisterErr}
 use Rattle.store_manifest.proofs.Bytes.{length_32, length_64}
 use Rattle.durable_write.specs.Ends.{Done, end_of_register, end_of_disk}
@@ -48,7 +48,7 @@ use Rattle.store_reopen.specs.Runs.{Goes, Rule, Stops}
 use Rattle.pv_catalog.specs.declared.error.RegisterErr.TheVariants as of_register
 use Rattle.disk_model.specs.Past.{Past, Only, Passes}
 use Rattle.disk_model.proofs.Each.{only_same}
-use Rattle.gate_journal.specs.Standing.{Standing, standing}
+use Rattle.gate_journal.specs.DiskShown.{DiskShown, shown_by}
 use Rattle.etl_mover.specs.Move.{set_entry}
 use Rattle.etl_mover.proofs.Written.{sets_follow}
 use Rattle.partition_names.specs.Path.{path_of}
@@ -181,13 +181,13 @@ rows_extend (other_step none rest) s = rows_extend rest s
 abbrev none_of_series : ℕ → Filed → Type 0
 none_of_series series f = f.entry.series ≢ series
 
-of_series : (image : Files) (series : ℕ) (xs : List Taken) (files : List Filed) → AllZip (IsListedAs image series) xs files → AllByRecursion (λ (f : Filed). f.entry.series ≡ series) files
+of_series : (image : Files) (series : ℕ) (xs : List TakenFile) (files : List Filed) → AllZip (IsListedAs image series) xs files → AllByRecursion (λ (f : Filed). f.entry.series ≡ series) files
 of_series image series [] [] all = tt
 of_series image series [] (f ∷ fs) all = absurd all
 of_series image series (x ∷ xs) [] all = absurd all
 of_series image series (x ∷ xs) (f ∷ fs) all = (ap (λ (e : Entry). e.series) all.0.entry, of_series image series xs fs all.1)
 
-taken_none : {held : Stores} {rows : List Row} {series place : ℕ} {xs : List Unlisted} {y : Taken} {ys : List Taken} → Takes held rows series place xs (y ∷ ys) → ListsNone place series held
+taken_none : {held : Stores} {rows : List Row} {series place : ℕ} {xs : List Unlisted} {y : TakenFile} {ys : List TakenFile} → Takes held rows series place xs (y ∷ ys) → ListsNone place series held
 taken_none (takes is rest) = is.none
 taken_none (other_step not rest) = taken_none rest
 
@@ -202,7 +202,7 @@ module _ (image : Files) (held : Stores) (rows : List Row) (xs : List Unlisted) 
   listed_none : (turn : ℕ) (f : Filed) (files : List Filed) → ListsAll image held rows xs (row_of turn) (place_of turn) (f ∷ files) → ListsNone (place_of turn) (row_of turn) held
   listed_none turn f files all = go all.taken all.takes all.listed
     where
-      go : (ys : List Taken) → Takes held rows (row_of turn) (place_of turn) xs ys → AllZip (IsListedAs image (row_of turn)) ys (f ∷ files) → ListsNone (place_of turn) (row_of turn) held
+      go : (ys : List TakenFile) → Takes held rows (row_of turn) (place_of turn) xs ys → AllZip (IsListedAs image (row_of turn)) ys (f ∷ files) → ListsNone (place_of turn) (row_of turn) held
       go [] some listed = absurd listed
       go (y ∷ ys) some listed = taken_none some
 
@@ -359,7 +359,7 @@ module _ {D R : Type 0} (disk : Ghosts D R) (c made : CatalogueState) (ms : List
 -- ONE FILE
 
 -- the listed file is what the row takes: its front, one of the row's, and the same file on the disk
-pub record IsFiledAs (g : Granularity) (image : Files) (rows : List Row) (series place : ℕ) (x : Taken) (f : Filed) : Type 0 where
+pub record IsFiledAs (g : Granularity) (image : Files) (rows : List Row) (series place : ℕ) (x : TakenFile) (f : Filed) : Type 0 where
   pub listed : IsListedAs image series x f
   pub filed : IsFiled g rows f
   pub named : file_of (place + 1, rows) f.entry ≡ x.file
@@ -367,7 +367,7 @@ pub record IsFiledAs (g : Granularity) (image : Files) (rows : List Row) (series
   pub within : f.entry.len ≤ length listed.bytes
 
 module _ (g : Granularity) (image : Files) (rows : List Row) (series place : ℕ) where
-  filed_one : (x : Taken) → MayList g image rows series place x → (f : Filed) × IsFiledAs g image rows series place x f
+  filed_one : (x : TakenFile) → MayList g image rows series place x → (f : Filed) × IsFiledAs g image rows series place x f
   filed_one x may =
       let c : Candidate = x.candidate in
       let is = may.is in
@@ -411,33 +411,33 @@ module _ (g : Granularity) (image : Files) (rows : List Row) (series place : ℕ
 
   -- ALL OF THEM
 
-  pub filed_all : (xs : List Taken) → All (MayList g image rows series place) xs → (files : List Filed) × AllZip (IsFiledAs g image rows series place) xs files
+  pub filed_all : (xs : List TakenFile) → All (MayList g image rows series place) xs → (files : List Filed) × AllZip (IsFiledAs g image rows series place) xs files
   filed_all [] may = ([], tt)
   filed_all (x ∷ xs) may =
       let one = filed_one x (All-head (MayList g image rows series place) x xs may) in
       let rest = filed_all xs (All-tail (MayList g image rows series place) x xs may) in
       (one.0 ∷ rest.0, (one.1, rest.1))
 
-  pub listed_all : (xs : List Taken) (files : List Filed) → AllZip (IsFiledAs g image rows series place) xs files → AllZip (IsListedAs image series) xs files
+  pub listed_all : (xs : List TakenFile) (files : List Filed) → AllZip (IsFiledAs g image rows series place) xs files → AllZip (IsListedAs image series) xs files
   listed_all [] [] all = tt
   listed_all [] (f ∷ fs) all = absurd all
   listed_all (x ∷ xs) [] all = absurd all
   listed_all (x ∷ xs) (f ∷ fs) all = (all.0.listed, listed_all xs fs all.1)
 
-  pub entries_all : (xs : List Taken) (files : List Filed) → AllZip (IsFiledAs g image rows series place) xs files → entries_as series xs ≡ map entry_of files
+  pub entries_all : (xs : List TakenFile) (files : List Filed) → AllZip (IsFiledAs g image rows series place) xs files → entries_as series xs ≡ map entry_of files
   entries_all [] [] all = refl
   entries_all [] (f ∷ fs) all = absurd all
   entries_all (x ∷ xs) [] all = absurd all
   entries_all (x ∷ xs) (f ∷ fs) all = ap (λ (e : Entry). e ∷ entries_as series xs) (sym all.0.listed.entry) ∙ ap (λ (es : List Entry). f.entry ∷ es) (entries_all xs fs all.1)
 
   -- what is true of each listed file that one takes is true of all
-  each_of : (P : Taken → Type 0) (Q : Filed → Type 0) → ((x : Taken) (f : Filed) → P x → IsFiledAs g image rows series place x f → Q f) → (xs : List Taken) (files : List Filed) → All P xs → AllZip (IsFiledAs g image rows series place) xs files → All Q files
+  each_of : (P : TakenFile → Type 0) (Q : Filed → Type 0) → ((x : TakenFile) (f : Filed) → P x → IsFiledAs g image rows series place x f → Q f) → (xs : List TakenFile) (files : List Filed) → All P xs → AllZip (IsFiledAs g image rows series place) xs files → All Q files
   each_of P Q step [] [] given all = All-nil Q
   each_of P Q step [] (f ∷ fs) given all = absurd all
   each_of P Q step (x ∷ xs) [] given all = absurd all
   each_of P Q step (x ∷ xs) (f ∷ fs) given all = All-cons Q f fs (step x f (All-head P x xs given) all.0) (each_of P Q step xs fs (All-tail P x xs given) all.1)
 
-  pub are_filed : (held : Stores) (xs : List Taken) (files : List Filed) → held.rows ≡ rows → All (MayList g image rows series place) xs → AllZip (IsFiledAs g image rows series place) xs files → AreFiled g (of_files place held files)
+  pub are_filed : (held : Stores) (xs : List TakenFile) (files : List Filed) → held.rows ≡ rows → All (MayList g image rows series place) xs → AllZip (IsFiledAs g image rows series place) xs files → AreFiled g (of_files place held files)
   are_filed held xs files same may all =
       let filed : All (IsFiled g held.rows) files = subst (λ (rs : List Row). All (IsFiled g rs) files) (sym same) (each_of (MayList g image rows series place) (IsFiled g rows) (λ x f given is. is.filed) xs files may all) in
       record {
@@ -447,67 +447,67 @@ module _ (g : Granularity) (image : Files) (rows : List Row) (series place : ℕ
       }
 
   -- once they are synced, they are safe
-  pub are_safe : (held : Stores) (xs : List Taken) (files : List Filed) (later : Standing) → held.rows ≡ rows → later.files ≡ image → All (λ (x : Taken). later.opened x.file ≡ 0) xs → All (λ (x : Taken). Only later.past x.file (image x.file)) xs
+  pub are_safe : (held : Stores) (xs : List TakenFile) (files : List Filed) (later : DiskShown) → held.rows ≡ rows → later.files ≡ image → All (λ (x : TakenFile). later.opened x.file ≡ 0) xs → All (λ (x : TakenFile). Only later.past x.file (image x.file)) xs
       → AllZip (IsFiledAs g image rows series place) xs files → AreSafe (of_files place held files) later
   are_safe held xs files later same is none only all = record {
     long = at (λ (shelf : Shelf) (f : Filed). HasFile later.files (file_of shelf f.entry) (λ b. f.entry.len ≤ length b))
-        (each_of (λ (x : Taken). later.opened x.file ≡ 0) (λ (f : Filed). HasFile later.files (file_of (place + 1, rows) f.entry) (λ b. f.entry.len ≤ length b)) (λ x f given it. record { bytes = it.listed.bytes; file = ap later.files it.named ∙ ap (λ (i : Files). i x.file) is ∙ it.listed.there; holds = it.within }) xs files none all);
+        (each_of (λ (x : TakenFile). later.opened x.file ≡ 0) (λ (f : Filed). HasFile later.files (file_of (place + 1, rows) f.entry) (λ b. f.entry.len ≤ length b)) (λ x f given it. record { bytes = it.listed.bytes; file = ap later.files it.named ∙ ap (λ (i : Files). i x.file) is ∙ it.listed.there; holds = it.within }) xs files none all);
     unopened = at (λ (shelf : Shelf) (f : Filed). later.opened (file_of shelf f.entry) ≤ f.entry.len)
-        (each_of (λ (x : Taken). later.opened x.file ≡ 0) (λ (f : Filed). later.opened (file_of (place + 1, rows) f.entry) ≤ f.entry.len) (λ x f given it. let zero_length : later.opened (file_of (place + 1, rows) f.entry) ≡ 0 = ap later.opened it.named ∙ given in omega (arith, zero_length)) xs files none all);
+        (each_of (λ (x : TakenFile). later.opened x.file ≡ 0) (λ (f : Filed). later.opened (file_of (place + 1, rows) f.entry) ≤ f.entry.len) (λ x f given it. let zero_length : later.opened (file_of (place + 1, rows) f.entry) ≡ 0 = ap later.opened it.named ∙ given in omega (arith, zero_length)) xs files none all);
     left = λ left_image left stands. at (λ (shelf : Shelf) (f : Filed). IsIn shelf left_image f)
-        (each_of (λ (x : Taken). Only later.past x.file (image x.file)) (IsIn (place + 1, rows) left_image) (λ x f given it. begins x f left_image it (ap left_image it.named ∙ given left_image left ∙ it.listed.there)) xs files only all);
+        (each_of (λ (x : TakenFile). Only later.past x.file (image x.file)) (IsIn (place + 1, rows) left_image) (λ x f given it. begins x f left_image it (ap left_image it.named ∙ given left_image left ∙ it.listed.there)) xs files only all);
   }
     where
       at : (Q : Shelf → Filed → Type 0) → All (Q (place + 1, rows)) files → All (Q (place + 1, held.rows)) files
       at Q all = subst (λ (rs : List Row). All (Q (place + 1, rs)) files) (sym same) all
 
-      begins : (x : Taken) (f : Filed) (left_image : Files) (it : IsFiledAs g image rows series place x f) → left_image (file_of (place + 1, rows) f.entry) ≡ Some it.listed.bytes → IsIn (place + 1, rows) left_image f
+      begins : (x : TakenFile) (f : Filed) (left_image : Files) (it : IsFiledAs g image rows series place x f) → left_image (file_of (place + 1, rows) f.entry) ≡ Some it.listed.bytes → IsIn (place + 1, rows) left_image f
       begins x f left_image it there =
           let len : length (bytes_of f) ≡ x.candidate.front.len = sym it.filed.len ∙ ap (λ (e : Entry). e.len) it.listed.entry in
           subst (Begins (bytes_of f)) (sym there) (ap (λ (n : ℕ). take n it.listed.bytes) len ∙ it.text)
 
 -- one more is synced
-pub one_synced : (xs : List Taken) (i : ℕ) (x : Taken) (first files : Files) (old new : Past) → i < length xs → x ≡ get_or xs i x → files ≡ first → Passes (λ a b. b ≡ a) old new → All (λ (y : Taken). Only old y.file (first y.file)) (take i xs) → Only new x.file (files x.file)
-    → All (λ (y : Taken). Only new y.file (first y.file)) (take (i + 1) xs)
+pub one_synced : (xs : List TakenFile) (i : ℕ) (x : TakenFile) (first files : Files) (old new : Past) → i < length xs → x ≡ get_or xs i x → files ≡ first → Passes (λ a b. b ≡ a) old new → All (λ (y : TakenFile). Only old y.file (first y.file)) (take i xs) → Only new x.file (files x.file)
+    → All (λ (y : TakenFile). Only new y.file (first y.file)) (take (i + 1) xs)
 one_synced xs i x first files old new low is same passes before now =
-    All-more (λ (y : Taken). Only new y.file (first y.file)) xs i x low
-    (All-weaker (λ (y : Taken). Only old y.file (first y.file)) (λ (y : Taken). Only new y.file (first y.file)) (λ y only. only_same old new y.file (first y.file) passes only) (take i xs) before)
-    (subst (λ (y : Taken). Only new y.file (first y.file)) is (subst (λ (f : Files). Only new x.file (f x.file)) same now))
+    All-more (λ (y : TakenFile). Only new y.file (first y.file)) xs i x low
+    (All-weaker (λ (y : TakenFile). Only old y.file (first y.file)) (λ (y : TakenFile). Only new y.file (first y.file)) (λ y only. only_same old new y.file (first y.file) passes only) (take i xs) before)
+    (subst (λ (y : TakenFile). Only new y.file (first y.file)) is (subst (λ (f : Files). Only new x.file (f x.file)) same now))
 
 -- THE CHANGES
 
-pub sets_as : (series : ℕ) (xs : List Taken) → map (λ (x : Taken). set_entry (entry_as series x.candidate)) xs ≡ map set_entry (entries_as series xs)
+pub sets_as : (series : ℕ) (xs : List TakenFile) → map (λ (x : TakenFile). set_entry (entry_as series x.candidate)) xs ≡ map set_entry (entries_as series xs)
 sets_as series [] = refl
 sets_as series (x ∷ xs) = ap (λ (cs : List Change). set_entry (entry_as series x.candidate) ∷ cs) (sets_as series xs)
 
-pub may_follow : (g : Granularity) (series : ℕ) (xs : List Taken) (entries : List Entry) → All (λ (x : Taken). IsPart g x.candidate.part) xs → AllCanFollow g entries (map set_entry (entries_as series xs))
-may_follow g series xs entries parts = sets_follow g (entries_as series xs) entries (All-map (λ (e : Entry). IsPart g e.part) (λ (x : Taken). entry_as series x.candidate) xs parts)
+pub may_follow : (g : Granularity) (series : ℕ) (xs : List TakenFile) (entries : List Entry) → All (λ (x : TakenFile). IsPart g x.candidate.part) xs → AllCanFollow g entries (map set_entry (entries_as series xs))
+may_follow g series xs entries parts = sets_follow g (entries_as series xs) entries (All-map (λ (e : Entry). IsPart g e.part) (λ (x : TakenFile). entry_as series x.candidate) xs parts)
 
-pub have_row : (rows : List Row) (series : ℕ) (xs : List Taken) → series < length rows → All (HasRow rows) (entries_as series xs)
-have_row rows series xs low = All-map (HasRow rows) (λ (x : Taken). entry_as series x.candidate) xs (λ k d lt. low)
+pub have_row : (rows : List Row) (series : ℕ) (xs : List TakenFile) → series < length rows → All (HasRow rows) (entries_as series xs)
+have_row rows series xs low = All-map (HasRow rows) (λ (x : TakenFile). entry_as series x.candidate) xs (λ k d lt. low)
 
 -- WHETHER THERE ARE ANY
 
-pub none_there : (xs : List Taken) (b : Bool) → b ≡ (length xs == 0) → b ≡ true → length xs ≡ 0
+pub none_there : (xs : List TakenFile) (b : Bool) → b ≡ (length xs == 0) → b ≡ true → length xs ≡ 0
 none_there xs b is true_b = let test : nat_eq (length xs) 0 ≡ true = sym is ∙ true_b in grind (arith, nat_tests)
 
-pub some_there : (xs : List Taken) (b : Bool) → b ≡ (length xs == 0) → b ≡ false → 0 < length xs
+pub some_there : (xs : List TakenFile) (b : Bool) → b ≡ (length xs == 0) → b ≡ false → 0 < length xs
 some_there [] b is false_b = let true_b : b ≡ true = is in absurd (cc (true_b, false_b))
 some_there (x ∷ xs) b is false_b = omega arith
 
 -- THE COMMIT
 
 -- where there is a file to list
-some_commit : (R : Taken → Filed → Type 0) (place : ℕ) (xs : List Taken) (files : List Filed) → 0 < length xs → AllZip R xs files → commit_of place files ≡ Lists place files ∷ []
+some_commit : (R : TakenFile → Filed → Type 0) (place : ℕ) (xs : List TakenFile) (files : List Filed) → 0 < length xs → AllZip R xs files → commit_of place files ≡ Lists place files ∷ []
 some_commit R place [] files some all = absurd (omega (arith, some))
 some_commit R place (x ∷ xs) [] some all = absurd all
 some_commit R place (x ∷ xs) (f ∷ fs) some all = refl
 
-module _ {D R : Type 0} (disk : Ghosts D R) (catalogue : CatalogueState) (place series : ℕ) (xs : List Taken) (ms : List ManifestState) (old : D) where
+module _ {D R : Type 0} (disk : Ghosts D R) (catalogue : CatalogueState) (place series : ℕ) (xs : List TakenFile) (ms : List ManifestState) (old : D) where
   pub lists_nothing : length xs ≡ 0 → ListsTaken disk true catalogue place series xs ms old ms old
   lists_nothing none = record { files = []; listed = by xs none; makes = steps_none disk.tells (loaded disk catalogue ms old) }
     where
-      by : (ys : List Taken) → length ys ≡ 0 → AllZip (IsListedAs (disk.files old) series) ys []
+      by : (ys : List TakenFile) → length ys ≡ 0 → AllZip (IsListedAs (disk.files old) series) ys []
       by [] is = tt
       by (y ∷ ys) is = absurd (omega (arith, is))
 
@@ -529,7 +529,7 @@ module _ {D R : Type 0} (disk : Ghosts D R) (catalogue : CatalogueState) (place 
       makes = steps_cut disk.tells [] (commit_of place files_as) (loaded disk catalogue ms old) (loaded disk catalogue ms mid) (steps_stopped disk.tells [] (loaded disk catalogue ms old) (loaded disk catalogue ms mid) read);
     }
 
-    module _ (mid : D) (same : disk.files mid ≡ disk.files old) (unopened : AreUnopened (disk.opened mid) xs) (only : All (λ (x : Taken). Only (disk.past mid) x.file (disk.files old x.file)) xs) (changes : List Change) (sets : changes ≡ map set_entry (entries_as series xs)) where
+    module _ (mid : D) (same : disk.files mid ≡ disk.files old) (unopened : AreUnopened (disk.opened mid) xs) (only : All (λ (x : TakenFile). Only (disk.past mid) x.file (disk.files old x.file)) xs) (changes : List Change) (sets : changes ≡ map set_entry (entries_as series xs)) where
       pub can_list : (held : Stores) → Has disk.tells (loaded disk catalogue ms mid) held → CanList place disk.tells (loaded disk catalogue ms mid) changes held (put_all (list_at place held) files_as)
       can_list held has =
           let g = m.granularity in
@@ -539,7 +539,7 @@ module _ {D R : Type 0} (disk : Ghosts D R) (catalogue : CatalogueState) (place 
           let are : map set_entry (map entry_of files_as) ≡ changes = ap (λ (es : List Entry). map set_entry es) (sym (entries_all g image rows series place xs files_as all_filed.1)) ∙ sym sets in
           subst (λ (cs : List Change). CanList place disk.tells (loaded disk catalogue ms mid) cs held (put_all (list_at place held) files_as)) are
           (can_add place disk.tells (loaded disk catalogue ms mid) held files_as m here has (are_filed g image rows series place held xs files_as of_rows may all_filed.1)
-          (λ told. are_safe g image rows series place held xs files_as (standing disk mid) of_rows same unopened only all_filed.1))
+          (λ told. are_safe g image rows series place held xs files_as (shown_by disk mid) of_rows same unopened only all_filed.1))
 
       pub takes_by : (some : 0 < length xs) (read : MakesSteps true disk.tells [] (loaded disk catalogue ms old) (loaded disk catalogue ms mid)) (after : List ManifestState) (new : D) (r : Result (Unit {0}) DiskErr)
           → Changes disk.tells (publishing place files_as) (loaded disk catalogue ms mid) (loaded disk catalogue after new) (end_of_disk r)

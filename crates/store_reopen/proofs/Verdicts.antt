@@ -18,9 +18,9 @@ use Rattle.gate_journal.specs.Kept.{Says}
 use Rattle.pv_catalog.specs.Catalogue.{catalogue_name}
 use Rattle.std.proofs.lemmas.List.{take_all, length-take}
 use Rattle.std.proofs.lemmas.List.Elements.{All-more, All-head, All-tail, All-map, All-weaker, All-contains, All-nil}
-use Rattle.store_reopen.specs.declared.error.Refusal.{Refusal}
-use Rattle.store_reopen.specs.declared.error.Refusal.TheVariants.{Disk, Damaged, GranularityDiffers}
-use Rattle.store_reopen.specs.Refusal.{IsTold, IsToldShort}
+use Rattle.store_reopen.specs.declared.error.NotOpened.{NotOpened}
+use Rattle.store_reopen.specs.declared.error.NotOpened.TheVariants.{Disk, Damaged, GranularityDiffers}
+use Rattle.store_reopen.specs.NotOpened.{IsTold, IsToldShort}
 use Rattle.std.specs.List.{AllAdjacentBelow}
 use Rattle.gate_journal.specs.Generations.{IsOwn, at_name, generation_name, HasBatchesOf, IsBadOf}
 use Rattle.gate_journal.proofs.Keeping.{says_stays}
@@ -118,7 +118,7 @@ at_lists P ms n i long each low =
     subst (P i) (sym (listed_at ms i m.0 m.1)) (each i m.0 low m.1)
 
 -- what is told of the files of the store at a place is told of all
-pub told_short : (gs : List Granularity) (seen files : Files) (rows : List Row) (ms : List ManifestState) (i : ℕ) (m : ManifestState) (e : Refusal) → length gs ≡ 3 → length ms ≡ 3 → AreSaid gs seen rows (lists_of ms) → AtEach ms (λ k n. All (HasRow rows) n.entries) → ((n : Name) → n.0 ≢ 0 → files n ≡ seen n)
+pub told_short : (gs : List Granularity) (seen files : Files) (rows : List Row) (ms : List ManifestState) (i : ℕ) (m : ManifestState) (e : NotOpened) → length gs ≡ 3 → length ms ≡ 3 → AreSaid gs seen rows (lists_of ms) → AtEach ms (λ k n. All (HasRow rows) n.entries) → ((n : Name) → n.0 ≢ 0 → files n ≡ seen n)
     → i < 3 → slice_get ms i ≡ Some m → ((k : ℕ) (n : ManifestState) → k < i → slice_get ms k ≡ Some n → All (IsThere k files rows) n.entries) → IsToldShort i files rows m.entries e → IsTold gs seen e
 told_short gs seen files rows ms i m (Disk e) three count said of_rows same low here there told = tt
 told_short gs seen files rows ms i m (Damaged name at) three count said of_rows same low here there told = file_short (record {

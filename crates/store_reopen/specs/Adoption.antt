@@ -19,7 +19,7 @@ use Rattle.pb_lines.specs.File.{IsFile}
 use Rattle.pv_catalog.specs.Catalogue.{Refuses, registered}
 use Rattle.pv_catalog.specs.Format.{entry}
 use Rattle.pv_catalog.specs.Writing.{members_of}
-use Rattle.pv_catalog.specs.declared.entry.Entry.TheVariants.{Added}
+use Rattle.pv_catalog.specs.declared.entry.BatchEntry.TheVariants.{Added}
 use Rattle.pv_catalog.specs.declared.error.RegisterErr.{RegisterErr}
 use Rattle.pv_catalog.specs.declared.row.Row.{Row}
 use Rattle.store_manifest.specs.declared.entry.Entry.{Entry}
@@ -37,7 +37,7 @@ use Rattle.store_reopen.specs.Verdict.{IsWhole}
 use Rattle.store_reopen.specs.declared.adopted.Adopted.{Adopted}
 use Rattle.store_reopen.specs.declared.adopted.AdoptErr.{AdoptErr}
 use Rattle.store_reopen.specs.declared.adopted.AdoptErr.TheVariants as adopting
-use Rattle.store_reopen.specs.declared.finding.Taken.{Taken}
+use Rattle.store_reopen.specs.declared.finding.TakenFile.{TakenFile}
 use Rattle.store_reopen.specs.declared.finding.Unlisted.{Unlisted}
 
 -- the last number of a u64 stands for it and for every greater one
@@ -138,11 +138,11 @@ pub record IsTakenBy (held : Stores) (rows : List Row) (series place : ℕ) (x :
   pub none : ListsNone place series held
 
 -- of these files just those that a row takes of the store at a place, in their order
-pub data Takes (held : Stores) (rows : List Row) (series place : ℕ) : List Unlisted → List Taken → Type 0 where
+pub data Takes (held : Stores) (rows : List Row) (series place : ℕ) : List Unlisted → List TakenFile → Type 0 where
   done : Takes held rows series place [] []
-  takes : {x : Unlisted} {c : Candidate} {xs : List Unlisted} {ys : List Taken} → IsTakenBy held rows series place x c
+  takes : {x : Unlisted} {c : Candidate} {xs : List Unlisted} {ys : List TakenFile} → IsTakenBy held rows series place x c
       → Takes held rows series place xs ys → Takes held rows series place (x ∷ xs) (record { file = x.file; candidate = c } ∷ ys)
-  other : {x : Unlisted} {xs : List Unlisted} {ys : List Taken} → ((c : Candidate) → IsTakenBy held rows series place x c → ⊥)
+  other : {x : Unlisted} {xs : List Unlisted} {ys : List TakenFile} → ((c : Candidate) → IsTakenBy held rows series place x c → ⊥)
       → Takes held rows series place xs ys → Takes held rows series place (x ∷ xs) ys
 
 -- the entry by which a row lists the candidate
@@ -158,7 +158,7 @@ entry_as series c = record {
 }
 
 -- the listed file has the candidate's front, as the image has it
-pub record IsListedAs (image : Files) (series : ℕ) (x : Taken) (f : Filed) : Type 0 where
+pub record IsListedAs (image : Files) (series : ℕ) (x : TakenFile) (f : Filed) : Type 0 where
   pub entry : f.entry ≡ entry_as series x.candidate
   pub bytes : List ℕ
   pub there : image x.file ≡ Some bytes
@@ -166,7 +166,7 @@ pub record IsListedAs (image : Files) (series : ℕ) (x : Taken) (f : Filed) : T
 
 -- what a row lists of the store at a place, by one commit
 pub record ListsAll (image : Files) (held : Stores) (rows : List Row) (xs : List Unlisted) (series place : ℕ) (files : List Filed) : Type 0 where
-  pub taken : List Taken
+  pub taken : List TakenFile
   pub takes : Takes held rows series place xs taken
   pub listed : AllZip (IsListedAs image series) taken files
 

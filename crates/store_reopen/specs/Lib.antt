@@ -6,7 +6,7 @@ pub mod Listing
 pub mod Loading
 pub mod Marking
 pub mod OneJournal
-pub mod Refusal
+pub mod NotOpened
 pub mod Reopen
 pub mod Runs
 pub mod Steps

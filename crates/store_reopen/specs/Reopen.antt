@@ -25,7 +25,7 @@ use Rattle.store_reopen.specs.OneJournal.{NoneOpened}
 use Rattle.store_reopen.specs.declared.error.ReopenErr.{ReopenErr}
 use Rattle.store_reopen.specs.declared.error.ReopenErr.TheVariants.{DiskFault, Damaged, GranularityDiffers, Memory}
 use Rattle.store_reopen.specs.Leaving.{Leaves}
-use Rattle.store_reopen.specs.Loading.{Journal, KeepsJournal, granularity_at, name_of}
+use Rattle.store_reopen.specs.Loading.{WhichJournal, KeepsJournal, granularity_at, name_of}
 use Rattle.store_reopen.specs.Verdict.{Listings, HasRow, IsWhole}
 use Rattle.store_reopen.specs.Strays.{AreGone, IsStray, SweptStores, adoption_name}
 
@@ -93,7 +93,7 @@ SameStores old new = (n : Name) → n.0 ≢ 0 → new n ≡ old n
 
 -- the name is that of no journal's file
 abbrev pub IsNoJournals : Name → Type 0
-IsNoJournals n = (j : Journal) → IsOwn (name_of j) n → ⊥
+IsNoJournals n = (j : WhichJournal) → IsOwn (name_of j) n → ⊥
 
 -- of all files those of journals alone may change
 abbrev pub OnlyJournals : Files → Files → Type 0
@@ -112,7 +112,7 @@ ChangesSite {D} {R} disk old new = Leaves disk OnlySite old new
 pub record KeepsSite (gs : List Granularity) (old new : Files) : Type 0 where
   pub adoption : new adoption_name ≡ old adoption_name
   pub others : (n : Name) → n.0 ≡ 0 → IsNoJournals n → new n ≡ old n
-  pub journals : (j : Journal) → KeepsJournal gs j old new
+  pub journals : (j : WhichJournal) → KeepsJournal gs j old new
 
 -- so reads give it, and so a crash leaves it at any moment
 abbrev pub LeavesSite : {D R : Type 0} → Ghosts D R → List Granularity → D → D → Type 0

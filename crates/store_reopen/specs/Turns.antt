@@ -7,7 +7,7 @@ use Rattle.store_manifest.specs.Manifest.{ManifestState}
 use Rattle.store_manifest.specs.declared.entry.Entry.{Entry}
 use Rattle.store_reopen.specs.Adoption.{IsSingle, capped, place_of, row_of}
 use Rattle.store_reopen.specs.declared.adopted.Adopted.{Adopted}
-use Rattle.store_reopen.specs.declared.finding.Taken.{Taken}
+use Rattle.store_reopen.specs.declared.finding.TakenFile.{TakenFile}
 use Rattle.store_reopen.specs.declared.finding.Unlisted.{Unlisted}
 
 -- no manifest at this place and before it lists a file of the row
@@ -25,33 +25,33 @@ pub record IsOfTurn (manifests : List ManifestState) (rows : List Row) (turn pla
   pub none : ListNone place (row_of turn) manifests
 
 -- what a turn has is what it had, with the file where it takes it
-pub record TakesIn (manifests : List ManifestState) (rows : List Row) (turn : ℕ) (x : Unlisted) (old new : List Taken) : Type 0 where
+pub record TakesIn (manifests : List ManifestState) (rows : List Row) (turn : ℕ) (x : Unlisted) (old new : List TakenFile) : Type 0 where
   pub takes : ((c : Candidate) × (x.candidate ≡ Some c) × IsOfTurn manifests rows turn x.place c
       × (new ≡ old ++ (record { file = x.file; candidate = c }) ∷ []))
       ⊎ (((c : Candidate) → x.candidate ≡ Some c → IsOfTurn manifests rows turn x.place c → ⊥) × (new ≡ old))
 
 -- of these files just those that the turn takes, in their order
-pub data TakesOf (manifests : List ManifestState) (rows : List Row) (turn : ℕ) : List Unlisted → List Taken → Type 0 where
+pub data TakesOf (manifests : List ManifestState) (rows : List Row) (turn : ℕ) : List Unlisted → List TakenFile → Type 0 where
   done : TakesOf manifests rows turn [] []
-  takes : {x : Unlisted} {c : Candidate} {xs : List Unlisted} {ys : List Taken} → x.candidate ≡ Some c → IsOfTurn manifests rows turn x.place c
+  takes : {x : Unlisted} {c : Candidate} {xs : List Unlisted} {ys : List TakenFile} → x.candidate ≡ Some c → IsOfTurn manifests rows turn x.place c
       → TakesOf manifests rows turn xs ys → TakesOf manifests rows turn (x ∷ xs) (record { file = x.file; candidate = c } ∷ ys)
-  other : {x : Unlisted} {xs : List Unlisted} {ys : List Taken} → ((c : Candidate) → x.candidate ≡ Some c → IsOfTurn manifests rows turn x.place c → ⊥)
+  other : {x : Unlisted} {xs : List Unlisted} {ys : List TakenFile} → ((c : Candidate) → x.candidate ≡ Some c → IsOfTurn manifests rows turn x.place c → ⊥)
       → TakesOf manifests rows turn xs ys → TakesOf manifests rows turn (x ∷ xs) ys
 
 -- THE NUMBERS
 
 -- what all turns take, one turn after another
-abbrev pub all_taken : List (List Taken) → List Taken
-all_taken turns = flat_map (λ (taken : List Taken). taken) turns
+abbrev pub all_taken : List (List TakenFile) → List TakenFile
+all_taken turns = flat_map (λ (taken : List TakenFile). taken) turns
 
-abbrev pub samples_in : List Taken → ℕ
-samples_in taken = sum_by (λ (t : Taken). t.candidate.front.count) taken
+abbrev pub samples_in : List TakenFile → ℕ
+samples_in taken = sum_by (λ (t : TakenFile). t.candidate.front.count) taken
 
-abbrev pub cut_in : List Taken → ℕ
-cut_in taken = length (filter (λ (t : Taken). t.candidate.cut) taken)
+abbrev pub cut_in : List TakenFile → ℕ
+cut_in taken = length (filter (λ (t : TakenFile). t.candidate.cut) taken)
 
 -- these numbers with those of files more
-pub record Adds (old : Adopted) (taken : List Taken) (new : Adopted) : Type 0 where
+pub record Adds (old : Adopted) (taken : List TakenFile) (new : Adopted) : Type 0 where
   pub files : new.files ≡ capped (old.files + length taken)
   pub samples : new.samples ≡ capped (old.samples + samples_in taken)
   pub cut : new.cut ≡ capped (old.cut + cut_in taken)
@@ -59,7 +59,7 @@ pub record Adds (old : Adopted) (taken : List Taken) (new : Adopted) : Type 0 wh
   pub skipped : new.skipped ≡ old.skipped
 
 -- the numbers of an adoption, of so many new rows and so many files that weren't listed
-pub record AreNumbers (made unlisted : ℕ) (taken : List Taken) (told : Adopted) : Type 0 where
+pub record AreNumbers (made unlisted : ℕ) (taken : List TakenFile) (told : Adopted) : Type 0 where
   pub files : told.files ≡ capped (length taken)
   pub samples : told.samples ≡ capped (samples_in taken)
   pub cut : told.cut ≡ capped (cut_in taken)

@@ -12,19 +12,19 @@ ghost use Rattle.tier_store.specs.Stores.{Stores};
 ghost use Rattle.store_reopen.specs.Adoption.{Adopts, HasAdopted, IsMarked, NoneFiner, NoneFoundOpened, adopt_disk};
 ghost use Rattle.store_reopen.specs.Following.{FollowsAll, HasAdoptedOf, LeavesOff, NoneUnlistedOpened};
 ghost use Rattle.store_reopen.specs.Listing.{AreCoarse};
-ghost use Rattle.store_reopen.specs.Refusal.{IsTold};
+ghost use Rattle.store_reopen.specs.NotOpened.{IsTold};
 ghost use Rattle.store_reopen.specs.Reopen.{ChangesJournals, ChangesSite, IsReady, IsUnopened, OpensEither, SameStores};
 ghost use Rattle.store_reopen.specs.Reopen.{loaded, stores_of};
 ghost use Rattle.store_reopen.specs.Strays.{IsGone, adoption_name};
 ghost use Rattle.store_reopen.specs.Verdict.{IsWhole, IsDamaged, Differs};
 ghost use Rattle.store_reopen.specs.declared.adopted.AdoptErr.TheVariants.{Reopen};
-ghost use Rattle.store_reopen.specs.declared.error.Refusal.TheVariants.{Disk as OfDisk};
+ghost use Rattle.store_reopen.specs.declared.error.NotOpened.TheVariants.{Disk as OfDisk};
 ghost use Rattle.store_reopen.specs.declared.error.ReopenErr.TheVariants.{DiskFault, Damaged, GranularityDiffers};
 
 use crate::ReopenErr;
 use crate::adopted::{AdoptErr, Adopted};
 use crate::counting::numbers;
-use crate::error::Refusal;
+use crate::error::NotOpened;
 use crate::finding::find_unlisted;
 use crate::listing::list_all;
 use crate::opening::load_stores;
@@ -89,12 +89,12 @@ pub fn adopt<D: Disk>(
             TierStore::new(alloc, disk, *config, catalogue, manifests),
             adopted,
         )),
-        Err(Refusal::Disk(DiskErr::Fault)) => Err(AdoptErr::Reopen(ReopenErr::DiskFault(disk))),
-        Err(Refusal::Disk(DiskErr::Memory)) => Err(AdoptErr::Reopen(ReopenErr::Memory(disk))),
-        Err(Refusal::Damaged { name, at }) => {
+        Err(NotOpened::Disk(DiskErr::Fault)) => Err(AdoptErr::Reopen(ReopenErr::DiskFault(disk))),
+        Err(NotOpened::Disk(DiskErr::Memory)) => Err(AdoptErr::Reopen(ReopenErr::Memory(disk))),
+        Err(NotOpened::Damaged { name, at }) => {
             Err(AdoptErr::Reopen(ReopenErr::Damaged { disk, name, at }))
         }
-        Err(Refusal::GranularityDiffers { kept, asked }) => Err(AdoptErr::Reopen(
+        Err(NotOpened::GranularityDiffers { kept, asked }) => Err(AdoptErr::Reopen(
             ReopenErr::GranularityDiffers { disk, kept, asked },
         )),
     }
@@ -105,7 +105,7 @@ fn adopt_files<D: Disk>(
     alloc: Global,
     disk: &mut D,
     config: &Config,
-) -> Result<(Catalogue, Vec<Manifest>, Adopted), Refusal>
+) -> Result<(Catalogue, Vec<Manifest>, Adopted), NotOpened>
     requires unopened { IsTrue D.tells → IsUnopened (D.files disk.old) (D.opened disk.old) }
     requires found { IsTrue D.tells → NoneFoundOpened (stores_of config.now) (D.files disk.old) (D.opened disk.old) }
     requires coarse { NoneFiner config.now }

@@ -4,10 +4,10 @@ ghost use Rattle.store_reopen.specs.Listing.{turns_of};
 ghost use Rattle.store_reopen.specs.Turns.{Adds, AreNumbers, all_taken};
 
 use crate::adopted::Adopted;
-use crate::finding::Taken;
+use crate::finding::TakenFile;
 
 // The numbers of an adoption of so many new rows and so many files that weren't listed, of which the turns took these.
-pub(crate) fn numbers(rows: usize, unlisted: usize, turns: &[Vec<Taken>]) -> Adopted
+pub(crate) fn numbers(rows: usize, unlisted: usize, turns: &[Vec<TakenFile>]) -> Adopted
     ensures { AreNumbers rows unlisted (all_taken (turns_of turns.now)) result }
 {
     let mut told = Adopted {
@@ -25,7 +25,7 @@ pub(crate) fn numbers(rows: usize, unlisted: usize, turns: &[Vec<Taken>]) -> Ado
 }
 
 // The numbers with those of files more.
-fn add(told: Adopted, taken: &[Taken]) -> Adopted
+fn add(told: Adopted, taken: &[TakenFile]) -> Adopted
     ensures { Adds told taken.now result }
 {
     let mut told = told;

@@ -1,7 +1,7 @@
 // Why a disk isn't opened.
 ghost use Rattle.std.specs.Prelude.{◌≡◌};
 ghost use Rattle.disk_model.specs.declared.disk.DiskErr.TheVariants.{Memory as DiskMemory};
-ghost use Rattle.store_reopen.specs.declared.error.Refusal.TheVariants.{Disk as OfDisk};
+ghost use Rattle.store_reopen.specs.declared.error.NotOpened.TheVariants.{Disk as OfDisk};
 
 use disk_model::{Disk, DiskErr, FileName};
 use partition_names::Granularity;
@@ -50,7 +50,7 @@ impl<D: Disk> ReopenErr<D> {
 
 // The same without the disk.
 #[derive(Drop)]
-pub enum Refusal {
+pub enum NotOpened {
     Disk(DiskErr),
     Damaged {
         name: FileName,
@@ -62,26 +62,26 @@ pub enum Refusal {
     },
 }
 
-impl From<DiskErr> for Refusal {
+impl From<DiskErr> for NotOpened {
     ghost from_gives = { λ d e. e ≡ OfDisk d };
 
     fn from(e: DiskErr) -> Self {
-        Refusal::Disk(e)
+        NotOpened::Disk(e)
     }
 }
 
-impl From<AllocError> for Refusal {
+impl From<AllocError> for NotOpened {
     ghost from_gives = { λ _ e. e ≡ OfDisk DiskMemory };
 
     fn from(_: AllocError) -> Self {
-        Refusal::Disk(DiskErr::Memory)
+        NotOpened::Disk(DiskErr::Memory)
     }
 }
 
-impl<T: Drop> From<AllocFailed<T>> for Refusal {
+impl<T: Drop> From<AllocFailed<T>> for NotOpened {
     ghost from_gives = { λ _ e. e ≡ OfDisk DiskMemory };
 
     fn from(_: AllocFailed<T>) -> Self {
-        Refusal::Disk(DiskErr::Memory)
+        NotOpened::Disk(DiskErr::Memory)
     }
 }

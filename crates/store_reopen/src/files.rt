@@ -9,11 +9,11 @@ ghost use Rattle.store_manifest.specs.declared.entry.Entry.{Entry as EntryValue}
 ghost use Rattle.durable_write.specs.Held.{file_of};
 ghost use Rattle.tier_store.specs.Seen.{AtEach};
 ghost use Rattle.store_reopen.specs.Verdict.{AreSaid, IsThere, HasRow, EndsEarly};
-ghost use Rattle.store_reopen.specs.Refusal.{IsTold, IsToldShort};
+ghost use Rattle.store_reopen.specs.NotOpened.{IsTold, IsToldShort};
 ghost use Rattle.store_reopen.specs.Reopen.{lists_of};
-ghost use Rattle.store_reopen.specs.declared.error.Refusal.TheVariants.{Disk as OfDisk};
+ghost use Rattle.store_reopen.specs.declared.error.NotOpened.TheVariants.{Disk as OfDisk};
 
-use crate::error::Refusal;
+use crate::error::NotOpened;
 use crate::journals::STORES;
 use disk_model::{Disk, DiskErr, FileName};
 use partition_names::file_path;
@@ -22,7 +22,11 @@ use std::alloc::{AllocError, Global};
 use store_manifest::{Entry, Manifest, manifest_file};
 
 // Looks whether each entry is of a row. Tells the first manifest that has one of no row.
-pub(crate) fn check_rows(alloc: Global, rows: &[Row], manifests: &[Manifest]) -> Result<(), Refusal>
+pub(crate) fn check_rows(
+    alloc: Global,
+    rows: &[Row],
+    manifests: &[Manifest],
+) -> Result<(), NotOpened>
     requires three { length manifests.now ≡ 3 }
     ensures of_rows { OnOk result (AtEach manifests.now (λ i m. All (HasRow rows.now) m.entries)) }
     ensures told { (gs : List Granularity) (seen : Files) → length gs ≡ 3
@@ -33,7 +37,7 @@ pub(crate) fn check_rows(alloc: Global, rows: &[Row], manifests: &[Manifest]) ->
     for place in 0..STORES {
         if !have_rows(rows, &manifests[usize::from(place)]) {
             let name = manifest_file(alloc, place + 1)?;
-            return Err(Refusal::Damaged { name, at: 0 });
+            return Err(NotOpened::Damaged { name, at: 0 });
         }
     }
     Ok(())
@@ -55,7 +59,7 @@ pub(crate) fn check_files<D: Disk>(
     disk: &mut D,
     rows: &[Row],
     manifests: &[Manifest],
-) -> Result<(), Refusal>
+) -> Result<(), NotOpened>
     requires three { length manifests.now ≡ 3 }
     requires of_rows { AtEach manifests.now (λ i m. All (HasRow rows.now) m.entries) }
     ensures there { IsTrue D.tells
@@ -83,7 +87,7 @@ fn check_store<D: Disk>(
     place: u8,
     rows: &[Row],
     manifest: &Manifest,
-) -> Result<(), Refusal>
+) -> Result<(), NotOpened>
     requires place { place < 3 }
     requires of_rows { All (HasRow rows.now) manifest.now.entries }
     ensures there { IsTrue D.tells
@@ -103,7 +107,7 @@ fn check_store<D: Disk>(
     for entry in manifest.all() {
         set_name(&mut name, store, rows, entry)?;
         if let Some(at) = shortfall(disk, &name, entry.len)? {
-            return Err(Refusal::Damaged { name, at });
+            return Err(NotOpened::Damaged { name, at });
         }
     }
     Ok(())

@@ -31,7 +31,7 @@ pub struct Unlisted {
 
 // A file that a row takes.
 #[derive(Drop)]
-pub struct Taken {
+pub struct TakenFile {
     pub file: FileName,
     pub candidate: Candidate,
 }

@@ -7,7 +7,7 @@ ghost use Rattle.disk_model.specs.declared.disk.DiskErr.TheVariants.{Fault};
 ghost use Rattle.gate_journal.specs.Batches.{open_gates};
 ghost use Rattle.gate_journal.specs.Generations.{IsOwn, AtOwn, KeepsBatches};
 ghost use Rattle.gate_journal.specs.Kept.{Says};
-ghost use Rattle.gate_journal.specs.Standing.{standing};
+ghost use Rattle.gate_journal.specs.DiskShown.{shown_by};
 ghost use Rattle.partition_names.specs.declared.granularity.Granularity.{Granularity as GranularityValue};
 ghost use Rattle.pv_catalog.specs.declared.row.Row.{Row};
 ghost use Rattle.pv_catalog.specs.Catalogue.{CatalogueState, catalogue_name, IsStored};
@@ -19,12 +19,12 @@ ghost use Rattle.tier_store.specs.Beginning.{AreNested, AllNested};
 ghost use Rattle.tier_store.specs.Seen.{AtEach};
 ghost use Rattle.store_reopen.specs.OneJournal.{NoneOpened, IsGate};
 ghost use Rattle.store_reopen.specs.Loading.{KeepsSaid};
-ghost use Rattle.store_reopen.specs.Refusal.{IsTold};
+ghost use Rattle.store_reopen.specs.NotOpened.{IsTold};
 ghost use Rattle.store_reopen.specs.Reopen.{stores_of};
 ghost use Rattle.store_reopen.specs.Verdict.{Listings, AreSaidBelow};
-ghost use Rattle.store_reopen.specs.declared.error.Refusal.TheVariants.{Disk as OfDisk};
+ghost use Rattle.store_reopen.specs.declared.error.NotOpened.TheVariants.{Disk as OfDisk};
 
-use crate::error::Refusal;
+use crate::error::NotOpened;
 use disk_model::{Disk, DiskErr, FileName};
 use etl_rules::Config;
 use gate_journal::{Batches, Journal, JournalErr, one_bad_place};
@@ -36,29 +36,29 @@ use store_manifest::{Manifest, ManifestErr, manifest_file};
 pub(crate) const STORES: u8 = 3;
 
 // Loads the catalogue, or tells where it is bad.
-pub(crate) fn load_catalogue<D: Disk>(alloc: Global, disk: &mut D) -> Result<Catalogue, Refusal>
+pub(crate) fn load_catalogue<D: Disk>(alloc: Global, disk: &mut D) -> Result<Catalogue, NotOpened>
     requires unopened { IsTrue D.tells → NoneOpened catalogue_name (D.opened disk.old) }
-    ensures stored { IsTrue D.tells → IfOk result (λ c. IsStored c (standing D.Disk disk.new)) }
+    ensures stored { IsTrue D.tells → IfOk result (λ c. IsStored c (shown_by D.Disk disk.new)) }
     ensures rows { IsTrue D.tells → IfOk result (λ c. Says IsCatalogue c.rows catalogue_name (D.files disk.old)) }
     ensures journal { IfOk result (λ c. (c.journal.name ≡ catalogue_name) × (c.journal.sound ≡ true)) }
     ensures told { IsTrue D.tells → (gs : List GranularityValue) → IfErr result (IsTold gs (D.files disk.old)) }
     ensures others { IsTrue D.tells → (n : Name) → (IsOwn catalogue_name n → ⊥)
         → D.files disk.new n ≡ D.files disk.old n }
     ensures keeps { IsTrue D.tells → (gs : List GranularityValue)
-        → KeepsSaid gs (standing D.Disk disk.old) (standing D.Disk disk.new) }
+        → KeepsSaid gs (shown_by D.Disk disk.old) (shown_by D.Disk disk.new) }
     ensures faults { D.faults disk.old ≤ D.faults disk.new }
     ensures cause { result ≡ Err (OfDisk Fault) → Rose (D.faults disk.old) (D.faults disk.new) }
 {
     let name = catalogue_file(alloc)?;
     match Catalogue::load(alloc, disk) {
         Ok(catalogue) => Ok(catalogue),
-        Err(CatalogueErr::Disk(e)) => Err(Refusal::Disk(e)),
+        Err(CatalogueErr::Disk(e)) => Err(NotOpened::Disk(e)),
         Err(CatalogueErr::BadJournal { name: file, at }) => {
-            Err(Refusal::Damaged { name: file, at })
+            Err(NotOpened::Damaged { name: file, at })
         }
         Err(CatalogueErr::BadBatch { number }) => {
             let (file, at) = gate_of(alloc, disk, &name, number)?;
-            Err(Refusal::Damaged { name: file, at })
+            Err(NotOpened::Damaged { name: file, at })
         }
     }
 }
@@ -68,9 +68,9 @@ pub(crate) fn load_manifests<D: Disk>(
     alloc: Global,
     disk: &mut D,
     config: &Config,
-) -> Result<Vec<Manifest>, Refusal>
+) -> Result<Vec<Manifest>, NotOpened>
     requires unopened { IsTrue D.tells → (i : ℕ) → i < 3 → NoneOpened (manifest_name (i + 1)) (D.opened disk.old) }
-    ensures kept { IsTrue D.tells → IfOk result (λ ms. AtEach ms.items (λ i m. IsKept m (standing D.Disk disk.new))) }
+    ensures kept { IsTrue D.tells → IfOk result (λ ms. AtEach ms.items (λ i m. IsKept m (shown_by D.Disk disk.new))) }
     ensures said { IsTrue D.tells → IfOk result (λ ms.
         AtEach ms.items (λ i m. Says (Folds m.granularity) m.entries (manifest_name (i + 1)) (D.files disk.old))) }
     ensures three { IfOk result (λ ms. length ms.items ≡ 3) }
@@ -84,9 +84,9 @@ pub(crate) fn load_manifests<D: Disk>(
         → ((i : ℕ) (n : Name) → i < 3 → IsOwn (manifest_name (i + 1)) n → D.files disk.old n ≡ seen n)
         → IfErr result (IsTold (stores_of config.now) seen) }
     ensures catalogue { IsTrue D.tells → (c : CatalogueState) → c.journal.name ≡ catalogue_name
-        → IsStored c (standing D.Disk disk.old) → OnOk result (IsStored c (standing D.Disk disk.new)) }
+        → IsStored c (shown_by D.Disk disk.old) → OnOk result (IsStored c (shown_by D.Disk disk.new)) }
     ensures keeps { IsTrue D.tells
-        → KeepsSaid (stores_of config.now) (standing D.Disk disk.old) (standing D.Disk disk.new) }
+        → KeepsSaid (stores_of config.now) (shown_by D.Disk disk.old) (shown_by D.Disk disk.new) }
     ensures faults { D.faults disk.old ≤ D.faults disk.new }
     ensures cause { result ≡ Err (OfDisk Fault) → Rose (D.faults disk.old) (D.faults disk.new) }
 {
@@ -105,10 +105,10 @@ fn load_manifest<D: Disk>(
     disk: &mut D,
     config: &Config,
     place: u8,
-) -> Result<Manifest, Refusal>
+) -> Result<Manifest, NotOpened>
     requires place { place < 3 }
     requires unopened { IsTrue D.tells → NoneOpened (manifest_name (place + 1)) (D.opened disk.old) }
-    ensures kept { IsTrue D.tells → IfOk result (λ m. IsKept m (standing D.Disk disk.new)) }
+    ensures kept { IsTrue D.tells → IfOk result (λ m. IsKept m (shown_by D.Disk disk.new)) }
     ensures entries { IsTrue D.tells
         → IfOk result (λ m. Lists m.granularity m.entries (manifest_name (place + 1)) (D.files disk.old)) }
     ensures are { IfOk result (λ m. AreEntries m.granularity m.entries) }
@@ -123,11 +123,11 @@ fn load_manifest<D: Disk>(
     ensures others { IsTrue D.tells → (n : Name) → (IsOwn (manifest_name (place + 1)) n → ⊥)
         → OnOk result (D.files disk.new n ≡ D.files disk.old n) }
     ensures catalogue { IsTrue D.tells → (c : CatalogueState) → c.journal.name ≡ catalogue_name
-        → IsStored c (standing D.Disk disk.old) → OnOk result (IsStored c (standing D.Disk disk.new)) }
+        → IsStored c (shown_by D.Disk disk.old) → OnOk result (IsStored c (shown_by D.Disk disk.new)) }
     ensures earlier { IsTrue D.tells → (i : ℕ) (m : ManifestState) → i < place → m.journal.name ≡ manifest_name (i + 1)
-        → IsKept m (standing D.Disk disk.old) → OnOk result (IsKept m (standing D.Disk disk.new)) }
+        → IsKept m (shown_by D.Disk disk.old) → OnOk result (IsKept m (shown_by D.Disk disk.new)) }
     ensures keeps { IsTrue D.tells
-        → KeepsSaid (stores_of config.now) (standing D.Disk disk.old) (standing D.Disk disk.new) }
+        → KeepsSaid (stores_of config.now) (shown_by D.Disk disk.old) (shown_by D.Disk disk.new) }
     ensures faults { D.faults disk.old ≤ D.faults disk.new }
     ensures cause { result ≡ Err (OfDisk Fault) → Rose (D.faults disk.old) (D.faults disk.new) }
 {
@@ -135,16 +135,16 @@ fn load_manifest<D: Disk>(
     let name = manifest_file(alloc, store)?;
     match Manifest::load(alloc, disk, store, config.granularity(store)) {
         Ok(manifest) => Ok(manifest),
-        Err(ManifestErr::Disk(e)) => Err(Refusal::Disk(e)),
+        Err(ManifestErr::Disk(e)) => Err(NotOpened::Disk(e)),
         Err(ManifestErr::BadJournal { name: file, at }) => {
-            Err(Refusal::Damaged { name: file, at })
+            Err(NotOpened::Damaged { name: file, at })
         }
         Err(ManifestErr::BadBatch { number }) => {
             let (file, at) = gate_of(alloc, disk, &name, number)?;
-            Err(Refusal::Damaged { name: file, at })
+            Err(NotOpened::Damaged { name: file, at })
         }
         Err(ManifestErr::GranularityDiffers { kept, asked }) => {
-            Err(Refusal::GranularityDiffers { kept, asked })
+            Err(NotOpened::GranularityDiffers { kept, asked })
         }
     }
 }

@@ -16,10 +16,10 @@ ghost use Rattle.store_reopen.specs.Listing.{AllHaveParts, AllMayList, AllUnopen
 ghost use Rattle.store_reopen.specs.Listing.{ListsTaken, MayList, most_files, turns_of};
 ghost use Rattle.store_reopen.specs.Reopen.{ChangesJournals, IsReady, SameStores, loaded};
 ghost use Rattle.store_reopen.specs.Runs.{Goes, Stops};
-ghost use Rattle.store_reopen.specs.declared.finding.Taken.{Taken as TakenValue};
+ghost use Rattle.store_reopen.specs.declared.finding.TakenFile.{TakenFile as TakenValue};
 ghost use Rattle.store_reopen.specs.declared.finding.Unlisted.{Unlisted as UnlistedValue};
 
-use crate::finding::Taken;
+use crate::finding::TakenFile;
 use crate::stepping::add_files;
 use disk_model::{Disk, DiskErr};
 use found_files::Candidate;
@@ -37,7 +37,7 @@ pub(crate) fn list_all<D: Disk>(
     disk: &mut D,
     catalogue: &Catalogue,
     manifests: &mut Vec<Manifest>,
-    turns: &[Vec<Taken>],
+    turns: &[Vec<TakenFile>],
 ) -> Result<(), DiskErr>
     requires count { length turns.now ≡ 3 * length catalogue.now.rows }
     requires ready { (gs : List Granularity) × (length gs ≡ 3) × IsReady gs catalogue.now manifests.old.items }
@@ -91,7 +91,7 @@ pub(crate) fn list_taken<D: Disk>(
     manifests: &mut Vec<Manifest>,
     place: usize,
     series: u32,
-    taken: &[Taken],
+    taken: &[TakenFile],
 ) -> Result<(), DiskErr>
     requires place { place < 3 }
     requires series { series < length catalogue.now.rows }
@@ -124,7 +124,7 @@ pub(crate) fn list_taken<D: Disk>(
 
 // As many of these files as one batch may list: all, where the disk tells its files. One that doesn't may
 // name a file more than once.
-fn batch_of(taken: &[Taken]) -> &[Taken]
+fn batch_of(taken: &[TakenFile]) -> &[TakenFile]
     ensures few { length result.now ≤ most_files }
     ensures front { (n : ℕ) × (result.now ≡ take n taken.now) }
     ensures all { length taken.now ≤ most_files → result.now ≡ taken.now }
@@ -133,7 +133,7 @@ fn batch_of(taken: &[Taken]) -> &[Taken]
 }
 
 // Syncs each of these files. The disk's files stay.
-fn sync_taken<D: Disk>(disk: &mut D, taken: &[Taken]) -> Result<(), DiskErr>
+fn sync_taken<D: Disk>(disk: &mut D, taken: &[TakenFile]) -> Result<(), DiskErr>
     ensures durable { IsTrue D.tells
         → OnOk result (All (λ (x : TakenValue). Only (D.past disk.new) x.file (D.files disk.old x.file)) taken.now) }
     ensures read { OnlyReads D.Disk disk.old disk.new }
@@ -146,7 +146,7 @@ fn sync_taken<D: Disk>(disk: &mut D, taken: &[Taken]) -> Result<(), DiskErr>
 }
 
 // The changes that list these files of a row.
-fn changes_of(alloc: Global, series: u32, taken: &[Taken]) -> Result<Vec<Change>, AllocError>
+fn changes_of(alloc: Global, series: u32, taken: &[TakenFile]) -> Result<Vec<Change>, AllocError>
     ensures { IfOk result (λ v. v.items ≡ map (λ (x : TakenValue). set_entry (entry_as series x.candidate)) taken.now) }
 {
     taken

@@ -4,7 +4,7 @@ ghost use Rattle.std.specs.Prelude.{◌≡◌, ◌≢◌, ◌≤◌, ◌<◌, �
 ghost use Rattle.std.specs.Prelude.{OnOk, Err, length, ◌↔◌};
 ghost use Rattle.disk_model.specs.Files.{Name, Rose};
 ghost use Rattle.disk_model.specs.declared.disk.DiskErr.TheVariants.{Fault};
-ghost use Rattle.gate_journal.specs.Standing.{standing};
+ghost use Rattle.gate_journal.specs.DiskShown.{shown_by};
 ghost use Rattle.partition_names.specs.declared.granularity.Granularity.{Granularity as GranularityValue};
 ghost use Rattle.pv_catalog.specs.Catalogue.{catalogue_name, IsStored};
 ghost use Rattle.store_manifest.specs.Manifest.{IsKept, manifest_name};
@@ -17,13 +17,13 @@ ghost use Rattle.store_reopen.specs.Verdict.{AreSaid, IsThere, IsWhole, IsDamage
 ghost use Rattle.store_reopen.specs.Reopen.{IsUnopened, OpensEither, HasLoaded, HasRead, IsReady, IsSwept, LeavesSite};
 ghost use Rattle.store_reopen.specs.Reopen.{Reopens, Sweeps, loaded, stores_of, lists_of, disk_of};
 ghost use Rattle.store_reopen.specs.Loading.{KeepsSaid};
-ghost use Rattle.store_reopen.specs.Refusal.{IsTold};
+ghost use Rattle.store_reopen.specs.NotOpened.{IsTold};
 ghost use Rattle.store_reopen.specs.Strays.{HaveNoStray, IsStrayBelow, adoption_name};
-ghost use Rattle.store_reopen.specs.declared.error.Refusal.TheVariants.{Disk as OfDisk};
+ghost use Rattle.store_reopen.specs.declared.error.NotOpened.TheVariants.{Disk as OfDisk};
 ghost use Rattle.store_reopen.specs.declared.error.ReopenErr.TheVariants.{DiskFault, Damaged, GranularityDiffers};
 
 use crate::ReopenErr;
-use crate::error::Refusal;
+use crate::error::NotOpened;
 use crate::files::{check_files, check_rows};
 use crate::journals::{load_catalogue, load_manifests};
 use crate::sweeping::sweep_finished;
@@ -92,10 +92,10 @@ pub fn reopen<D: Disk>(
         Ok((catalogue, manifests)) => Ok(TierStore::new(
             alloc, disk, *config, catalogue, manifests,
         )),
-        Err(Refusal::Disk(DiskErr::Fault)) => Err(ReopenErr::DiskFault(disk)),
-        Err(Refusal::Disk(DiskErr::Memory)) => Err(ReopenErr::Memory(disk)),
-        Err(Refusal::Damaged { name, at }) => Err(ReopenErr::Damaged { disk, name, at }),
-        Err(Refusal::GranularityDiffers { kept, asked }) => {
+        Err(NotOpened::Disk(DiskErr::Fault)) => Err(ReopenErr::DiskFault(disk)),
+        Err(NotOpened::Disk(DiskErr::Memory)) => Err(ReopenErr::Memory(disk)),
+        Err(NotOpened::Damaged { name, at }) => Err(ReopenErr::Damaged { disk, name, at }),
+        Err(NotOpened::GranularityDiffers { kept, asked }) => {
             Err(ReopenErr::GranularityDiffers { disk, kept, asked })
         }
     }
@@ -140,10 +140,10 @@ pub fn open_to_read<D: Disk>(
         Ok((catalogue, manifests)) => Ok(TierStore::new(
             alloc, disk, *config, catalogue, manifests,
         )),
-        Err(Refusal::Disk(DiskErr::Fault)) => Err(ReopenErr::DiskFault(disk)),
-        Err(Refusal::Disk(DiskErr::Memory)) => Err(ReopenErr::Memory(disk)),
-        Err(Refusal::Damaged { name, at }) => Err(ReopenErr::Damaged { disk, name, at }),
-        Err(Refusal::GranularityDiffers { kept, asked }) => {
+        Err(NotOpened::Disk(DiskErr::Fault)) => Err(ReopenErr::DiskFault(disk)),
+        Err(NotOpened::Disk(DiskErr::Memory)) => Err(ReopenErr::Memory(disk)),
+        Err(NotOpened::Damaged { name, at }) => Err(ReopenErr::Damaged { disk, name, at }),
+        Err(NotOpened::GranularityDiffers { kept, asked }) => {
             Err(ReopenErr::GranularityDiffers { disk, kept, asked })
         }
     }
@@ -154,7 +154,7 @@ fn open_stores<D: Disk>(
     alloc: Global,
     disk: &mut D,
     config: &Config,
-) -> Result<(Catalogue, Vec<Manifest>), Refusal>
+) -> Result<(Catalogue, Vec<Manifest>), NotOpened>
     requires unopened { IsTrue D.tells → IsUnopened (D.files disk.old) (D.opened disk.old) }
     ensures stands { IsTrue D.tells → (before after : Stores)
         → OpensEither (stores_of config.now) (D.past disk.old) before after
@@ -185,7 +185,7 @@ fn load_and_sweep<D: Disk>(
     disk: &mut D,
     config: &Config,
     unfinished: bool,
-) -> Result<(Catalogue, Vec<Manifest>), Refusal>
+) -> Result<(Catalogue, Vec<Manifest>), NotOpened>
     requires unopened { IsTrue D.tells → IsUnopened (D.files disk.old) (D.opened disk.old) }
     requires says { IsTrue D.tells → IsTrue unfinished ↔ IsSome (D.files disk.old adoption_name) }
     ensures stands { IsTrue D.tells → (before after : Stores)
@@ -216,11 +216,11 @@ pub(crate) fn load_stores<D: Disk>(
     alloc: Global,
     disk: &mut D,
     config: &Config,
-) -> Result<(Catalogue, Vec<Manifest>), Refusal>
+) -> Result<(Catalogue, Vec<Manifest>), NotOpened>
     requires unopened { IsTrue D.tells → NoneOpened catalogue_name (D.opened disk.old)
         × ((i : ℕ) → i < 3 → NoneOpened (manifest_name (i + 1)) (D.opened disk.old)) }
-    ensures stored { IsTrue D.tells → IfOk result (λ r. IsStored r.0 (standing D.Disk disk.new)) }
-    ensures kept { IsTrue D.tells → IfOk result (λ r. AtEach r.1.items (λ i m. IsKept m (standing D.Disk disk.new))) }
+    ensures stored { IsTrue D.tells → IfOk result (λ r. IsStored r.0 (shown_by D.Disk disk.new)) }
+    ensures kept { IsTrue D.tells → IfOk result (λ r. AtEach r.1.items (λ i m. IsKept m (shown_by D.Disk disk.new))) }
     ensures said { IsTrue D.tells
         → IfOk result (λ r. AreSaid (stores_of config.now) (D.files disk.old) r.0.rows (lists_of r.1.items)) }
     ensures there { IsTrue D.tells
@@ -230,7 +230,7 @@ pub(crate) fn load_stores<D: Disk>(
     ensures names { IfOk result (λ r. AtEach r.1.items (λ i m. m.journal.name ≡ manifest_name (i + 1))) }
     ensures told { IsTrue D.tells → IfErr result (IsTold (stores_of config.now) (D.files disk.old)) }
     ensures keeps { IsTrue D.tells
-        → KeepsSaid (stores_of config.now) (standing D.Disk disk.old) (standing D.Disk disk.new) }
+        → KeepsSaid (stores_of config.now) (shown_by D.Disk disk.old) (shown_by D.Disk disk.new) }
     ensures faults { D.faults disk.old ≤ D.faults disk.new }
     ensures cause { result ≡ Err (OfDisk Fault) → Rose (D.faults disk.old) (D.faults disk.new) }
 {

@@ -7,9 +7,9 @@ ghost use Rattle.store_reopen.specs.Adoption.{IsSingle};
 ghost use Rattle.store_reopen.specs.Finding.{IsOfPlace};
 ghost use Rattle.store_reopen.specs.Listing.{AtEachTurn, turns_of};
 ghost use Rattle.store_reopen.specs.Turns.{IsOfTurn, ListNone, TakesIn, TakesOf, all_taken};
-ghost use Rattle.store_reopen.specs.declared.finding.Taken.{Taken as TakenValue};
+ghost use Rattle.store_reopen.specs.declared.finding.TakenFile.{TakenFile as TakenValue};
 
-use crate::finding::{Taken, Unlisted};
+use crate::finding::{TakenFile, Unlisted};
 use found_files::Candidate;
 use pb_messages::State;
 use pb_wire::PayloadType;
@@ -23,7 +23,7 @@ pub(crate) fn by_turn(
     catalogue: &Catalogue,
     manifests: &[Manifest],
     unlisted: Vec<Unlisted>,
-) -> Result<Vec<Vec<Taken>>, AllocError>
+) -> Result<Vec<Vec<TakenFile>>, AllocError>
     requires three { length manifests.now ≡ 3 }
     requires places { All (IsOfPlace manifests.now) unlisted.items }
     ensures count { IfOk result (λ v. length v.items ≡ 3 * length catalogue.now.rows) }
@@ -39,7 +39,7 @@ pub(crate) fn by_turn(
 }
 
 // So many turns that take nothing.
-fn empty_turns(alloc: Global, count: usize) -> Result<Vec<Vec<Taken>>, AllocError>
+fn empty_turns(alloc: Global, count: usize) -> Result<Vec<Vec<TakenFile>>, AllocError>
     ensures count { IfOk result (λ v. length v.items ≡ count) }
     ensures empty { IfOk result (λ v. AtEachTurn (λ turn taken. length taken ≡ 0) (turns_of v.items)) }
     ensures none { IfOk result (λ v. length (all_taken (turns_of v.items)) ≡ 0) }
@@ -56,7 +56,7 @@ fn take(
     catalogue: &Catalogue,
     manifests: &[Manifest],
     one: Unlisted,
-    turns: &mut Vec<Vec<Taken>>,
+    turns: &mut Vec<Vec<TakenFile>>,
 ) -> Result<(), AllocError>
     requires count { length turns.old.items ≡ 3 * length catalogue.now.rows }
     requires three { length manifests.now ≡ 3 }
@@ -80,7 +80,7 @@ fn take(
     let Some(turn) = turn_of(catalogue, manifests, place, &candidate) else {
         return Ok(());
     };
-    turns[turn].push(Taken { file, candidate })?;
+    turns[turn].push(TakenFile { file, candidate })?;
     Ok(())
 }
 

@@ -14,7 +14,7 @@ use Rattle.pb_file.specs.Walk.{behind}
 use Rattle.stream_merge.specs.declared.pieces.Merged.{Merged}
 use Rattle.stream_merge.specs.declared.pieces.Merged.TheVariants.{Line, End, ReadFault, Damaged, Spent, Memory}
 use Rattle.stream_merge.specs.declared.source.OpenPiece.{OpenPiece}
-use Rattle.stream_merge.specs.declared.source.Source.{Source}
+use Rattle.stream_merge.specs.declared.source.SampleSource.{SampleSource}
 use Rattle.stream_merge.specs.declared.merge.Merge.{Merge}
 use Rattle.stream_merge.specs.Pieces.{NamedBytes}
 use Rattle.stream_merge.specs.Source.{open_pieces, IsGiven, unread, unread_in}
@@ -29,7 +29,7 @@ all_of_none : (left a b : ℕ) → left ≡ 0 → a ≡ 0 → b ≡ 0 → left *
 all_of_none left a b one two three = omega (arith, ap (λ (n : ℕ). n * 2 ^ 64) one, two, three)
 
 -- no line is read where all is read
-pub is_not_read : {R : Type 0} (bytes : R → List ℕ) (s : Source R) (left now : ℕ) → now < unread left s → HasReadAll bytes s left → ⊥
+pub is_not_read : {R : Type 0} (bytes : R → List ℕ) (s : SampleSource R) (left now : ℕ) → now < unread left s → HasReadAll bytes s left → ⊥
 is_not_read {R} bytes s left now less all =
     let none : unread left s ≡ 0 = all_of_none left (unread_in s.piece) (length (drop s.at s.tail.items)) all.no_piece (ap (λ (o : Option (OpenPiece R)). unread_in o) all.none_open) (ap length all.tail) in
     omega (arith, less, none)
@@ -37,11 +37,11 @@ is_not_read {R} bytes s left now less all =
 -- A LINE WAS READ
 
 -- What was given then is that and these, if the answer goes on so.
-pub given_step : {R : Type 0} (bytes : R → List ℕ) (m m₂ : Merge R) (s : Source R) (left left₂ : ℕ) (ps ps₂ : List NamedBytes) (given gave ks : List Sample) (n : ℕ) (x : Sample) → m₂.source ≡ s → m₂.query ≡ m.query → behind m₂.last ≡ n → kept_of m₂.kept m₂.kept_line.items ≡ ks → (h : HasGiven bytes m left ps given)
+pub given_step : {R : Type 0} (bytes : R → List ℕ) (m m₂ : Merge R) (s : SampleSource R) (left left₂ : ℕ) (ps ps₂ : List NamedBytes) (given gave ks : List Sample) (n : ℕ) (x : Sample) → m₂.source ≡ s → m₂.query ≡ m.query → behind m₂.last ≡ n → kept_of m₂.kept m₂.kept_line.items ≡ ks → (h : HasGiven bytes m left ps given)
     → HasRead bytes s left₂ ps₂ (h.read ++ x ∷ []) → (HasReadAll bytes m.source left → ⊥) → ((t : ℕ) → m₂.kept ≡ Some t → (m.kept ≡ Some t) ⊎ (x.t ≡ t))
     → ((more : List Sample) → answer (kept_of m.kept m.kept_line.items ++ taken_from (behind m.last) (x ∷ more)) m.query ≡ gave ++ answer (ks ++ taken_from n more) m.query) → HasGiven bytes m₂ left₂ ps₂ (given ++ gave)
 given_step {R} bytes m m₂ s left left₂ ps ps₂ given gave ks n x source query was keeps h has some kept goes =
-    let H : Source R → Type 0 = λ v. HasRead bytes v left₂ ps₂ (h.read ++ x ∷ []) in
+    let H : SampleSource R → Type 0 = λ v. HasRead bytes v left₂ ps₂ (h.read ++ x ∷ []) in
     let now = kept_of m₂.kept m₂.kept_line.items in
     record {
       read = h.read ++ x ∷ [];
@@ -63,7 +63,7 @@ pub given_at : {R : Type 0} (bytes : R → List ℕ) (m : Merge R) (left : ℕ) 
 given_at {R} bytes m left ps given given₂ same h = let P : List Sample → Type 0 = λ l. HasGiven bytes m left ps l in subst P same h
 
 -- it isn't later than the one before
-pub given_skips : {R : Type 0} (bytes : R → List ℕ) (m : Merge R) (s : Source R) (left left₂ : ℕ) (ps ps₂ : List NamedBytes) (given : List Sample) (x : Sample) → x.t < behind m.last → (h : HasGiven bytes m left ps given) → HasRead bytes s left₂ ps₂ (h.read ++ x ∷ []) → (HasReadAll bytes m.source left → ⊥) → HasGiven bytes (record m { source = s }) left₂ ps₂ given
+pub given_skips : {R : Type 0} (bytes : R → List ℕ) (m : Merge R) (s : SampleSource R) (left left₂ : ℕ) (ps ps₂ : List NamedBytes) (given : List Sample) (x : Sample) → x.t < behind m.last → (h : HasGiven bytes m left ps given) → HasRead bytes s left₂ ps₂ (h.read ++ x ∷ []) → (HasReadAll bytes m.source left → ⊥) → HasGiven bytes (record m { source = s }) left₂ ps₂ given
 given_skips {R} bytes m s left left₂ ps ps₂ given x low h has some =
     let ks = kept_of m.kept m.kept_line.items in
     let n = behind m.last in
@@ -77,7 +77,7 @@ not_some : (k : Option ℕ) (t : ℕ) → k ≡ None → k ≡ Some t → ⊥
 not_some k t none some = cc
 
 -- it is earlier than the interval, and kept
-pub given_keeps : {R : Type 0} (bytes : R → List ℕ) (m m₂ : Merge R) (s : Source R) (left left₂ : ℕ) (ps ps₂ : List NamedBytes) (given : List Sample) (ty : PayloadType) (x : Sample) → m₂.source ≡ s → m₂.query ≡ m.query → m₂.last ≡ Some x.t → m₂.kept ≡ Some x.t → kept_of m₂.kept m₂.kept_line.items ≡ x ∷ [] → behind m.last ≤ x.t → x.t < m.query.from → IsEarly m.kept m.query.from
+pub given_keeps : {R : Type 0} (bytes : R → List ℕ) (m m₂ : Merge R) (s : SampleSource R) (left left₂ : ℕ) (ps ps₂ : List NamedBytes) (given : List Sample) (ty : PayloadType) (x : Sample) → m₂.source ≡ s → m₂.query ≡ m.query → m₂.last ≡ Some x.t → m₂.kept ≡ Some x.t → kept_of m₂.kept m₂.kept_line.items ≡ x ∷ [] → behind m.last ≤ x.t → x.t < m.query.from → IsEarly m.kept m.query.from
     → (h : HasGiven bytes m left ps given) → HasRead bytes s left₂ ps₂ (h.read ++ x ∷ []) → (HasReadAll bytes m.source left → ⊥) → HasGiven bytes m₂ left₂ ps₂ given
 given_keeps {R} bytes m m₂ s left left₂ ps ps₂ given ty x source query last kept keeps low early was h has some =
     let ks = kept_of m.kept m.kept_line.items in
@@ -93,7 +93,7 @@ last_read : {R : Type 0} (bytes : R → List ℕ) (ty : PayloadType) (o : Option
 last_read {R} bytes ty None read h = h
 last_read {R} bytes ty (Some p) read h = (p.walk.place, is_read_up_to bytes ty p read h)
 
-pub are_read : {R : Type 0} (bytes : R → List ℕ) (s : Source R) (left : ℕ) (ps : List NamedBytes) (read : List Sample) → HasRead bytes s left ps read → AreRead s.ty ps s.tail.items read
+pub are_read : {R : Type 0} (bytes : R → List ℕ) (s : SampleSource R) (left : ℕ) (ps : List NamedBytes) (read : List Sample) → HasRead bytes s left ps read → AreRead s.ty ps s.tail.items read
 are_read {R} bytes s left ps read h = record {
   done = h.done;
   last = open_pieces bytes s.piece;
@@ -109,7 +109,7 @@ are_read {R} bytes s left ps read h = record {
 }
 
 -- all was read, and nothing is kept
-pub answers_all : {R : Type 0} (bytes : R → List ℕ) (m : Merge R) (s : Source R) (left left₂ : ℕ) (ps ps₂ : List NamedBytes) (given : List Sample) → kept_of m.kept m.kept_line.items ≡ [] → (h : HasGiven bytes m left ps given) → HasRead bytes s left₂ ps₂ h.read → HasReadAll bytes s left₂ → AnswersRead s.ty m.query ps₂ left₂ s.tail.items given
+pub answers_all : {R : Type 0} (bytes : R → List ℕ) (m : Merge R) (s : SampleSource R) (left left₂ : ℕ) (ps ps₂ : List NamedBytes) (given : List Sample) → kept_of m.kept m.kept_line.items ≡ [] → (h : HasGiven bytes m left ps given) → HasRead bytes s left₂ ps₂ h.read → HasReadAll bytes s left₂ → AnswersRead s.ty m.query ps₂ left₂ s.tail.items given
 unfolding are_read
 answers_all {R} bytes m s left left₂ ps ps₂ given none h has all = record {
   read = h.read;
@@ -119,7 +119,7 @@ answers_all {R} bytes m s left left₂ ps ps₂ given none h has all = record {
 }
 
 -- one of the samples that were read is behind the interval
-pub answers_past : {R : Type 0} (bytes : R → List ℕ) (m : Merge R) (s : Source R) (left left₂ : ℕ) (ps ps₂ : List NamedBytes) (given : List Sample) (x : Sample) → (h : HasGiven bytes m left ps given) → HasRead bytes s left₂ ps₂ (h.read ++ x ∷ []) → (HasReadAll bytes m.source left → ⊥)
+pub answers_past : {R : Type 0} (bytes : R → List ℕ) (m : Merge R) (s : SampleSource R) (left left₂ : ℕ) (ps ps₂ : List NamedBytes) (given : List Sample) (x : Sample) → (h : HasGiven bytes m left ps given) → HasRead bytes s left₂ ps₂ (h.read ++ x ∷ []) → (HasReadAll bytes m.source left → ⊥)
     → m.query.from ≤ x.t → m.query.to < x.t → answer (kept_of m.kept m.kept_line.items ++ taken_from (behind m.last) (x ∷ [])) m.query ≡ [] → AnswersRead s.ty m.query ps₂ left₂ s.tail.items given
 answers_past {R} bytes m s left left₂ ps ps₂ given x h has some from past none = record {
   read = h.read ++ x ∷ [];
@@ -145,10 +145,10 @@ answers_kept {R} bytes m left ps given t kept from past low h =
 -- A CALL
 
 -- what was given before, of what was read
-pub given_first : {R : Type 0} (bytes : R → List ℕ) (m : Merge R) (s : Source R) (left : ℕ) → m.source ≡ s → m.last ≡ None → m.kept ≡ None → s.piece ≡ None → s.at ≡ 0 → HasGiven bytes m left [] []
+pub given_first : {R : Type 0} (bytes : R → List ℕ) (m : Merge R) (s : SampleSource R) (left : ℕ) → m.source ≡ s → m.last ≡ None → m.kept ≡ None → s.piece ≡ None → s.at ≡ 0 → HasGiven bytes m left [] []
 given_first {R} bytes m s left source last kept none at =
     let O : Option (OpenPiece R) → Type 0 = λ o. HasReadOpen bytes s.ty o [] in
-    let H : Source R → Type 0 = λ v. HasRead bytes v left [] [] in
+    let H : SampleSource R → Type 0 = λ v. HasRead bytes v left [] [] in
     record {
       read = [];
       has = subst H (sym source) (record { done = []; lists = []; here = []; to_end = tt; open_is = subst O (sym none) refl; are = ap (λ (o : Option (OpenPiece R)). open_pieces bytes o) (sym none); all = ap (λ (n : ℕ). take n s.tail.items) (sym at); order = inl at });
@@ -160,13 +160,13 @@ given_first {R} bytes m s left source last kept none at =
 pub given_kept : {R : Type 0} (bytes : R → List ℕ) (m m₂ : Merge R) (left : ℕ) (ps : List NamedBytes) (given : List Sample) (x : Sample) → m₂.source ≡ m.source → m₂.query ≡ m.query → m₂.last ≡ m.last → m₂.kept ≡ None → (h : HasGiven bytes m left ps given)
     → ((more : List Sample) → (HasReadAll bytes m.source left → more ≡ []) → answer (kept_of m.kept m.kept_line.items ++ taken_from (behind m.last) more) m.query ≡ x ∷ answer ([] ++ taken_from (behind m.last) more) m.query) → HasGiven bytes m₂ left ps (given ++ x ∷ [])
 given_kept {R} bytes m m₂ left ps given x source query last none h goes =
-    let H : Source R → Type 0 = λ v. HasRead bytes v left ps h.read in
+    let H : SampleSource R → Type 0 = λ v. HasRead bytes v left ps h.read in
     record {
       read = h.read;
       has = subst H (sym source) h.has;
       kept = λ t is. absurd (not_some m₂.kept t none is);
       so = λ more all.
-          let A : Source R → Type 0 = λ v. HasReadAll bytes v left → more ≡ [] in
+          let A : SampleSource R → Type 0 = λ v. HasReadAll bytes v left → more ≡ [] in
           let before = subst A source all in
           let E : Query → Type 0 = λ q. answer (taken (h.read ++ more)) q ≡ (given ++ x ∷ []) ++ answer (kept_of m₂.kept m₂.kept_line.items ++ taken_from (behind m₂.last) more) q in
           let rest = answer ([] ++ taken_from (behind m.last) more) m.query in
@@ -175,7 +175,7 @@ given_kept {R} bytes m m₂ left ps given x source query last none h goes =
     }
 
 -- all was read since: what was given is of that
-pub given_on : {R : Type 0} (bytes : R → List ℕ) (m : Merge R) (s : Source R) (left left₂ : ℕ) (ps ps₂ : List NamedBytes) (given : List Sample) → (HasReadAll bytes s left₂) → (h : HasGiven bytes m left ps given) → HasRead bytes s left₂ ps₂ h.read → HasGiven bytes (record m { source = s }) left₂ ps₂ given
+pub given_on : {R : Type 0} (bytes : R → List ℕ) (m : Merge R) (s : SampleSource R) (left left₂ : ℕ) (ps ps₂ : List NamedBytes) (given : List Sample) → (HasReadAll bytes s left₂) → (h : HasGiven bytes m left ps given) → HasRead bytes s left₂ ps₂ h.read → HasGiven bytes (record m { source = s }) left₂ ps₂ given
 given_on {R} bytes m s left left₂ ps ps₂ given all h has = record {
   read = h.read;
   has = has;
@@ -229,7 +229,7 @@ module _ {P R : Type 0} (bytes : R → List ℕ) (opened : P → List NamedBytes
   due_next none m m₂ left ty given line Memory source query last empty due kept gives ends is h = absurd is
 
   -- all was read
-  pub last_next : (b : P) (more : List NamedBytes) (m m₂ : Merge R) (s : Source R) (left left₂ : ℕ) (pieces : List NamedBytes) (ty : PayloadType) (given : List Sample) (line : List ℕ) (r : Merged R) → opened a more b → m₂.source ≡ s → m₂.query ≡ m.query → m₂.last ≡ m.last → m₂.kept ≡ None → s.ty ≡ ty → IsEarly m.kept m.query.from
+  pub last_next : (b : P) (more : List NamedBytes) (m m₂ : Merge R) (s : SampleSource R) (left left₂ : ℕ) (pieces : List NamedBytes) (ty : PayloadType) (given : List Sample) (line : List ℕ) (r : Merged R) → opened a more b → m₂.source ≡ s → m₂.query ≡ m.query → m₂.last ≡ m.last → m₂.kept ≡ None → s.ty ≡ ty → IsEarly m.kept m.query.from
       → ((t : ℕ) → r ≡ Line t → kept_of m.kept m.kept_line.items ≡ record { t = t; line = line } ∷ []) → (r ≡ End → kept_of m.kept m.kept_line.items ≡ []) → IsGiven r → (h : HasGiven bytes m left pieces given) → HasRead bytes s left₂ (ps ++ more) h.read → HasReadAll bytes s left₂
       → GivesNext bytes opened a ps b left₂ ty m.query s.tail.items given m₂ line r
   last_next b more m m₂ s left left₂ pieces ty given line (Line t) were source query last empty same early gives ends is h has all =
@@ -254,7 +254,7 @@ module _ {P R : Type 0} (bytes : R → List ℕ) (opened : P → List NamedBytes
   last_next b more m m₂ s left left₂ pieces ty given line Memory were source query last empty same early gives ends is h has all = absurd is
 
   -- one came that isn't earlier than the interval
-  pub give_next : (b : P) (more : List NamedBytes) (m m₂ : Merge R) (s : Source R) (left left₂ : ℕ) (pieces : List NamedBytes) (ty : PayloadType) (given : List Sample) (t : ℕ) (own line : List ℕ) (r : Merged R) → opened a more b → m₂.source ≡ s → m₂.query ≡ m.query → m₂.last ≡ Some t → s.ty ≡ ty → behind m.last ≤ t → m.query.from ≤ t → IsEarly m.kept m.query.from
+  pub give_next : (b : P) (more : List NamedBytes) (m m₂ : Merge R) (s : SampleSource R) (left left₂ : ℕ) (pieces : List NamedBytes) (ty : PayloadType) (given : List Sample) (t : ℕ) (own line : List ℕ) (r : Merged R) → opened a more b → m₂.source ≡ s → m₂.query ≡ m.query → m₂.last ≡ Some t → s.ty ≡ ty → behind m.last ≤ t → m.query.from ≤ t → IsEarly m.kept m.query.from
       → Gives m.query.to m.kept t m₂.kept r → (IsSome m.kept → (line ≡ m.kept_line.items) × (m₂.kept_line.items ≡ own)) → (m.kept ≡ None → line ≡ own) → (h : HasGiven bytes m left pieces given) → HasRead bytes s left₂ (ps ++ more) (h.read ++ record { t = t; line = own } ∷ []) → (HasReadAll bytes m.source left → ⊥)
       → GivesNext bytes opened a ps b left₂ ty m.query s.tail.items given m₂ line r
   give_next b more m m₂ s left left₂ pieces ty given t own line r were source query last same low from early gives swapped stays h has some = by m.kept refl gives

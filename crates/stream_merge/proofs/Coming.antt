@@ -13,7 +13,7 @@ use Rattle.pb_lines.proofs.FileLines.{all_rest}
 use Rattle.stream_merge.specs.declared.pieces.Merged.{Merged}
 use Rattle.stream_merge.specs.declared.pieces.Merged.TheVariants.{Line, End, ReadFault, Damaged, Spent, Memory}
 use Rattle.stream_merge.specs.declared.source.OpenPiece.{OpenPiece}
-use Rattle.stream_merge.specs.declared.source.Source.{Source}
+use Rattle.stream_merge.specs.declared.source.SampleSource.{SampleSource}
 use Rattle.stream_merge.specs.Pieces.{NamedBytes}
 use Rattle.stream_merge.specs.Reading.{IsSampleOf, AreSamplesOf, IsReadAs, AreReadAs, IsBadFor, IsDamaged}
 use Rattle.stream_merge.specs.Beginning.{early_count, IsPlaced, AnswersAs}
@@ -26,7 +26,7 @@ flat lists = flat_map (λ (l : List Sample). l) lists
 -- THE LISTS
 
 -- the open piece came to its end
-pub ended : {R : Type 0} (bytes : R → List ℕ) (s : Source R) (o : Option (OpenPiece R)) (ps : List NamedBytes) (xs : List Sample) → o ≡ None → ((ys : List Sample) → IsOpenAs bytes s.piece ys → ys ≡ []) → Coming bytes s ps xs → Coming bytes (record s { piece = o }) ps xs
+pub ended : {R : Type 0} (bytes : R → List ℕ) (s : SampleSource R) (o : Option (OpenPiece R)) (ps : List NamedBytes) (xs : List Sample) → o ≡ None → ((ys : List Sample) → IsOpenAs bytes s.piece ys → ys ≡ []) → Coming bytes s ps xs → Coming bytes (record s { piece = o }) ps xs
 ended {R} bytes s o ps xs none end c =
     let P : Option (OpenPiece R) → Type 0 = λ x. IsOpenAs bytes x [] in
     record {
@@ -41,7 +41,7 @@ ended {R} bytes s o ps xs none end c =
 abbrev IsLeft : PayloadType → List NamedBytes → List Sample → List Sample → Type 0
 IsLeft ty ps d xs = (lists : List (List Sample)) × AreReadAs ty ps lists × (xs ≡ flat lists ++ d)
 
-is_left : {R : Type 0} (bytes : R → List ℕ) (s : Source R) (ps : List NamedBytes) (xs : List Sample) → s.piece ≡ None → Coming bytes s ps xs → IsLeft s.ty ps (drop s.at s.tail.items) xs
+is_left : {R : Type 0} (bytes : R → List ℕ) (s : SampleSource R) (ps : List NamedBytes) (xs : List Sample) → s.piece ≡ None → Coming bytes s ps xs → IsLeft s.ty ps (drop s.at s.tail.items) xs
 is_left {R} bytes s ps xs none c =
     let P : Option (OpenPiece R) → Type 0 = λ x. IsOpenAs bytes x c.here in
     let empty : c.here ≡ [] = subst P none c.begins in
@@ -57,13 +57,13 @@ none_of ty d xs ([], are, is) = is
 none_of ty d xs (ys ∷ lists, are, is) = absurd are
 
 -- none was left: the tail is
-pub tail_left : {R : Type 0} (bytes : R → List ℕ) (s : Source R) (ps : List NamedBytes) (xs : List Sample) → s.piece ≡ None → ps ≡ [] → Coming bytes s ps xs → xs ≡ drop s.at s.tail.items
+pub tail_left : {R : Type 0} (bytes : R → List ℕ) (s : SampleSource R) (ps : List NamedBytes) (xs : List Sample) → s.piece ≡ None → ps ≡ [] → Coming bytes s ps xs → xs ≡ drop s.at s.tail.items
 tail_left {R} bytes s ps xs none is c =
     let d = drop s.at s.tail.items in
     let L : List NamedBytes → Type 0 = λ l. IsLeft s.ty l d xs in
     none_of s.ty d xs (subst L is (is_left bytes s ps xs none c))
 
-pub only_tail : {R : Type 0} (bytes : R → List ℕ) (left : List NamedBytes → Type 0) (s : Source R) → s.piece ≡ None → left [] → StillComing bytes left s (drop s.at s.tail.items)
+pub only_tail : {R : Type 0} (bytes : R → List ℕ) (left : List NamedBytes → Type 0) (s : SampleSource R) → s.piece ≡ None → left [] → StillComing bytes left s (drop s.at s.tail.items)
 only_tail {R} bytes left s none is =
     let P : Option (OpenPiece R) → Type 0 = λ x. IsOpenAs bytes x [] in
     record { pieces = []; left_is = is; coming = record { here = []; lists = []; begins = subst P (sym none) refl; are_left = tt; all = refl } }
@@ -107,14 +107,14 @@ opens_one n left len steps steps₂ size few =
 -- WHAT WAS READ
 
 -- what is to come still answers as what was, and there is room for the steps
-pub record Proceeds {R : Type 0} (bytes : R → List ℕ) (left : List NamedBytes → Type 0) (n : ℕ) (q : Query) (pieces : List NamedBytes) (xs : List Sample) (room : ℕ) (s : Source R) (steps : ℕ) : Type 0 where
+pub record Proceeds {R : Type 0} (bytes : R → List ℕ) (left : List NamedBytes → Type 0) (n : ℕ) (q : Query) (pieces : List NamedBytes) (xs : List Sample) (room : ℕ) (s : SampleSource R) (steps : ℕ) : Type 0 where
   pub coming : List Sample
   pub same : AnswersAs n q xs coming
   pub still : StillComing bytes left s coming
   pub placed : IsPlaced n q.from still.coming.here
   pub taken : HasTaken pieces still.pieces room (steps + early_count q.from still.coming.here)
 
-pub proceeds_first : {R : Type 0} (bytes : R → List ℕ) (left : List NamedBytes → Type 0) (n : ℕ) (q : Query) (ps : List NamedBytes) (xs : List Sample) (s : Source R) (steps : ℕ) → left ps → (c : Coming bytes s ps xs) → IsPlaced n q.from c.here → Proceeds bytes left n q ps xs (steps + early_count q.from c.here) s steps
+pub proceeds_first : {R : Type 0} (bytes : R → List ℕ) (left : List NamedBytes → Type 0) (n : ℕ) (q : Query) (ps : List NamedBytes) (xs : List Sample) (s : SampleSource R) (steps : ℕ) → left ps → (c : Coming bytes s ps xs) → IsPlaced n q.from c.here → Proceeds bytes left n q ps xs (steps + early_count q.from c.here) s steps
 proceeds_first {R} bytes left n q ps xs s steps is c placed = record {
   coming = xs;
   same = answers_same n q xs xs refl;
@@ -124,7 +124,7 @@ proceeds_first {R} bytes left n q ps xs s steps is c placed = record {
 }
 
 -- the open piece came to its end
-pub proceeds_ended : {R : Type 0} (bytes : R → List ℕ) (left : List NamedBytes → Type 0) (n : ℕ) (q : Query) (ps : List NamedBytes) (xs : List Sample) (room : ℕ) (s : Source R) (o : Option (OpenPiece R)) (steps steps₂ : ℕ) → o ≡ None → ((ys : List Sample) → IsOpenAs bytes s.piece ys → ys ≡ []) → steps₂ ≡ steps
+pub proceeds_ended : {R : Type 0} (bytes : R → List ℕ) (left : List NamedBytes → Type 0) (n : ℕ) (q : Query) (ps : List NamedBytes) (xs : List Sample) (room : ℕ) (s : SampleSource R) (o : Option (OpenPiece R)) (steps steps₂ : ℕ) → o ≡ None → ((ys : List Sample) → IsOpenAs bytes s.piece ys → ys ≡ []) → steps₂ ≡ steps
     → Proceeds bytes left n q ps xs room s steps → Proceeds bytes left n q ps xs room (record s { piece = o }) steps₂
 unfolding ended
 proceeds_ended {R} bytes left n q ps xs room s o steps steps₂ none end same p = record {
@@ -135,11 +135,11 @@ proceeds_ended {R} bytes left n q ps xs room s o steps steps₂ none end same p 
   taken = takes_more ps p.still.pieces room room (steps + early_count q.from p.still.coming.here) (steps₂ + 0) p.taken (omega (arith, same));
 }
 
-pub proceeds_at : {R : Type 0} (bytes : R → List ℕ) (left : List NamedBytes → Type 0) (n : ℕ) (q : Query) (ps : List NamedBytes) (xs : List Sample) (room : ℕ) (s s₂ : Source R) (steps : ℕ) → s₂ ≡ s → Proceeds bytes left n q ps xs room s steps → Proceeds bytes left n q ps xs room s₂ steps
-proceeds_at {R} bytes left n q ps xs room s s₂ steps is p = let P : Source R → Type 0 = λ x. Proceeds bytes left n q ps xs room x steps in subst P (sym is) p
+pub proceeds_at : {R : Type 0} (bytes : R → List ℕ) (left : List NamedBytes → Type 0) (n : ℕ) (q : Query) (ps : List NamedBytes) (xs : List Sample) (room : ℕ) (s s₂ : SampleSource R) (steps : ℕ) → s₂ ≡ s → Proceeds bytes left n q ps xs room s steps → Proceeds bytes left n q ps xs room s₂ steps
+proceeds_at {R} bytes left n q ps xs room s s₂ steps is p = let P : SampleSource R → Type 0 = λ x. Proceeds bytes left n q ps xs room x steps in subst P (sym is) p
 
 -- the next piece was opened
-pub proceeds_opened : {R : Type 0} (bytes : R → List ℕ) (left left₂ : List NamedBytes → Type 0) (n : ℕ) (q : Query) (ps : List NamedBytes) (xs : List Sample) (room : ℕ) (s : Source R) (p : OpenPiece R) (m : NamedBytes) (rest : List NamedBytes) (len steps steps₂ : ℕ) → s.piece ≡ None → (a : Proceeds bytes left n q ps xs room s steps)
+pub proceeds_opened : {R : Type 0} (bytes : R → List ℕ) (left left₂ : List NamedBytes → Type 0) (n : ℕ) (q : Query) (ps : List NamedBytes) (xs : List Sample) (room : ℕ) (s : SampleSource R) (p : OpenPiece R) (m : NamedBytes) (rest : List NamedBytes) (len steps steps₂ : ℕ) → s.piece ≡ None → (a : Proceeds bytes left n q ps xs room s steps)
     → a.still.pieces ≡ m ∷ rest → left₂ rest → ((ys : List Sample) → IsReadAs s.ty m.bytes ys → BeginsAs bytes n q p ys) → length m.bytes ≡ len → ((d : ℕ) → len < 2 ^ d → steps₂ ≤ steps + 4 * d + 5) → Proceeds bytes left₂ n q ps xs room (record s { piece = Some p }) steps₂
 proceeds_opened {R} bytes left left₂ n q ps xs room s p m rest len steps steps₂ none a is left_is begins size few =
     let d = drop s.at s.tail.items in
@@ -159,7 +159,7 @@ proceeds_opened {R} bytes left left₂ n q ps xs room s p m rest len steps steps
     }
 
 -- the next piece was opened, and then a call failed
-pub fails_opened : {R : Type 0} (bytes : R → List ℕ) (left left₂ : List NamedBytes → Type 0) (n : ℕ) (q : Query) (ps : List NamedBytes) (xs : List Sample) (room : ℕ) (s : Source R) (m : NamedBytes) (rest : List NamedBytes) (len steps steps₂ : ℕ) → (a : Proceeds bytes left n q ps xs room s steps) → a.still.pieces ≡ m ∷ rest → left₂ rest → length m.bytes ≡ len
+pub fails_opened : {R : Type 0} (bytes : R → List ℕ) (left left₂ : List NamedBytes → Type 0) (n : ℕ) (q : Query) (ps : List NamedBytes) (xs : List Sample) (room : ℕ) (s : SampleSource R) (m : NamedBytes) (rest : List NamedBytes) (len steps steps₂ : ℕ) → (a : Proceeds bytes left n q ps xs room s steps) → a.still.pieces ≡ m ∷ rest → left₂ rest → length m.bytes ≡ len
     → ((d : ℕ) → len < 2 ^ d → steps₂ ≤ steps + 4 * d + 5) → TakesFew left₂ ps (room + 1) steps₂
 fails_opened {R} bytes left left₂ n q ps xs room s m rest len steps steps₂ a is left_is size few =
     let before = takes_at ps a.still.pieces (m ∷ rest) room (steps + early_count q.from a.still.coming.here) is a.taken in
@@ -167,11 +167,11 @@ fails_opened {R} bytes left left₂ n q ps xs room s m rest len steps steps₂ a
     record { rest = rest; left_is = left_is; taken = takes_more ps rest room (room + 1) (steps₂ + 1) steps₂ (takes_on ps (m ∷ rest) rest room steps (steps₂ + 1) there (opens_one m rest len steps steps₂ size few)) (omega arith) }
 
 -- nothing was opened
-pub fails_there : {R : Type 0} (bytes : R → List ℕ) (left left₂ : List NamedBytes → Type 0) (n : ℕ) (q : Query) (ps : List NamedBytes) (xs : List Sample) (room : ℕ) (s : Source R) (steps : ℕ) → (a : Proceeds bytes left n q ps xs room s steps) → left₂ a.still.pieces → TakesFew left₂ ps (room + 1) steps
+pub fails_there : {R : Type 0} (bytes : R → List ℕ) (left left₂ : List NamedBytes → Type 0) (n : ℕ) (q : Query) (ps : List NamedBytes) (xs : List Sample) (room : ℕ) (s : SampleSource R) (steps : ℕ) → (a : Proceeds bytes left n q ps xs room s steps) → left₂ a.still.pieces → TakesFew left₂ ps (room + 1) steps
 fails_there {R} bytes left left₂ n q ps xs room s steps a is = record { rest = a.still.pieces; left_is = is; taken = takes_more ps a.still.pieces room (room + 1) (steps + early_count q.from a.still.coming.here) steps a.taken (omega arith) }
 
 -- a failure says nothing but that
-pub pulls_failed : {R : Type 0} (bytes : R → List ℕ) (left : List NamedBytes → Type 0) (n : ℕ) (q : Query) (ps : List NamedBytes) (xs : List Sample) (room : ℕ) (s : Source R) (line : List ℕ) (steps : ℕ) (r : Merged R) → IsFailure r → TakesFew left ps (room + 1) steps → Pulls bytes left n q ps xs room s line steps r
+pub pulls_failed : {R : Type 0} (bytes : R → List ℕ) (left : List NamedBytes → Type 0) (n : ℕ) (q : Query) (ps : List NamedBytes) (xs : List Sample) (room : ℕ) (s : SampleSource R) (line : List ℕ) (steps : ℕ) (r : Merged R) → IsFailure r → TakesFew left ps (room + 1) steps → Pulls bytes left n q ps xs room s line steps r
 pulls_failed {R} bytes left n q ps xs room s line steps (Line t) is few = absurd is
 pulls_failed {R} bytes left n q ps xs room s line steps End is few = absurd is
 pulls_failed {R} bytes left n q ps xs room s line steps (ReadFault failed) is few = few
@@ -180,11 +180,11 @@ pulls_failed {R} bytes left n q ps xs room s line steps Spent is few = few
 pulls_failed {R} bytes left n q ps xs room s line steps Memory is few = few
 
 -- so these are to come, none of a piece
-abbrev EndsWith : {R : Type 0} → (R → List ℕ) → (List NamedBytes → Type 0) → ℕ → Query → List NamedBytes → ℕ → ℕ → Source R → List Sample → Type 0
+abbrev EndsWith : {R : Type 0} → (R → List ℕ) → (List NamedBytes → Type 0) → ℕ → Query → List NamedBytes → ℕ → ℕ → SampleSource R → List Sample → Type 0
 EndsWith {R} bytes left n q pieces room steps s l = (still : StillComing bytes left s l) × IsPlaced n q.from still.coming.here × HasTaken pieces still.pieces room (steps + early_count q.from still.coming.here)
 
 -- what the tail gave
-pub pulls_tail : {R : Type 0} (bytes : R → List ℕ) (left left₂ : List NamedBytes → Type 0) (n : ℕ) (q : Query) (ps : List NamedBytes) (xs : List Sample) (room : ℕ) (old new : Source R) (steps : ℕ) (line : List ℕ) (r : Merged R) → (a : Proceeds bytes left n q ps xs room old steps) → old.piece ≡ None → new.piece ≡ None → a.still.pieces ≡ [] → left₂ []
+pub pulls_tail : {R : Type 0} (bytes : R → List ℕ) (left left₂ : List NamedBytes → Type 0) (n : ℕ) (q : Query) (ps : List NamedBytes) (xs : List Sample) (room : ℕ) (old new : SampleSource R) (steps : ℕ) (line : List ℕ) (r : Merged R) → (a : Proceeds bytes left n q ps xs room old steps) → old.piece ≡ None → new.piece ≡ None → a.still.pieces ≡ [] → left₂ []
     → ((t : ℕ) → r ≡ Line t → drop old.at old.tail.items ≡ record { t = t; line = line } ∷ drop new.at new.tail.items) → (r ≡ End → (drop old.at old.tail.items ≡ []) × (new ≡ old)) → Pulls bytes left₂ n q ps xs room new line steps r
 unfolding only_tail
 pulls_tail {R} bytes left left₂ n q ps xs room old new steps line r a none none₂ is left_is gives end = by_answer r gives end
@@ -215,7 +215,7 @@ pulls_tail {R} bytes left left₂ n q ps xs room old new steps line r a none non
         let over = end refl in
         let P : List Sample → Type 0 = λ l. EndsWith bytes left₂ n q ps room steps new l in
         let tail : EndsWith bytes left₂ n q ps room steps new (drop new.at new.tail.items) = (only_tail bytes left₂ new none₂ left_is, placed_none n q.from, takes_more ps [] room room steps (steps + 0) there (omega arith)) in
-        let ends = subst P (ap (λ (x : Source R). drop x.at x.tail.items) over.1 ∙ over.0) tail in
+        let ends = subst P (ap (λ (x : SampleSource R). drop x.at x.tail.items) over.1 ∙ over.0) tail in
         record {
           same = answers_on n q xs (drop old.at old.tail.items) [] all (answers_same n q (drop old.at old.tail.items) [] over.0);
           still = ends.0;
@@ -228,7 +228,7 @@ pulls_tail {R} bytes left left₂ n q ps xs room old new steps line r a none non
     by_answer Memory gives end = few
 
 -- what the open piece gave
-pub pulls_open : {R : Type 0} (bytes : R → List ℕ) (left : List NamedBytes → Type 0) (n : ℕ) (q : Query) (ps : List NamedBytes) (xs : List Sample) (room : ℕ) (s : Source R) (o : Option (OpenPiece R)) (steps steps₂ : ℕ) (line : List ℕ) (r : Merged R) → Proceeds bytes left n q ps xs room s steps → ((ys : List Sample) → IsOpenAs bytes s.piece ys → ReadsOpen bytes o ys line r)
+pub pulls_open : {R : Type 0} (bytes : R → List ℕ) (left : List NamedBytes → Type 0) (n : ℕ) (q : Query) (ps : List NamedBytes) (xs : List Sample) (room : ℕ) (s : SampleSource R) (o : Option (OpenPiece R)) (steps steps₂ : ℕ) (line : List ℕ) (r : Merged R) → Proceeds bytes left n q ps xs room s steps → ((ys : List Sample) → IsOpenAs bytes s.piece ys → ReadsOpen bytes o ys line r)
     → steps₂ ≤ steps + 1 → (r ≡ End → ⊥) → Pulls bytes left n q ps xs room (record s { piece = o }) line steps₂ r
 pulls_open {R} bytes left n q ps xs room s o steps steps₂ line r a reads one more = by_answer r reads more
   where
@@ -351,18 +351,18 @@ given_ready {R} Memory P line end is = absurd is
 
 -- HOW MUCH IS LEFT
 
-pub less_open : {R : Type 0} (c k : ℕ) (s new : Source R) → new ≡ record s { piece = new.piece } → unread_in new.piece < unread_in s.piece → unread c s ≤ k → unread c new < k
-less_open {R} c k s new same less all = omega (arith, ap (λ (x : Source R). length (drop x.at x.tail.items)) same, less, all)
+pub less_open : {R : Type 0} (c k : ℕ) (s new : SampleSource R) → new ≡ record s { piece = new.piece } → unread_in new.piece < unread_in s.piece → unread c s ≤ k → unread c new < k
+less_open {R} c k s new same less all = omega (arith, ap (λ (x : SampleSource R). length (drop x.at x.tail.items)) same, less, all)
 
-pub less_opened : {R : Type 0} (before now k : ℕ) (s next : Source R) (p : OpenPiece R) → next ≡ record s { piece = next.piece } → before ≡ now + 1 → unread_in (Some p) < 2 ^ 64 → unread before s ≤ k → unread now (record next { piece = Some p }) ≤ k
+pub less_opened : {R : Type 0} (before now k : ℕ) (s next : SampleSource R) (p : OpenPiece R) → next ≡ record s { piece = next.piece } → before ≡ now + 1 → unread_in (Some p) < 2 ^ 64 → unread before s ≤ k → unread now (record next { piece = Some p }) ≤ k
 less_opened {R} before now k s next p same count less all =
-    let rest = ap (λ (x : Source R). length (drop x.at x.tail.items)) same in
+    let rest = ap (λ (x : SampleSource R). length (drop x.at x.tail.items)) same in
     omega (arith, rest, ap (λ (n : ℕ). n * 2 ^ 64) count, less, all)
 
-pub none_left : {R : Type 0} (before now k : ℕ) (s new last : Source R) → new ≡ record s { piece = new.piece } → new.piece ≡ None → last ≡ new → now ≡ before → unread before s ≤ k → unread now last ≤ k
+pub none_left : {R : Type 0} (before now k : ℕ) (s new last : SampleSource R) → new ≡ record s { piece = new.piece } → new.piece ≡ None → last ≡ new → now ≡ before → unread before s ≤ k → unread now last ≤ k
 none_left {R} before now k s new last same none is count all =
-    let rest = ap (λ (x : Source R). length (drop x.at x.tail.items)) same in
-    let whole : unread now last ≡ unread before new = ap (λ (x : Source R). unread now x) is ∙ ap (λ (n : ℕ). unread n new) count in
+    let rest = ap (λ (x : SampleSource R). length (drop x.at x.tail.items)) same in
+    let whole : unread now last ≡ unread before new = ap (λ (x : SampleSource R). unread now x) is ∙ ap (λ (n : ℕ). unread n new) count in
     omega (arith, rest, whole, ap unread_in none, all)
 
 -- THE TAIL

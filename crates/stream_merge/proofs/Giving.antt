@@ -15,7 +15,7 @@ use Rattle.pb_file.specs.Walk.{behind}
 use Rattle.stream_merge.specs.declared.pieces.Merged.{Merged}
 use Rattle.stream_merge.specs.declared.pieces.Merged.TheVariants.{Line, End, ReadFault, Damaged, Spent, Memory}
 use Rattle.stream_merge.specs.declared.source.OpenPiece.{OpenPiece}
-use Rattle.stream_merge.specs.declared.source.Source.{Source}
+use Rattle.stream_merge.specs.declared.source.SampleSource.{SampleSource}
 use Rattle.stream_merge.specs.declared.merge.Merge.{Merge}
 use Rattle.stream_merge.specs.Pieces.{NamedBytes}
 use Rattle.stream_merge.specs.Reading.{AreReadAs, IsSampleOf, AreSamplesOf, IsBadFor, IsDamaged}
@@ -76,11 +76,11 @@ pub record GivesOn {R : Type 0} (bytes : R → List ℕ) (left : List NamedBytes
 pub gives_first : {R : Type 0} (bytes : R → List ℕ) (left : List NamedBytes → Type 0) (ps : List NamedBytes) (m : Merge R) (xs : List Sample) (steps : ℕ) → left ps → (r : Rest bytes m ps xs) → GivesOn bytes left ps (steps + early_count m.query.from r.comes.here) m xs steps
 gives_first {R} bytes left ps m xs steps is r = record { still = record { pieces = ps; left_is = is; rest = r }; taken = takes_none ps (steps + early_count m.query.from r.comes.here) (steps + early_count m.query.from r.comes.here) (omega arith) }
 
-pub gives_at : {R : Type 0} (bytes : R → List ℕ) (left : List NamedBytes → Type 0) (ps : List NamedBytes) (room : ℕ) (m : Merge R) (s : Source R) (q : Query) (last : Option ℕ) (ks coming xs : List Sample) (steps : ℕ) → m.source ≡ s → m.query ≡ q → m.last ≡ last → kept_of m.kept m.kept_line.items ≡ ks → (still : StillComing bytes left s coming)
+pub gives_at : {R : Type 0} (bytes : R → List ℕ) (left : List NamedBytes → Type 0) (ps : List NamedBytes) (room : ℕ) (m : Merge R) (s : SampleSource R) (q : Query) (last : Option ℕ) (ks coming xs : List Sample) (steps : ℕ) → m.source ≡ s → m.query ≡ q → m.last ≡ last → kept_of m.kept m.kept_line.items ≡ ks → (still : StillComing bytes left s coming)
     → IsPlaced (behind last) q.from still.coming.here → HasTaken ps still.pieces room (steps + early_count q.from still.coming.here) → xs ≡ answer (ks ++ taken_from (behind last) coming) q → GivesOn bytes left ps room m xs steps
 gives_at {R} bytes left ps room m s q last ks coming xs steps source query was kept still placed taken is =
     let now = kept_of m.kept m.kept_line.items in
-    let C : Source R → Type 0 = λ x. (c : Coming bytes x still.pieces coming) × IsPlaced (behind m.last) m.query.from c.here × HasTaken ps still.pieces room (steps + early_count m.query.from c.here) in
+    let C : SampleSource R → Type 0 = λ x. (c : Coming bytes x still.pieces coming) × IsPlaced (behind m.last) m.query.from c.here × HasTaken ps still.pieces room (steps + early_count m.query.from c.here) in
     let L : Option ℕ → Type 0 = λ o. IsPlaced (behind o) m.query.from still.coming.here in
     let Q : Query → Type 0 = λ x. IsPlaced (behind last) x.from still.coming.here in
     let T : Query → Type 0 = λ x. HasTaken ps still.pieces room (steps + early_count x.from still.coming.here) in
@@ -99,7 +99,7 @@ gives_at {R} bytes left ps room m s q last ks coming xs steps source query was k
       taken = here.2;
     }
 
-still_at : {R : Type 0} (bytes : R → List ℕ) (left : List NamedBytes → Type 0) (m : Merge R) (s : Source R) (q : Query) (last : Option ℕ) (ks coming xs : List Sample) → m.source ≡ s → m.query ≡ q → m.last ≡ last → kept_of m.kept m.kept_line.items ≡ ks → (still : StillComing bytes left s coming) → IsPlaced (behind last) q.from still.coming.here
+still_at : {R : Type 0} (bytes : R → List ℕ) (left : List NamedBytes → Type 0) (m : Merge R) (s : SampleSource R) (q : Query) (last : Option ℕ) (ks coming xs : List Sample) → m.source ≡ s → m.query ≡ q → m.last ≡ last → kept_of m.kept m.kept_line.items ≡ ks → (still : StillComing bytes left s coming) → IsPlaced (behind last) q.from still.coming.here
     → xs ≡ answer (ks ++ taken_from (behind last) coming) q → StillGives bytes left m xs
 still_at {R} bytes left m s q last ks coming xs source query was kept still placed is =
     let few = early_count q.from still.coming.here in
@@ -131,10 +131,10 @@ pub taken_on : {R : Type 0} (bytes : R → List ℕ) (left : List NamedBytes →
 taken_on {R} bytes left ps rest xs m room steps used a more = takes_on ps a.still.pieces rest room (steps + early_count m.query.from a.still.rest.comes.here) used a.taken more
 
 -- of a line, the end or a failure
-pub few_line : {R : Type 0} (bytes : R → List ℕ) (left : List NamedBytes → Type 0) (n : ℕ) (q : Query) (ps : List NamedBytes) (xs : List Sample) (room : ℕ) (s : Source R) (x : Sample) (steps : ℕ) → PullsLine bytes left n q ps xs room s x steps → TakesFew left ps (room + 1) steps
+pub few_line : {R : Type 0} (bytes : R → List ℕ) (left : List NamedBytes → Type 0) (n : ℕ) (q : Query) (ps : List NamedBytes) (xs : List Sample) (room : ℕ) (s : SampleSource R) (x : Sample) (steps : ℕ) → PullsLine bytes left n q ps xs room s x steps → TakesFew left ps (room + 1) steps
 few_line {R} bytes left n q ps xs room s x steps p = record { rest = p.still.pieces; left_is = p.still.left_is; taken = takes_more ps p.still.pieces (room + 1) (room + 1) (steps + early_count q.from p.still.coming.here) steps p.taken (omega arith) }
 
-pub few_pulled : {R : Type 0} (bytes : R → List ℕ) (left : List NamedBytes → Type 0) (n : ℕ) (q : Query) (ps : List NamedBytes) (xs : List Sample) (room : ℕ) (s : Source R) (line : List ℕ) (steps : ℕ) (r : Merged R) → Pulls bytes left n q ps xs room s line steps r → TakesFew left ps (room + 1) steps
+pub few_pulled : {R : Type 0} (bytes : R → List ℕ) (left : List NamedBytes → Type 0) (n : ℕ) (q : Query) (ps : List NamedBytes) (xs : List Sample) (room : ℕ) (s : SampleSource R) (line : List ℕ) (steps : ℕ) (r : Merged R) → Pulls bytes left n q ps xs room s line steps r → TakesFew left ps (room + 1) steps
 few_pulled {R} bytes left n q ps xs room s line steps (Line t) p = few_line bytes left n q ps xs room s (record { t = t; line = line }) steps p
 few_pulled {R} bytes left n q ps xs room s line steps End p = record { rest = p.still.pieces; left_is = p.still.left_is; taken = takes_more ps p.still.pieces room (room + 1) (steps + early_count q.from p.still.coming.here) steps p.taken (omega arith) }
 few_pulled {R} bytes left n q ps xs room s line steps (ReadFault failed) p = p
@@ -142,13 +142,13 @@ few_pulled {R} bytes left n q ps xs room s line steps (Damaged name at) p = p
 few_pulled {R} bytes left n q ps xs room s line steps Spent p = p
 few_pulled {R} bytes left n q ps xs room s line steps Memory p = p
 
-pub rest_whole : {R : Type 0} (bytes : R → List ℕ) (m : Merge R) (s : Source R) (q : Query) (ps : List NamedBytes) (lists : List (List Sample)) (tail : List Sample) → m.source ≡ s → m.query ≡ q → m.last ≡ None → m.kept ≡ None → s.piece ≡ None → drop s.at s.tail.items ≡ tail
+pub rest_whole : {R : Type 0} (bytes : R → List ℕ) (m : Merge R) (s : SampleSource R) (q : Query) (ps : List NamedBytes) (lists : List (List Sample)) (tail : List Sample) → m.source ≡ s → m.query ≡ q → m.last ≡ None → m.kept ≡ None → s.piece ≡ None → drop s.at s.tail.items ≡ tail
     → AreReadAs s.ty ps lists → IsRising tail → Rest bytes m ps (answer (over_all lists tail) q)
 rest_whole {R} bytes m s q ps lists tail source query was kept none at are last =
     let coming = flat lists ++ tail in
     let P : Option (OpenPiece R) → Type 0 = λ x. IsOpenAs bytes x [] in
     let first : Coming bytes s ps coming = record { here = []; lists = lists; begins = subst P (sym none) refl; are_left = are; all = ap (λ (d : List Sample). flat lists ++ d) (sym at) } in
-    let C : Source R → Type 0 = λ x. (c : Coming bytes x ps coming) × IsPlaced (behind m.last) m.query.from c.here in
+    let C : SampleSource R → Type 0 = λ x. (c : Coming bytes x ps coming) × IsPlaced (behind m.last) m.query.from c.here in
     let here = subst C (sym source) (first, placed_none (behind m.last) m.query.from) in
     let now = kept_of m.kept m.kept_line.items in
     let empty : now ≡ [] = ap (λ (o : Option ℕ). kept_of o m.kept_line.items) kept in
@@ -198,7 +198,7 @@ due_answers {R} bytes left m m₂ ty ps xs line Spent is rest source query last 
 due_answers {R} bytes left m m₂ ty ps xs line Memory is rest source query last none due kept gives ends given = absurd given
 
 -- nothing more comes
-pub last_answers : {R : Type 0} (bytes : R → List ℕ) (left : List NamedBytes → Type 0) (m m₂ : Merge R) (s : Source R) (coming xs : List Sample) (line : List ℕ) (r : Merged R) → m₂.source ≡ s → m₂.query ≡ m.query → m₂.last ≡ m.last → m₂.kept ≡ None → coming ≡ [] → (still : StillComing bytes left s []) → IsPlaced (behind m.last) m.query.from still.coming.here
+pub last_answers : {R : Type 0} (bytes : R → List ℕ) (left : List NamedBytes → Type 0) (m m₂ : Merge R) (s : SampleSource R) (coming xs : List Sample) (line : List ℕ) (r : Merged R) → m₂.source ≡ s → m₂.query ≡ m.query → m₂.last ≡ m.last → m₂.kept ≡ None → coming ≡ [] → (still : StillComing bytes left s []) → IsPlaced (behind m.last) m.query.from still.coming.here
     → IsEarly m.kept m.query.from → xs ≡ answer (kept_of m.kept m.kept_line.items ++ taken_from (behind m.last) coming) m.query
     → ((t : ℕ) → r ≡ Line t → kept_of m.kept m.kept_line.items ≡ record { t = t; line = line } ∷ []) → (r ≡ End → kept_of m.kept m.kept_line.items ≡ []) → IsGiven r → Answers bytes left m₂ xs line r
 last_answers {R} bytes left m m₂ s coming xs line (Line t) source query last none empty still placed early is gives ends given =
@@ -213,7 +213,7 @@ last_answers {R} bytes left m m₂ s coming xs line Spent source query last none
 last_answers {R} bytes left m m₂ s coming xs line Memory source query last none empty still placed early is gives ends given = absurd given
 
 -- a sample that isn't earlier than the interval came
-gives_none : {R : Type 0} (bytes : R → List ℕ) (left : List NamedBytes → Type 0) (m₂ : Merge R) (s : Source R) (q : Query) (n t : ℕ) (line line₂ : List ℕ) (rest coming xs : List Sample) (r : Merged R) → m₂.source ≡ s → m₂.query ≡ q → m₂.last ≡ Some t → coming ≡ record { t = t; line = line } ∷ rest → (still : StillComing bytes left s rest) → IsPlaced (t + 1) q.from still.coming.here
+gives_none : {R : Type 0} (bytes : R → List ℕ) (left : List NamedBytes → Type 0) (m₂ : Merge R) (s : SampleSource R) (q : Query) (n t : ℕ) (line line₂ : List ℕ) (rest coming xs : List Sample) (r : Merged R) → m₂.source ≡ s → m₂.query ≡ q → m₂.last ≡ Some t → coming ≡ record { t = t; line = line } ∷ rest → (still : StillComing bytes left s rest) → IsPlaced (t + 1) q.from still.coming.here
     → n ≤ t → q.from ≤ t → xs ≡ answer ([] ++ taken_from n coming) q → (m₂.kept ≡ None) × (t ≤ q.to → r ≡ Line t) × (q.to < t → r ≡ End) → line₂ ≡ line → Answers bytes left m₂ xs line₂ r
 gives_none {R} bytes left m₂ s q n t line line₂ rest coming xs r source query last is still placed low from all gives same =
     let x : Sample = record { t = t; line = line } in
@@ -225,7 +225,7 @@ gives_none {R} bytes left m₂ s q n t line line₂ rest coming xs r source quer
           subst A (sym (gives.1 within)) (more, step_within q n x rest coming xs is low from within all ∙ ap (λ (l : List ℕ). record { t = t; line = l } ∷ more) (sym same), still_at bytes left m₂ s q (Some t) [] rest more source query last (none_kept m₂ gives.0) still placed refl)
     ]
 
-gives_some : {R : Type 0} (bytes : R → List ℕ) (left : List NamedBytes → Type 0) (m₂ : Merge R) (s : Source R) (q : Query) (n t b : ℕ) (l line line₂ : List ℕ) (rest coming xs : List Sample) (r : Merged R) → m₂.source ≡ s → m₂.query ≡ q → m₂.last ≡ Some t → coming ≡ record { t = t; line = line } ∷ rest → (still : StillComing bytes left s rest) → IsPlaced (t + 1) q.from still.coming.here
+gives_some : {R : Type 0} (bytes : R → List ℕ) (left : List NamedBytes → Type 0) (m₂ : Merge R) (s : SampleSource R) (q : Query) (n t b : ℕ) (l line line₂ : List ℕ) (rest coming xs : List Sample) (r : Merged R) → m₂.source ≡ s → m₂.query ≡ q → m₂.last ≡ Some t → coming ≡ record { t = t; line = line } ∷ rest → (still : StillComing bytes left s rest) → IsPlaced (t + 1) q.from still.coming.here
     → n ≤ t → q.from ≤ t → b < q.from → xs ≡ answer (kept_of (Some b) l ++ taken_from n coming) q → (m₂.kept ≡ Some t) × (r ≡ Line b) → line₂ ≡ l → m₂.kept_line.items ≡ line → Answers bytes left m₂ xs line₂ r
 gives_some {R} bytes left m₂ s q n t b l line line₂ rest coming xs r source query last is still placed low from early all gives same now =
     let x : Sample = record { t = t; line = line } in
@@ -234,7 +234,7 @@ gives_some {R} bytes left m₂ s q n t b l line line₂ rest coming xs r source 
     let kept : kept_of m₂.kept m₂.kept_line.items ≡ x ∷ [] = ap (λ (o : Option ℕ). kept_of o m₂.kept_line.items) gives.0 ∙ ap (λ (k : List ℕ). record { t = t; line = k } ∷ []) now in
     subst A (sym gives.1) (more, step_held q n b l x rest coming xs is low from early all ∙ ap (λ (k : List ℕ). record { t = b; line = k } ∷ more) (sym same), still_at bytes left m₂ s q (Some t) (x ∷ []) rest more source query last kept still placed refl)
 
-pub gives_answers : {R : Type 0} (bytes : R → List ℕ) (left : List NamedBytes → Type 0) (m₂ : Merge R) (k : Option ℕ) (l : List ℕ) (s : Source R) (q : Query) (n t : ℕ) (line line₂ : List ℕ) (rest coming xs : List Sample) (r : Merged R) → m₂.source ≡ s → m₂.query ≡ q → m₂.last ≡ Some t → coming ≡ record { t = t; line = line } ∷ rest
+pub gives_answers : {R : Type 0} (bytes : R → List ℕ) (left : List NamedBytes → Type 0) (m₂ : Merge R) (k : Option ℕ) (l : List ℕ) (s : SampleSource R) (q : Query) (n t : ℕ) (line line₂ : List ℕ) (rest coming xs : List Sample) (r : Merged R) → m₂.source ≡ s → m₂.query ≡ q → m₂.last ≡ Some t → coming ≡ record { t = t; line = line } ∷ rest
     → (still : StillComing bytes left s rest) → IsPlaced (t + 1) q.from still.coming.here → n ≤ t → q.from ≤ t → IsEarly k q.from → xs ≡ answer (kept_of k l ++ taken_from n coming) q → Gives q.to k t m₂.kept r → (IsSome k → (line₂ ≡ l) × (m₂.kept_line.items ≡ line)) → (k ≡ None → line₂ ≡ line) → Answers bytes left m₂ xs line₂ r
 gives_answers {R} bytes left m₂ None l s q n t line line₂ rest coming xs r source query last is still placed low from early all gives swapped stays = gives_none bytes left m₂ s q n t line line₂ rest coming xs r source query last is still placed low from all gives (stays refl)
 gives_answers {R} bytes left m₂ (Some b) l s q n t line line₂ rest coming xs r source query last is still placed low from early all gives swapped stays = let lines = swapped refl in gives_some bytes left m₂ s q n t b l line line₂ rest coming xs r source query last is still placed low from early all gives lines.0 lines.1
@@ -282,12 +282,12 @@ early_at None t from from₂ some same early = tt
 early_at (Some b) t from from₂ some same early = let is : b ≡ t = cc in omega (arith, is, same, early)
 
 -- nothing is read behind a line or the end
-pub going_at : {R : Type 0} (tells : Bool) (bytes : R → List ℕ) (m m₂ : Merge R) (s : Source R) → m₂.source ≡ s → s.ty ≡ m.source.ty → s.tail ≡ m.source.tail → IsReady tells bytes s.ty s.piece → IsGoing tells bytes m → IsKept s.ty m₂.last m₂.kept m₂.kept_line.items → IsGoing tells bytes m₂
+pub going_at : {R : Type 0} (tells : Bool) (bytes : R → List ℕ) (m m₂ : Merge R) (s : SampleSource R) → m₂.source ≡ s → s.ty ≡ m.source.ty → s.tail ≡ m.source.tail → IsReady tells bytes s.ty s.piece → IsGoing tells bytes m → IsKept s.ty m₂.last m₂.kept m₂.kept_line.items → IsGoing tells bytes m₂
 going_at {R} tells bytes m m₂ s source ty tail ready going kept =
-    let P : Source R → Type 0 = λ x. IsReady tells bytes x.ty x.piece in
+    let P : SampleSource R → Type 0 = λ x. IsReady tells bytes x.ty x.piece in
     let T : PayloadType → Type 0 = λ x. AreSamplesOf x m.source.tail.items in
-    let V : Source R → Type 0 = λ x. AreSamplesOf x.ty x.tail.items in
-    let K : Source R → Type 0 = λ x. IsKept x.ty m₂.last m₂.kept m₂.kept_line.items in
+    let V : SampleSource R → Type 0 = λ x. AreSamplesOf x.ty x.tail.items in
+    let K : SampleSource R → Type 0 = λ x. IsKept x.ty m₂.last m₂.kept m₂.kept_line.items in
     let tail_is : AreSamplesOf s.ty s.tail.items = rw tail (subst T (sym ty) going.tail) in
     record { ready = subst P (sym source) ready; tail = subst V (sym source) tail_is; kept = subst K (sym source) kept }
 
@@ -301,8 +301,8 @@ passes_join {R} bytes left left₂ all now new p q = record {
   are = p.are ∙ ap (λ (l : List NamedBytes). p.passed ++ l) q.are ∙ sym (append_assoc p.passed q.passed (open_pieces bytes new ++ q.rest));
 }
 
-pub passes_at : {R : Type 0} (bytes : R → List ℕ) (left : List NamedBytes → Type 0) (all : List NamedBytes) (s : Source R) (m : Merge R) → m.source ≡ s → Passes bytes left all s.piece → Passes bytes left all m.source.piece
-passes_at {R} bytes left all s m source p = let P : Source R → Type 0 = λ x. Passes bytes left all x.piece in subst P (sym source) p
+pub passes_at : {R : Type 0} (bytes : R → List ℕ) (left : List NamedBytes → Type 0) (all : List NamedBytes) (s : SampleSource R) (m : Merge R) → m.source ≡ s → Passes bytes left all s.piece → Passes bytes left all m.source.piece
+passes_at {R} bytes left all s m source p = let P : SampleSource R → Type 0 = λ x. Passes bytes left all x.piece in subst P (sym source) p
 
 pub damaged_back : (ty ty₂ : PayloadType) (all front back : List NamedBytes) (name : Name) (at : ℕ) → ty ≡ ty₂ → all ≡ front ++ back → IsDamaged ty back name at → IsDamaged ty₂ all name at
 damaged_back ty ty₂ all front back name at same are bad =

@@ -37,7 +37,7 @@ skips : {R : Type 0} (bytes : R → List ℕ) (p : OpenPiece R) (t : ℕ) (line 
 skips {R} bytes p t line h long at front skipped =
     let w = p.walk in
     let new = (piece_behind p t (length line)).walk in
-    skip_line w new (bytes p.reader) line at front (walked.Sample t) h.held.text.2 (held_line w (bytes p.reader) line t h long skipped.piece) skipped (held_takes w new line t h refl)
+    skip_line w new (bytes p.reader) line at front (walked.Sample t) h.held.text.2 (held_line w (bytes p.reader) line t h long skipped.window) skipped (held_takes w new line t h refl)
 
 pub ready_behind : {R : Type 0} (tells : Bool) (bytes : R → List ℕ) (ty : PayloadType) (o : Option (OpenPiece R)) (t : ℕ) (line : List ℕ) → IsReady tells bytes ty o → HoldsIn o t line → IsReady tells bytes ty (passed o t (length line))
 ready_behind {R} tells bytes ty None t line ready h = absurd h

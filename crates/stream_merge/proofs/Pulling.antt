@@ -194,7 +194,7 @@ at_header bytes line info w h long =
       rest = rest;
       size = omega (arith, length-take-le w.place bytes (omega (arith, h.within, long)), ap length file.text, length-append line (10 ∷ []));
       text = sym (take-append-drop w.place all) ∙ ap (λ (u : List ℕ). u ++ rest) (take-take w.place w.len bytes h.within ∙ file.text) ∙ append_assoc line (10 ∷ []) rest;
-      skipped = record { going = h.going; begun = omega arith; within = h.within; read = subst F (sym none) (begins line info file.whole file.header); header = h.read.1; earliest = h.read.2; piece = h.piece };
+      skipped = record { going = h.going; begun = omega arith; within = h.within; read = subst F (sym none) (begins line info file.whole file.header); header = h.read.1; earliest = h.read.2; window = h.window };
       begins = inl refl;
       from = inl refl;
     }

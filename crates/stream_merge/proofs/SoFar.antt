@@ -16,7 +16,7 @@ use Rattle.pb_file.proofs.Walking.{one_info}
 use Rattle.stream_merge.specs.declared.pieces.Merged.{Merged}
 use Rattle.stream_merge.specs.declared.pieces.Merged.TheVariants.{Line, End, ReadFault, Damaged, Spent, Memory}
 use Rattle.stream_merge.specs.declared.source.OpenPiece.{OpenPiece}
-use Rattle.stream_merge.specs.declared.source.Source.{Source}
+use Rattle.stream_merge.specs.declared.source.SampleSource.{SampleSource}
 use Rattle.stream_merge.specs.Pieces.{NamedBytes}
 use Rattle.stream_merge.specs.Beginning.{IsAtLine}
 use Rattle.stream_merge.specs.Source.{open_pieces, IsBegun, IsFailure}
@@ -139,7 +139,7 @@ zip_append ty (p ∷ ps) qs [] ys a b = absurd a
 zip_append ty (p ∷ ps) qs (x ∷ xs) ys a b = (a.0, zip_append ty ps qs xs ys a.1 b)
 
 -- the open piece came to its end
-pub read_ended : {R : Type 0} (bytes : R → List ℕ) (s : Source R) (o : Option (OpenPiece R)) (left : ℕ) (ps : List NamedBytes) (read : List Sample) → o ≡ None → ((xs : List Sample) → HasReadOpen bytes s.ty s.piece xs → (lists : List (List Sample)) × AreReadToEnd s.ty (open_pieces bytes s.piece) lists × (xs ≡ flat lists))
+pub read_ended : {R : Type 0} (bytes : R → List ℕ) (s : SampleSource R) (o : Option (OpenPiece R)) (left : ℕ) (ps : List NamedBytes) (read : List Sample) → o ≡ None → ((xs : List Sample) → HasReadOpen bytes s.ty s.piece xs → (lists : List (List Sample)) × AreReadToEnd s.ty (open_pieces bytes s.piece) lists × (xs ≡ flat lists))
     → HasRead bytes s left ps read → HasRead bytes (record s { piece = o }) left ps read
 read_ended {R} bytes s o left ps read none end h =
     let closed = end h.here h.open_is in
@@ -161,7 +161,7 @@ read_ended {R} bytes s o left ps read none end h =
     ordered (inr last) = inr (last.0, none)
 
 -- the next one was opened
-pub read_opened : {R : Type 0} (bytes : R → List ℕ) (s : Source R) (p : OpenPiece R) (n : NamedBytes) (left left₂ : ℕ) (ps : List NamedBytes) (read : List Sample) → s.piece ≡ None → left ≡ left₂ + 1 → open_pieces bytes (Some p) ≡ n ∷ [] → HasReadOpen bytes s.ty (Some p) []
+pub read_opened : {R : Type 0} (bytes : R → List ℕ) (s : SampleSource R) (p : OpenPiece R) (n : NamedBytes) (left left₂ : ℕ) (ps : List NamedBytes) (read : List Sample) → s.piece ≡ None → left ≡ left₂ + 1 → open_pieces bytes (Some p) ≡ n ∷ [] → HasReadOpen bytes s.ty (Some p) []
     → HasRead bytes s left ps read → HasRead bytes (record s { piece = Some p }) left₂ (ps ++ n ∷ []) read
 read_opened {R} bytes s p n left left₂ ps read none fewer one fresh h =
     let O : Option (OpenPiece R) → Type 0 = λ x. HasReadOpen bytes s.ty x h.here in
@@ -182,7 +182,7 @@ read_opened {R} bytes s p n left left₂ ps read none fewer one fresh h =
     ordered (inr last) = absurd (omega (arith, last.0, fewer))
 
 -- a line of the open piece was read
-pub read_line : {R : Type 0} (bytes : R → List ℕ) (s : Source R) (o : Option (OpenPiece R)) (left : ℕ) (ps : List NamedBytes) (read : List Sample) (x : Sample) → open_pieces bytes o ≡ open_pieces bytes s.piece → (s.piece ≡ None → ⊥) → ((xs : List Sample) → HasReadOpen bytes s.ty s.piece xs → HasReadOpen bytes s.ty o (xs ++ x ∷ []))
+pub read_line : {R : Type 0} (bytes : R → List ℕ) (s : SampleSource R) (o : Option (OpenPiece R)) (left : ℕ) (ps : List NamedBytes) (read : List Sample) (x : Sample) → open_pieces bytes o ≡ open_pieces bytes s.piece → (s.piece ≡ None → ⊥) → ((xs : List Sample) → HasReadOpen bytes s.ty s.piece xs → HasReadOpen bytes s.ty o (xs ++ x ∷ []))
     → HasRead bytes s left ps read → HasRead bytes (record s { piece = o }) left ps (read ++ x ∷ [])
 read_line {R} bytes s o left ps read x same some next h =
     let first : s.at ≡ 0 = at_first h.order in
@@ -206,12 +206,12 @@ read_line {R} bytes s o left ps read x same some next h =
     at_first (inr last) = absurd (some last.1)
 
 -- a line of the tail was read
-pub read_of_tail : {R : Type 0} (bytes : R → List ℕ) (s t : Source R) (left : ℕ) (ps : List NamedBytes) (read : List Sample) (x : Sample) → t ≡ record s { at = t.at } → s.piece ≡ None → left ≡ 0 → drop s.at s.tail.items ≡ x ∷ drop t.at t.tail.items → HasRead bytes s left ps read → HasRead bytes t left ps (read ++ x ∷ [])
+pub read_of_tail : {R : Type 0} (bytes : R → List ℕ) (s t : SampleSource R) (left : ℕ) (ps : List NamedBytes) (read : List Sample) (x : Sample) → t ≡ record s { at = t.at } → s.piece ≡ None → left ≡ 0 → drop s.at s.tail.items ≡ x ∷ drop t.at t.tail.items → HasRead bytes s left ps read → HasRead bytes t left ps (read ++ x ∷ [])
 read_of_tail {R} bytes s t left ps read x same none last next h =
-    let P : Source R → Type 0 = λ v. HasRead bytes v left ps (read ++ x ∷ []) in
+    let P : SampleSource R → Type 0 = λ v. HasRead bytes v left ps (read ++ x ∷ []) in
     let tail = s.tail.items in
     let d = drop t.at tail in
-    let next₂ : drop s.at tail ≡ x ∷ d = next ∙ ap (λ (v : Source R). x ∷ drop t.at v.tail.items) same in
+    let next₂ : drop s.at tail ≡ x ∷ d = next ∙ ap (λ (v : SampleSource R). x ∷ drop t.at v.tail.items) same in
     let both : (take s.at tail ++ x ∷ []) ++ d ≡ take t.at tail ++ d = append_assoc (take s.at tail) (x ∷ []) d ∙ ap (λ (l : List Sample). take s.at tail ++ l) (sym next₂) ∙ take-append-drop s.at tail ∙ sym (take-append-drop t.at tail) in
     let more : take s.at tail ++ x ∷ [] ≡ take t.at tail = append_cancel_right (take s.at tail ++ x ∷ []) (take t.at tail) d both in
     subst P (sym same) (record {
@@ -225,9 +225,9 @@ read_of_tail {R} bytes s t left ps read x same none last next h =
       order = inr (last, none);
     })
 
-pub read_same : {R : Type 0} (bytes : R → List ℕ) (s t : Source R) (left left₂ : ℕ) (ps : List NamedBytes) (read : List Sample) → t ≡ s → left ≡ left₂ → HasRead bytes s left ps read → HasRead bytes t left₂ ps read
+pub read_same : {R : Type 0} (bytes : R → List ℕ) (s t : SampleSource R) (left left₂ : ℕ) (ps : List NamedBytes) (read : List Sample) → t ≡ s → left ≡ left₂ → HasRead bytes s left ps read → HasRead bytes t left₂ ps read
 read_same {R} bytes s t left left₂ ps read same count h =
-    let P : Source R → Type 0 = λ v. HasRead bytes v left₂ ps read in
+    let P : SampleSource R → Type 0 = λ v. HasRead bytes v left₂ ps read in
     let N : ℕ → Type 0 = λ n. HasRead bytes s n ps read in
     subst P (sym same) (subst N count h)
 
@@ -235,20 +235,20 @@ read_same {R} bytes s t left left₂ ps read same count h =
 
 module _ {P R : Type 0} (bytes : R → List ℕ) (opened : P → List NamedBytes → P → Type 0) where
   -- so much was read before anything
-  pub reads_first : ((a : P) → opened a [] a) → (a : P) (ps : List NamedBytes) (left : ℕ) (s : Source R) (read : List Sample) → HasRead bytes s left ps read → ReadsOn bytes opened a ps a left s read
+  pub reads_first : ((a : P) → opened a [] a) → (a : P) (ps : List NamedBytes) (left : ℕ) (s : SampleSource R) (read : List Sample) → HasRead bytes s left ps read → ReadsOn bytes opened a ps a left s read
   reads_first none a ps left s read h = let Q : List NamedBytes → Type 0 = λ l. HasRead bytes s left l read in record { more = []; were = none a; has = subst Q (sym (append-nil ps)) h }
 
   -- and so much was opened then
-  pub reads_then : ((a b c : P) (xs ys : List NamedBytes) → opened a xs b → opened b ys c → opened a (xs ++ ys) c) → (a b c : P) (ps more : List NamedBytes) (left left₂ : ℕ) (s t : Source R) (read read₂ : List Sample) → opened b more c → (r : ReadsOn bytes opened a ps b left s read)
+  pub reads_then : ((a b c : P) (xs ys : List NamedBytes) → opened a xs b → opened b ys c → opened a (xs ++ ys) c) → (a b c : P) (ps more : List NamedBytes) (left left₂ : ℕ) (s t : SampleSource R) (read read₂ : List Sample) → opened b more c → (r : ReadsOn bytes opened a ps b left s read)
       → (HasRead bytes s left (ps ++ r.more) read → HasRead bytes t left₂ ((ps ++ r.more) ++ more) read₂) → ReadsOn bytes opened a ps c left₂ t read₂
   reads_then on a b c ps more left left₂ s t read read₂ were r next = let Q : List NamedBytes → Type 0 = λ l. HasRead bytes t left₂ l read₂ in record { more = r.more ++ more; were = on a b c r.more more r.were were; has = subst Q (append_assoc ps r.more more) (next r.has) }
 
   -- nothing more was opened
-  pub reads_still : (a b : P) (ps : List NamedBytes) (left : ℕ) (s t : Source R) (read read₂ : List Sample) → (r : ReadsOn bytes opened a ps b left s read) → (HasRead bytes s left (ps ++ r.more) read → HasRead bytes t left (ps ++ r.more) read₂) → ReadsOn bytes opened a ps b left t read₂
+  pub reads_still : (a b : P) (ps : List NamedBytes) (left : ℕ) (s t : SampleSource R) (read read₂ : List Sample) → (r : ReadsOn bytes opened a ps b left s read) → (HasRead bytes s left (ps ++ r.more) read → HasRead bytes t left (ps ++ r.more) read₂) → ReadsOn bytes opened a ps b left t read₂
   reads_still a b ps left s t read read₂ r next = record { more = r.more; were = r.were; has = next r.has }
 
   -- a read of the open piece that isn't at its end
-  pub pulls_more : (a b : P) (ps : List NamedBytes) (left : ℕ) (s : Source R) (o : Option (OpenPiece R)) (read : List Sample) (line : List ℕ) (r : Merged R) → ((t : ℕ) → r ≡ Line t → open_pieces bytes o ≡ open_pieces bytes s.piece) → (s.piece ≡ None → r ≡ End) → ((xs : List Sample) → HasReadOpen bytes s.ty s.piece xs → ReadsNext bytes s.ty s.piece o xs line r) → (r ≡ End → ⊥)
+  pub pulls_more : (a b : P) (ps : List NamedBytes) (left : ℕ) (s : SampleSource R) (o : Option (OpenPiece R)) (read : List Sample) (line : List ℕ) (r : Merged R) → ((t : ℕ) → r ≡ Line t → open_pieces bytes o ≡ open_pieces bytes s.piece) → (s.piece ≡ None → r ≡ End) → ((xs : List Sample) → HasReadOpen bytes s.ty s.piece xs → ReadsNext bytes s.ty s.piece o xs line r) → (r ≡ End → ⊥)
       → ReadsOn bytes opened a ps b left s read → PullsNext bytes opened a ps b left read (record s { piece = o }) line r
   pulls_more a b ps left s o read line (Line t) same some next more on =
       let not_none : s.piece ≡ None → ⊥ = λ is. (let end : Line t ≡ End = some is in absurd (cc)) in
@@ -260,12 +260,12 @@ module _ {P R : Type 0} (bytes : R → List ℕ) (opened : P → List NamedBytes
   pulls_more a b ps left s o read line Memory same some next more on = tt
 
   -- a read of the tail
-  pub pulls_of_tail : (a b : P) (ps : List NamedBytes) (left : ℕ) (s t : Source R) (read : List Sample) (line : List ℕ) (r : Merged R) → t ≡ record s { at = t.at } → s.piece ≡ None → left ≡ 0 → ((m : ℕ) → r ≡ Line m → drop s.at s.tail.items ≡ record { t = m; line = line } ∷ drop t.at t.tail.items)
+  pub pulls_of_tail : (a b : P) (ps : List NamedBytes) (left : ℕ) (s t : SampleSource R) (read : List Sample) (line : List ℕ) (r : Merged R) → t ≡ record s { at = t.at } → s.piece ≡ None → left ≡ 0 → ((m : ℕ) → r ≡ Line m → drop s.at s.tail.items ≡ record { t = m; line = line } ∷ drop t.at t.tail.items)
       → (r ≡ End → (drop s.at s.tail.items ≡ []) × (t ≡ s)) → ReadsOn bytes opened a ps b left s read → PullsNext bytes opened a ps b left read t line r
   pulls_of_tail a b ps left s t read line (Line m) same none last next end on = reads_still a b ps left s t read (read ++ record { t = m; line = line } ∷ []) on (read_of_tail bytes s t left (ps ++ on.more) read (record { t = m; line = line }) same none last (next m refl))
   pulls_of_tail a b ps left s t read line End same none last next end on =
       let e = end refl in
-      let A : Source R → Type 0 = λ v. HasReadAll bytes v left in
+      let A : SampleSource R → Type 0 = λ v. HasReadAll bytes v left in
       (reads_still a b ps left s t read read on (read_same bytes s t left left (ps ++ on.more) read e.1 refl), subst A (sym e.1) (record { no_piece = last; none_open = none; tail = e.0 }))
   pulls_of_tail a b ps left s t read line (ReadFault f) same none last next end on = tt
   pulls_of_tail a b ps left s t read line (Damaged name at) same none last next end on = tt
@@ -273,7 +273,7 @@ module _ {P R : Type 0} (bytes : R → List ℕ) (opened : P → List NamedBytes
   pulls_of_tail a b ps left s t read line Memory same none last next end on = tt
 
   -- a failure
-  pub pulls_none : (a b : P) (ps : List NamedBytes) (left : ℕ) (s : Source R) (read : List Sample) (line : List ℕ) (r : Merged R) → IsFailure r → PullsNext bytes opened a ps b left read s line r
+  pub pulls_none : (a b : P) (ps : List NamedBytes) (left : ℕ) (s : SampleSource R) (read : List Sample) (line : List ℕ) (r : Merged R) → IsFailure r → PullsNext bytes opened a ps b left read s line r
   pulls_none a b ps left s read line (Line t) failed = absurd failed
   pulls_none a b ps left s read line End failed = absurd failed
   pulls_none a b ps left s read line (ReadFault f) failed = tt

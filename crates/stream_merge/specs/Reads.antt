@@ -14,7 +14,7 @@ use Rattle.pb_file.specs.Skip.{HasSkipped, from_place}
 use Rattle.stream_merge.specs.declared.pieces.Merged.{Merged}
 use Rattle.stream_merge.specs.declared.pieces.Merged.TheVariants.{Line, End}
 use Rattle.stream_merge.specs.declared.source.OpenPiece.{OpenPiece}
-use Rattle.stream_merge.specs.declared.source.Source.{Source}
+use Rattle.stream_merge.specs.declared.source.SampleSource.{SampleSource}
 use Rattle.stream_merge.specs.declared.merge.Merge.{Merge}
 use Rattle.stream_merge.specs.Pieces.{NamedBytes}
 use Rattle.stream_merge.specs.Source.{open_pieces}
@@ -108,7 +108,7 @@ module _ {R : Type 0} (bytes : R → List ℕ) where
 
   -- Of these pieces, the last of which is open or none is, and of the tail these samples were read; so many pieces are left. The tail comes
   -- behind all of them.
-  pub record HasRead (s : Source R) (left : ℕ) (pieces : List NamedBytes) (read : List Sample) : Type 0 where
+  pub record HasRead (s : SampleSource R) (left : ℕ) (pieces : List NamedBytes) (read : List Sample) : Type 0 where
     pub done : List NamedBytes
     pub lists : List (List Sample)
     pub here : List Sample
@@ -119,20 +119,20 @@ module _ {R : Type 0} (bytes : R → List ℕ) where
     pub order : (s.at ≡ 0) ⊎ ((left ≡ 0) × (s.piece ≡ None))
 
   -- nothing is left to be read
-  pub record HasReadAll (s : Source R) (left : ℕ) : Type 0 where
+  pub record HasReadAll (s : SampleSource R) (left : ℕ) : Type 0 where
     pub no_piece : left ≡ 0
     pub none_open : s.piece ≡ None
     pub tail : drop s.at s.tail.items ≡ []
 
   module _ {P : Type 0} (opened : P → List NamedBytes → P → Type 0) (old : P) (pieces : List NamedBytes) (new : P) (left : ℕ) where
     -- some more pieces were opened, and with these all that was read is this
-    pub record ReadsOn (s : Source R) (read : List Sample) : Type 0 where
+    pub record ReadsOn (s : SampleSource R) (read : List Sample) : Type 0 where
       pub more : List NamedBytes
       pub were : opened old more new
       pub has : HasRead s left (pieces ++ more) read
 
     -- what a read of the next line came to, where these were read before
-    abbrev pub PullsNext : List Sample → Source R → List ℕ → Merged R → Type 0
+    abbrev pub PullsNext : List Sample → SampleSource R → List ℕ → Merged R → Type 0
     PullsNext read s line (Line t) = ReadsOn s (read ++ record { t = t; line = line } ∷ [])
     PullsNext read s line End = ReadsOn s read × HasReadAll s left
     PullsNext read s line _ = Unit {0}

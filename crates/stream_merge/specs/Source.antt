@@ -17,7 +17,7 @@ use Rattle.pb_file.specs.Skip.{HasSkipped, from_place}
 use Rattle.stream_merge.specs.declared.pieces.Merged.{Merged}
 use Rattle.stream_merge.specs.declared.pieces.Merged.TheVariants.{Line, End, ReadFault, Damaged, Spent, Memory}
 use Rattle.stream_merge.specs.declared.source.OpenPiece.{OpenPiece}
-use Rattle.stream_merge.specs.declared.source.Source.{Source}
+use Rattle.stream_merge.specs.declared.source.SampleSource.{SampleSource}
 use Rattle.stream_merge.specs.Pieces.{NamedBytes, Failure, Faulted, OutOfActs, OutOfMemory}
 use Rattle.stream_merge.specs.Reading.{AreReadAs, IsDamaged}
 use Rattle.stream_merge.specs.Beginning.{early_count, IsPlaced, AnswersAs}
@@ -86,7 +86,7 @@ passed {R} (Some p) t len = Some (record p { walk = record p.walk { place = p.wa
 -- ALL THAT IS TO COME
 
 -- what may be yet to be read: these pieces are left behind the open one
-pub record Coming {R : Type 0} (bytes : R → List ℕ) (s : Source R) (left : List NamedBytes) (xs : List Sample) : Type 0 where
+pub record Coming {R : Type 0} (bytes : R → List ℕ) (s : SampleSource R) (left : List NamedBytes) (xs : List Sample) : Type 0 where
   pub here : List Sample
   pub lists : List (List Sample)
   pub begins : IsOpenAs bytes s.piece here
@@ -94,7 +94,7 @@ pub record Coming {R : Type 0} (bytes : R → List ℕ) (s : Source R) (left : L
   pub all : xs ≡ here ++ (flat_map (λ (l : List Sample). l) lists ++ drop s.at s.tail.items)
 
 -- some of the pieces are left, and behind what was read these samples may come
-pub record StillComing {R : Type 0} (bytes : R → List ℕ) (left : List NamedBytes → Type 0) (s : Source R) (xs : List Sample) : Type 0 where
+pub record StillComing {R : Type 0} (bytes : R → List ℕ) (left : List NamedBytes → Type 0) (s : SampleSource R) (xs : List Sample) : Type 0 where
   pub pieces : List NamedBytes
   pub left_is : left pieces
   pub coming : Coming bytes s pieces xs
@@ -129,7 +129,7 @@ pub record TakesFew (left : List NamedBytes → Type 0) (pieces : List NamedByte
 
 -- A line was read, where these were to come. A step is counted beside the room, but not for a sample that isn't from n on, or is earlier
 -- than the interval.
-pub record PullsLine {R : Type 0} (bytes : R → List ℕ) (left : List NamedBytes → Type 0) (n : ℕ) (q : Query) (pieces : List NamedBytes) (xs : List Sample) (room : ℕ) (s : Source R) (sample : Sample) (steps : ℕ) : Type 0 where
+pub record PullsLine {R : Type 0} (bytes : R → List ℕ) (left : List NamedBytes → Type 0) (n : ℕ) (q : Query) (pieces : List NamedBytes) (xs : List Sample) (room : ℕ) (s : SampleSource R) (sample : Sample) (steps : ℕ) : Type 0 where
   pub rest : List Sample
   pub same : AnswersAs n q xs (sample ∷ rest)
   pub still : StillComing bytes left s rest
@@ -139,14 +139,14 @@ pub record PullsLine {R : Type 0} (bytes : R → List ℕ) (left : List NamedByt
   pub free : (sample.t < n) ⊎ (sample.t < q.from) → HasTaken pieces still.pieces room (steps + early_count q.from still.coming.here)
 
 -- none was left, where these were to come
-pub record PullsEnd {R : Type 0} (bytes : R → List ℕ) (left : List NamedBytes → Type 0) (n : ℕ) (q : Query) (pieces : List NamedBytes) (xs : List Sample) (room : ℕ) (s : Source R) (steps : ℕ) : Type 0 where
+pub record PullsEnd {R : Type 0} (bytes : R → List ℕ) (left : List NamedBytes → Type 0) (n : ℕ) (q : Query) (pieces : List NamedBytes) (xs : List Sample) (room : ℕ) (s : SampleSource R) (steps : ℕ) : Type 0 where
   pub same : AnswersAs n q xs []
   pub still : StillComing bytes left s []
   pub placed : IsPlaced n q.from still.coming.here
   pub taken : HasTaken pieces still.pieces room (steps + early_count q.from still.coming.here)
 
 -- what a read of the next line came to, where these were to come
-abbrev pub Pulls : {R : Type 0} → (R → List ℕ) → (List NamedBytes → Type 0) → ℕ → Query → List NamedBytes → List Sample → ℕ → Source R → List ℕ → ℕ → Merged R → Type 0
+abbrev pub Pulls : {R : Type 0} → (R → List ℕ) → (List NamedBytes → Type 0) → ℕ → Query → List NamedBytes → List Sample → ℕ → SampleSource R → List ℕ → ℕ → Merged R → Type 0
 Pulls {R} bytes left n q pieces xs room s line steps (Line t) = PullsLine bytes left n q pieces xs room s (record { t = t; line = line }) steps
 Pulls {R} bytes left n q pieces xs room s line steps End = PullsEnd bytes left n q pieces xs room s steps
 Pulls {R} bytes left n q pieces xs room s line steps _ = TakesFew left pieces (room + 1) steps
@@ -260,5 +260,5 @@ unread_in {R} None = 0
 unread_in {R} (Some p) = p.walk.len - p.walk.place
 
 -- so many pieces are left: a piece counts more than its bytes
-abbrev pub unread : {R : Type 0} → ℕ → Source R → ℕ
+abbrev pub unread : {R : Type 0} → ℕ → SampleSource R → ℕ
 unread {R} count s = count * 2 ^ 64 + unread_in s.piece + length (drop s.at s.tail.items)

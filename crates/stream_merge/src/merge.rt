@@ -15,7 +15,7 @@ ghost use Rattle.stream_merge.specs.Merging.{IsGoing, IsDue, IsEarly, Rest, Hold
 ghost use Rattle.stream_merge.specs.Merging.{Answers, Gives, kept_of, line_from, remaining};
 
 use crate::pieces::{Merged, Pieces};
-use crate::source::Source;
+use crate::source::SampleSource;
 use disk_model::ReadAt;
 use pb_file::Steps;
 use pb_wire::PayloadType;
@@ -28,7 +28,7 @@ use std::sync::ledger::Ledger;
 #[derive(Drop)]
 pub struct Merge<R: ReadAt> {
     query: Query,
-    source: Source<R>,
+    source: SampleSource<R>,
     // The moment of the last sample that was taken: of the others those count that are later.
     last: Option<u64>,
     // A sample that was taken and not given yet: the last one earlier than the interval, until one that
@@ -52,7 +52,7 @@ impl<R: ReadAt> Merge<R> {
     {
         Merge {
             query,
-            source: Source::new(alloc, ty, tail.into_vec()),
+            source: SampleSource::new(alloc, ty, tail.into_vec()),
             last: None,
             kept: None,
             kept_line: Vec::new(alloc),

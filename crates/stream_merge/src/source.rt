@@ -34,7 +34,7 @@ pub(crate) struct OpenPiece<R: ReadAt> {
 
 // The samples that are yet to be read: of the open piece, of the pieces behind it, and of the tail.
 #[derive(Drop)]
-pub(crate) struct Source<R: ReadAt> {
+pub(crate) struct SampleSource<R: ReadAt> {
     alloc: Global,
     ty: PayloadType,
     piece: Option<OpenPiece<R>>,
@@ -42,12 +42,12 @@ pub(crate) struct Source<R: ReadAt> {
     at: usize,
 }
 
-impl<R: ReadAt> Source<R> {
+impl<R: ReadAt> SampleSource<R> {
     // Nothing is read yet.
-    pub(crate) fn new(alloc: Global, ty: PayloadType, tail: Vec<Sample>) -> Source<R>
+    pub(crate) fn new(alloc: Global, ty: PayloadType, tail: Vec<Sample>) -> SampleSource<R>
         ensures { result ≡ record { alloc = alloc; ty = ty; piece = None; tail = tail; at = 0 } }
     {
-        Source {
+        SampleSource {
             alloc,
             ty,
             piece: None,

@@ -5,7 +5,7 @@ use Rattle.std.proofs.lemmas.List.{length-map}
 use Rattle.std.proofs.lemmas.List.Elements.{All-map}
 use Rattle.std.proofs.lemmas.List.Sums.{count_by-le-length}
 use Rattle.std.proofs.lemmas.Option.{slice_get-get_or}
-use Rattle.etl_mover.specs.Move.{MoveState}
+use Rattle.etl_mover.specs.Move.{Moving}
 use Rattle.etl_rules.specs.Choosing.{chosen, ripe}
 use Rattle.moves.specs.Parts.{covered, end_of, is_covered}
 use Rattle.moves.specs.Series.{IsToMove, of_series, parts_in}
@@ -23,8 +23,8 @@ use Rattle.tier_store.specs.Beginning.{AreNested, IsChoice, BeginsRow, IsBegun, 
 use Rattle.tier_store.specs.Change.{Has}
 use Rattle.tier_store.specs.Seen.{Seen, granularities}
 use Rattle.tier_store.specs.Stores.{Stores, list_at}
-use Rattle.tier_store.specs.declared.moving.MoveBegun.{MoveBegun}
-use Rattle.tier_store.specs.declared.moving.MoveBegun.TheVariants.{Begun, Running, Nothing}
+use Rattle.tier_store.specs.declared.moving.StoreMove.{StoreMove}
+use Rattle.tier_store.specs.declared.moving.StoreMove.TheVariants.{Begun, Running, Nothing}
 use Rattle.tier_store.proofs.Places.{granularity_at}
 use Rattle.tier_store.proofs.Removals.{lists_in_order}
 
@@ -104,7 +104,7 @@ module _ (tells : Bool) (at : Seen) (held : Stores) (has : Has tells at held) (i
       }
 
   -- and so is the move that begins
-  begins_held : (row n : ℕ) (move : MoveState) → AreNested i (granularities at.manifests) → BeginsRow at.catalogue.rows source destination row n move → BeginsMove tells i at.manifests held row n move
+  begins_held : (row n : ℕ) (move : Moving) → AreNested i (granularities at.manifests) → BeginsRow at.catalogue.rows source destination row n move → BeginsMove tells i at.manifests held row n move
   begins_held row n move nested is =
       let own = is.own in
       let begun = is.begun in
@@ -124,7 +124,7 @@ module _ (tells : Bool) (at : Seen) (held : Stores) (has : Has tells at held) (i
         enters = λ told. record { row = own; stands = own_row; name = sym begun.name; store = begun.to (i + 1 + 1) (omega (arith, low)) ((has.disk told).each (i + 1) destination to).named };
       }
 
-  pub says_held : (rule : MoveRule) (running : ℕ → Option ℕ) (b : MoveBegun) → AreNested i (granularities at.manifests) → IsBegun rule running at.catalogue.rows source destination b → SaysBegun tells i rule running at.manifests b held
+  pub says_held : (rule : MoveRule) (running : ℕ → Option ℕ) (b : StoreMove) → AreNested i (granularities at.manifests) → IsBegun rule running at.catalogue.rows source destination b → SaysBegun tells i rule running at.manifests b held
   says_held rule running (Begun row n move) nested is = (choice_held rule running (length at.catalogue.rows) (Begin row n) refl is.0, begins_held row n move nested is.1)
   says_held rule running (Running number) nested is = choice_held rule running (length at.catalogue.rows) (to_move.Running number) refl is
   says_held rule running Nothing nested is = choice_held rule running (length at.catalogue.rows) to_move.Nothing refl is

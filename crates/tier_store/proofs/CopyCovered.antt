@@ -4,7 +4,7 @@ use Rattle.std.specs.Prelude.{nat_le, slice_get, IsTrue, nat_eq, All}
 use Rattle.std.specs.List.{AllByRecursion}
 use Rattle.std.proofs.lemmas.Bool.{cond-false, cond-true, cases_lt, eqb-false, eqb-true}
 use Rattle.std.proofs.lemmas.Option.{same_Some}
-use Rattle.etl_mover.specs.Move.{MoveState, FewPending, IsMove, of_series, StillLists, part_file}
+use Rattle.etl_mover.specs.Move.{Moving, FewPending, IsMove, of_series, StillLists, part_file}
 use Rattle.partition_names.specs.declared.part.Part.{Part}
 use Rattle.partition_names.specs.Part.{HoldsMoment}
 use Rattle.series_model.specs.Series.{since, end_of}
@@ -51,14 +51,14 @@ part_there [] (y ∷ ys) k p same here = absurd (cc (same))
 part_there (x ∷ xs) (y ∷ ys) zero p same here = let one : x.part ≡ y.part = cc (same) in (x, refl, one ∙ ap (λ (e : Entry). e.part) (same_Some y p here))
 part_there (x ∷ xs) (y ∷ ys) (suc k) p same here = part_there xs ys k p (cc (same)) here
 
-pub went_back : (from : ℕ) (tells : Bool) (all new : SeenAll) (move mid m : MoveState) (files : List Filed) (held : Stores) → m ≡ record mid { at = move.at } → PassesParts move mid → take move.at mid.parts ≡ take move.at move.parts → map (λ (e : Entry). e.part) mid.parts ≡ map (λ (e : Entry). e.part) move.parts → CopiesBeside from tells all move files held → CopiesFurther from tells new mid files held → CopiesBeside from tells new m files held
-went_back from tells all new move mid m files held m_is passes fronts same is then = subst (λ (x : MoveState). CopiesBeside from tells new x files held) (sym m_is) back
+pub went_back : (from : ℕ) (tells : Bool) (all new : SeenAll) (move mid m : Moving) (files : List Filed) (held : Stores) → m ≡ record mid { at = move.at } → PassesParts move mid → take move.at mid.parts ≡ take move.at move.parts → map (λ (e : Entry). e.part) mid.parts ≡ map (λ (e : Entry). e.part) move.parts → CopiesBeside from tells all move files held → CopiesFurther from tells new mid files held → CopiesBeside from tells new m files held
+went_back from tells all new move mid m files held m_is passes fronts same is then = subst (λ (x : Moving). CopiesBeside from tells new x files held) (sym m_is) back
   where
     pending : mid.pending ≡ move.pending
-    pending = ap (λ (x : MoveState). x.pending) passes.is
+    pending = ap (λ (x : Moving). x.pending) passes.is
 
     series : mid.series ≡ move.series
-    series = ap (λ (x : MoveState). x.series) passes.is
+    series = ap (λ (x : Moving). x.series) passes.is
 
     most : FewPending (record mid { at = move.at })
     most = elim is.runs.running.most [
@@ -89,7 +89,7 @@ went_back from tells all new move mid m files held m_is passes fronts same is th
       heads = then.heads;
       lengths = ap (λ (k : ℕ). map (λ (f : Filed). f.entry.len) (oldest from k move.at held)) series ∙ (is.lengths ∙ ap (map (λ (e : Entry). e.len)) (sym fronts));
       last = then.last;
-      passed = λ stands. ap (λ (x : MoveState). left_of from x move.at files held) passes.is ∙ is.passed stands;
+      passed = λ stands. ap (λ (x : Moving). left_of from x move.at files held) passes.is ∙ is.passed stands;
       told = is.told;
     }
 
@@ -152,20 +152,20 @@ each_none n (f ∷ fs) none = both (since n f.samples) (since n (of_parts fs)) (
     both [] ys is rest = (refl, rest is)
     both (x ∷ xs) ys is rest = absurd (cc (is))
 
-module _ (tells : Bool) (all : SeenAll) (from : ℕ) (move mid : MoveState) (files : List Filed) (held : Stores) (has : Has tells all.stores held) (is : CopiesBeside from tells all move files held) (is_mid : CopiesFurther from tells all mid files held) (passes : PassesParts move mid) (stand : LimboStands all.stores all.limbo) (retired : List Filed) (whole : AreWhole (from + 1) tells all.stores all.limbo held.stands retired)
+module _ (tells : Bool) (all : SeenAll) (from : ℕ) (move mid : Moving) (files : List Filed) (held : Stores) (has : Has tells all.stores held) (is : CopiesBeside from tells all move files held) (is_mid : CopiesFurther from tells all mid files held) (passes : PassesParts move mid) (stand : LimboStands all.stores all.limbo) (retired : List Filed) (whole : AreWhole (from + 1) tells all.stores all.limbo held.stands retired)
     (m : ManifestState) (here : slice_get all.stores.manifests from ≡ Some m) (covered : AreCovered all.limbo (from + 2) move (of_series move.series m.entries) move.at mid.at) where
   abbrev row_files : List Filed
   row_files = of_row move.series (list_at from held)
 
   same_series : mid.series ≡ move.series
-  same_series = ap (λ (x : MoveState). x.series) passes.is
+  same_series = ap (λ (x : Moving). x.series) passes.is
 
   listed : (i : ℕ) (f : Filed) → slice_get row_files i ≡ Some f → slice_get (of_series move.series m.entries) i ≡ Some f.entry
   listed = entry_here tells all from move files held has (further from tells all move files held is) m here
 
   -- what is said by the move is said by the one that has passed parts
   uncovered_mid : (q : Filed) → IsNextPart from mid held q → mid.at < length move.files → IsUncovered all.limbo (from + 2) mid.series (last_of mid.pending mid.listed) q.entry
-  uncovered_mid q next low = subst (λ (x : MoveState). IsUncovered all.limbo (from + 2) x.series (last_of x.pending x.listed) q.entry) (sym passes.is)
+  uncovered_mid q next low = subst (λ (x : Moving). IsUncovered all.limbo (from + 2) x.series (last_of x.pending x.listed) q.entry) (sym passes.is)
       (covered.next q.entry low (listed mid.at q (ap (λ (k : ℕ). slice_get (of_row k (list_at from held)) mid.at) (sym same_series) ∙ next.here)))
 
   module _ (stands : IsTrue held.stands) where
@@ -189,12 +189,12 @@ module _ (tells : Bool) (all : SeenAll) (from : ℕ) (move mid : MoveState) (fil
           | inl before ↦ inl (subst (λ (k : ℕ). since k f.samples ≡ []) n_same (all_at (λ (x : Filed). since (end_of (samples_ahead (from + 1) move files held)) x.samples ≡ []) move.at row_files (each_none (end_of (samples_ahead (from + 1) move files held)) (take move.at row_files) (is.passed stands)) i f before at))
           | inr behind ↦
               let e = covered.each i f.entry behind low (listed i f at) in
-              inr (covered_none tells all from mid files held has is_mid.runs is_mid.last stand retired whole stands is_mid.runs.fine f (filed_here tells all from mid files held has is_mid stands i f (ap (λ (k : ℕ). slice_get (of_row k (list_at from held)) i) same_series ∙ at)) refl (subst (λ (x : MoveState). IsCovered all.limbo (from + 2) x.series (last_of x.pending x.listed) f.entry) (sym passes.is) e))
+              inr (covered_none tells all from mid files held has is_mid.runs is_mid.last stand retired whole stands is_mid.runs.fine f (filed_here tells all from mid files held has is_mid stands i f (ap (λ (k : ℕ). slice_get (of_row k (list_at from held)) i) same_series ∙ at)) refl (subst (λ (x : Moving). IsCovered all.limbo (from + 2) x.series (last_of x.pending x.listed) f.entry) (sym passes.is) e))
         ]
 
     -- something of the part is later, since something of the first one is
     later_mid : move.at ≤ mid.at → HasLater from move held → (q : Filed) → IsNextPart from mid held q → since (end_after (last_of mid.pending mid.listed)) q.samples ≢ []
-    later_mid low later q next = subst (λ (k : ℕ). since k q.samples ≢ []) (sym (ap (λ (x : MoveState). end_after (last_of x.pending x.listed)) passes.is)) (by_place (same_cases move.at mid.at))
+    later_mid low later q next = subst (λ (k : ℕ). since k q.samples ≢ []) (sym (ap (λ (x : Moving). end_after (last_of x.pending x.listed)) passes.is)) (by_place (same_cases move.at mid.at))
       where
         q_at : slice_get row_files mid.at ≡ Some q
         q_at = ap (λ (k : ℕ). slice_get (of_row k (list_at from held)) mid.at) (sym same_series) ∙ next.here
@@ -288,10 +288,10 @@ all_drop P (suc i) (suc n) (x ∷ xs) each = all_drop P i n xs (λ j f low high 
 
 -- THE MOVE THEN
 
-pub rest_copied : (from : ℕ) (tells : Bool) (all : SeenAll) (move new : MoveState) (files : List Filed) (held : Stores) → (is : CopiesBeside from tells all move files held) → PassesRest move new → IsMove is.runs.fine new → (IsTrue held.stands → All (IsAllLater (from + 1) move files held) (drop move.at (oldest from move.series (length move.parts) held))) → HasCopiedAll from tells all new files held
-rest_copied from tells all move new files held is same run later = subst (λ (x : MoveState). HasCopiedAll from tells all x files held) (sym same) done
+pub rest_copied : (from : ℕ) (tells : Bool) (all : SeenAll) (move new : Moving) (files : List Filed) (held : Stores) → (is : CopiesBeside from tells all move files held) → PassesRest move new → IsMove is.runs.fine new → (IsTrue held.stands → All (IsAllLater (from + 1) move files held) (drop move.at (oldest from move.series (length move.parts) held))) → HasCopiedAll from tells all new files held
+rest_copied from tells all move new files held is same run later = subst (λ (x : Moving). HasCopiedAll from tells all x files held) (sym same) done
   where
-    m : MoveState
+    m : Moving
     m = record move { parts = with_heads move.at move.parts; at = length move.parts }
 
     abbrev_long : length (with_heads move.at move.parts) ≡ length move.parts
@@ -317,7 +317,7 @@ rest_copied from tells all move new files held is same run later = subst (λ (x 
 
 -- WHAT IS LEFT THEN
 
-module _ (tells : Bool) (all : SeenAll) (from : ℕ) (move : MoveState) (files : List Filed) (held : Stores) (has : Has tells all.stores held) (is : CopiesFurther from tells all move files held) (stand : LimboStands all.stores all.limbo) (retired : List Filed) (whole : AreWhole (from + 1) tells all.stores all.limbo held.stands retired) (stands : IsTrue held.stands)
+module _ (tells : Bool) (all : SeenAll) (from : ℕ) (move : Moving) (files : List Filed) (held : Stores) (has : Has tells all.stores held) (is : CopiesFurther from tells all move files held) (stand : LimboStands all.stores all.limbo) (retired : List Filed) (whole : AreWhole (from + 1) tells all.stores all.limbo held.stands retired) (stands : IsTrue held.stands)
     (m : ManifestState) (here : slice_get all.stores.manifests from ≡ Some m) where
   abbrev own_files : List Filed
   own_files = of_row move.series (list_at from held)
@@ -365,20 +365,20 @@ from_all P (suc i) (suc n) (x ∷ xs) all (suc j) f low high at = from_all P i n
 
 -- WHAT MAY HAVE CHANGED OF THE MOVE
 
-pub moves_rest : (old new : MoveState) → PassesRest old new → MovesOn old new
+pub moves_rest : (old new : Moving) → PassesRest old new → MovesOn old new
 moves_rest old new rest = record {
-  is = rest ∙ sym (ap (λ (x : MoveState). record old { parts = x.parts; at = x.at; pending = x.pending }) rest);
-  long = ap (λ (x : MoveState). length x.parts) rest ∙ heads_long old.at old.parts;
+  is = rest ∙ sym (ap (λ (x : Moving). record old { parts = x.parts; at = x.at; pending = x.pending }) rest);
+  long = ap (λ (x : Moving). length x.parts) rest ∙ heads_long old.at old.parts;
 }
 
-pub moves_twice : (old mid new : MoveState) → MovesOn old mid → MovesOn mid new → MovesOn old new
+pub moves_twice : (old mid new : Moving) → MovesOn old mid → MovesOn mid new → MovesOn old new
 moves_twice old mid new one two = record {
-  is = two.is ∙ ap (λ (x : MoveState). record x { parts = new.parts; at = new.at; pending = new.pending }) one.is;
+  is = two.is ∙ ap (λ (x : Moving). record x { parts = new.parts; at = new.at; pending = new.pending }) one.is;
   long = two.long ∙ one.long;
 }
 
 -- how a step ends leaves all else of the move
-pub moves_ended : (k : ℕ) (rest_covered : Bool) (mid final : MoveState) (r end : CopyEnd)
+pub moves_ended : (k : ℕ) (rest_covered : Bool) (mid final : Moving) (r end : CopyEnd)
     → (end ≡ ends.More → rest_covered ≡ true → k < mid.at → (r ≡ ends.Copied) × PassesRest mid final)
     → (end ≡ ends.More → (rest_covered ≡ true → k < mid.at → ⊥) → (r ≡ ends.More) × (final ≡ mid))
     → ((end ≡ ends.More → ⊥) → (r ≡ end) × (final ≡ mid))
@@ -406,11 +406,11 @@ zero_least n = omega arith
 -- THE PARTS
 
 -- there is a file for each part
-pub kept_long : (fine : Granularity) (move : MoveState) → IsMove fine move → length move.files ≡ length move.parts
+pub kept_long : (fine : Granularity) (move : Moving) → IsMove fine move → length move.files ≡ length move.parts
 kept_long fine move run = ap length run.files ∙ length-map move.parts (part_file move.source move.name)
 
 -- and the move's own store lists as many
-pub listed_all : (tells : Bool) (all : SeenAll) (from : ℕ) (move : MoveState) (files : List Filed) (held : Stores) → Has tells all.stores held → CopiesFurther from tells all move files held → (m : ManifestState) → slice_get all.stores.manifests from ≡ Some m → length move.files ≤ length (of_series move.series m.entries)
+pub listed_all : (tells : Bool) (all : SeenAll) (from : ℕ) (move : Moving) (files : List Filed) (held : Stores) → Has tells all.stores held → CopiesFurther from tells all move files held → (m : ManifestState) → slice_get all.stores.manifests from ≡ Some m → length move.files ≤ length (of_series move.series m.entries)
 listed_all tells all from move files held has is m here =
     let same = ap (λ (es : List Entry). length (of_series move.series es)) (has.known.each from m here).entries ∙ (ap length (filter-map (λ (e : Entry). nat_eq e.series move.series) (list_at from held)) ∙ length-map (of_row move.series (list_at from held)) entry_of) in
     let long = enough tells all from move files held has is in
@@ -426,7 +426,7 @@ test_false b p n same is all = eqb-false b p is (all ∙ sym same)
 
 -- HOW IT ENDS
 
-module _ (tells : Bool) (all : SeenAll) (from : ℕ) (move : MoveState) (files : List Filed) (held : Stores) (has : Has tells all.stores held) (is : CopiesBeside from tells all move files held) (stand : LimboStands all.stores all.limbo) (retired : List Filed) (whole : AreWhole (from + 1) tells all.stores all.limbo held.stands retired)
+module _ (tells : Bool) (all : SeenAll) (from : ℕ) (move : Moving) (files : List Filed) (held : Stores) (has : Has tells all.stores held) (is : CopiesBeside from tells all move files held) (stand : LimboStands all.stores all.limbo) (retired : List Filed) (whole : AreWhole (from + 1) tells all.stores all.limbo held.stands retired)
     (m : ManifestState) (here : slice_get all.stores.manifests from ≡ Some m) (k : ℕ) (covered : AreCovered all.limbo (from + 2) move (of_series move.series m.entries) move.at k) where
   abbrev move_files : List Filed
   move_files = of_row move.series (list_at from held)
@@ -438,7 +438,7 @@ module _ (tells : Bool) (all : SeenAll) (from : ℕ) (move : MoveState) (files :
   files_long = kept_long is.runs.fine move is.runs.running
 
   -- each part that is left stands whole in limbo
-  pub covers_all : k ≡ length move.parts → (final : MoveState) → PassesRest move final → IsMove is.runs.fine final → (most : ℕ) → SaysCopied most from tells all retired move final files held ends.Copied
+  pub covers_all : k ≡ length move.parts → (final : Moving) → PassesRest move final → IsMove is.runs.fine final → (most : ℕ) → SaysCopied most from tells all retired move final files held ends.Copied
   covers_all all_of final rest run most = (
     files,
     rest_copied from tells all move final files held is rest run (λ stands. later_from tells all from move files held has (further from tells all move files held is) stand retired whole stands m here move.at (length move.parts) each),
@@ -458,9 +458,9 @@ module _ (tells : Bool) (all : SeenAll) (from : ℕ) (move : MoveState) (files :
       each j e low high at = covered.each j e low (omega (arith, high, all_of)) at
 
   module _ (low : k < length move.parts) (b : ℕ) (behind : AreCovered all.limbo (from + 2) move (of_series move.series m.entries) (k + 1) b) (rest_covered : Bool) (to_end : rest_covered ≡ true → b ≡ length move.parts) (not_to_end : rest_covered ≡ false → b ≢ length move.parts)
-      (new : SeenAll) (most : ℕ) (mid final : MoveState) (moves : MovesOn move mid) (one : mid.at ≤ k + 1) where
+      (new : SeenAll) (most : ℕ) (mid final : Moving) (moves : MovesOn move mid) (one : mid.at ≤ k + 1) where
     series : mid.series ≡ move.series
-    series = ap (λ (x : MoveState). x.series) moves.is
+    series = ap (λ (x : Moving). x.series) moves.is
 
     -- what is left of the parts then, by the list of the move's own store
     abbrev left_by : ℕ → List Sample
@@ -522,7 +522,7 @@ module _ (tells : Bool) (all : SeenAll) (from : ℕ) (move : MoveState) (files :
             let two = unended refl more_left in
             subst (λ (x : CopyEnd). SaysCopied most from tells new retired move final files held x) (sym two.0) (
               more,
-              subst (λ (x : MoveState). CopiesBeside from tells new x more held) (sym two.1) is_mid,
+              subst (λ (x : Moving). CopiesBeside from tells new x more held) (sym two.1) is_mid,
               λ stands. let s = said stands in (s.0, s.1, s.2, s.3, λ none. something_left more stands s.5 s.7 more_left (sym s.4 ∙ none)),
             )
 
@@ -540,7 +540,7 @@ module _ (tells : Bool) (all : SeenAll) (from : ℕ) (move : MoveState) (files :
         by_test false is beyond = still (λ yes late. cc (is, yes))
     ends_so r ends.Copied says passed unended other run =
         let two = other (λ no. cc (no)) in
-        subst (λ (x : MoveState). SaysCopied most from tells new retired move x files held r) (sym two.1) (subst (λ (x : CopyEnd). SaysCopied most from tells new retired move mid files held x) (sym two.0) says)
+        subst (λ (x : Moving). SaysCopied most from tells new retired move x files held r) (sym two.1) (subst (λ (x : CopyEnd). SaysCopied most from tells new retired move mid files held x) (sym two.0) says)
     ends_so r (ends.Damaged name at) says passed unended other run =
         let two = other (λ no. cc (no)) in
-        subst (λ (x : MoveState). SaysCopied most from tells new retired move x files held r) (sym two.1) (subst (λ (x : CopyEnd). SaysCopied most from tells new retired move mid files held x) (sym two.0) says)
+        subst (λ (x : Moving). SaysCopied most from tells new retired move x files held r) (sym two.1) (subst (λ (x : CopyEnd). SaysCopied most from tells new retired move mid files held x) (sym two.0) says)

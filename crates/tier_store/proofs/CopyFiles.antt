@@ -27,7 +27,7 @@ use Rattle.etl_mover.specs.Copying.{SetsLast, TakesPlace, StandsBehind, last_of,
 use Rattle.store_manifest.specs.Entries.{comes_before, put, Place}
 use Rattle.store_manifest.specs.declared.entry.Entry.{Entry}
 use Rattle.etl_mover.specs.Lines.{IsSampleStart, with_line, with_lines}
-use Rattle.etl_mover.specs.Move.{MoveState, IsMove}
+use Rattle.etl_mover.specs.Move.{Moving, IsMove}
 use Rattle.etl_mover.specs.Step.{GoesTo, AreTaken, Takes, between, written_at}
 use Rattle.etl_mover.proofs.Steps.{last_all, map_append}
 use Rattle.pb_messages.specs.declared.info.PayloadInfo.{PayloadInfo}
@@ -226,7 +226,7 @@ earlier_start row files earlier f rise are =
 empty_left : (from len : ℕ) (xs : List Sample) → from + length (lines_of xs) ≡ len → from < len → xs ≢ []
 empty_left from len xs size low is = let none = ap (λ (l : List Sample). length (lines_of l)) is in omega (arith, none, size, low)
 
-module _ (fine : Granularity) (move : MoveState) (base : Held) (part : Entry) (q : Filed) (b : List ℕ) (from : ℕ) (of_part : IsPartFile fine base.rows move part b q) (n : ℕ) (split : SplitsAt q.samples n part.head_len from) (low : from < q.entry.len) where
+module _ (fine : Granularity) (move : Moving) (base : Held) (part : Entry) (q : Filed) (b : List ℕ) (from : ℕ) (of_part : IsPartFile fine base.rows move part b q) (n : ℕ) (split : SplitsAt q.samples n part.head_len from) (low : from < q.entry.len) where
   abbrev info : PayloadInfo
   info = of_part.filed.info
 
@@ -401,7 +401,7 @@ module _ (fine : Granularity) (move : MoveState) (base : Held) (part : Entry) (q
 -- THE STEP
 
 -- the next samples of the part at hand, in the file where they go
-pub writes_next : (fine : Granularity) (move : MoveState) (base : Held) (part : Entry) (start : _) (q : Filed) (b lines : List ℕ) (from most : ℕ) (entry : Entry) → (goes : GoesTo move None part start) → IsMove fine move → AreHeld move.granularity base → IsTrue base.stands → IsLastOf (map entry_of base.files) move.series (last_of move.pending move.listed)
+pub writes_next : (fine : Granularity) (move : Moving) (base : Held) (part : Entry) (start : _) (q : Filed) (b lines : List ℕ) (from most : ℕ) (entry : Entry) → (goes : GoesTo move None part start) → IsMove fine move → AreHeld move.granularity base → IsTrue base.stands → IsLastOf (map entry_of base.files) move.series (last_of move.pending move.listed)
     → IsPartFile fine base.rows move part b q → (split : SplitsAt q.samples (end_after (last_of move.pending move.listed)) part.head_len from) → from < q.entry.len → Takes (take part.head_len b) (between from q.entry.len b) most lines start.entry entry
     → WritesNext move.granularity base start.at (take part.head_len b) lines entry split.back
 writes_next fine move base part start q b lines from most entry goes running valid stand last of_part split low takes = go (last_of move.pending move.listed) refl last goes.begins
@@ -454,7 +454,7 @@ pub record BeginsBehind (base : Held) (row head_len : ℕ) (start : Start) : Typ
 abbrev pub Where : Held → ℕ → ℕ → Start → Type 0
 Where base row head_len start = GoesOnIn base row start ⊎ BeginsBehind base row head_len start
 
-pub where_it_goes : (move : MoveState) (base : Held) (part : Entry) (start : Start) → GoesTo move None part start → PlacesRise base.files → IsLastOf (map entry_of base.files) move.series (last_of move.pending move.listed) → Where base move.series part.head_len start
+pub where_it_goes : (move : Moving) (base : Held) (part : Entry) (start : Start) → GoesTo move None part start → PlacesRise base.files → IsLastOf (map entry_of base.files) move.series (last_of move.pending move.listed) → Where base move.series part.head_len start
 where_it_goes move base part start goes apart last = go (last_of move.pending move.listed) last goes.begins
   where
     new_start : Start

@@ -7,7 +7,7 @@ use Rattle.std.proofs.lemmas.List.Elements.{All-contains, Contains-append_left, 
 use Rattle.disk_model.specs.Files.{Name, Files, Rose, HasFile}
 use Rattle.disk_model.specs.Past.{MayLeave}
 use Rattle.etl_mover.specs.Copying.{anew, behind, last_of, starts, SetsLast}
-use Rattle.etl_mover.specs.Move.{MoveState, FewPending, IsMove}
+use Rattle.etl_mover.specs.Move.{Moving, FewPending, IsMove}
 use Rattle.etl_mover.specs.Step.{Advances, CanCopy, CanRevive, CopiesPart, GoesTo, IsPlacedOrNot, source_file, target_file}
 use Rattle.etl_mover.proofs.Steps.{advances_keep, IsOfPart, targets, last_of-push}
 use Rattle.partition_names.specs.declared.granularity.Granularity.{Granularity}
@@ -21,7 +21,7 @@ use Rattle.tier_store.proofs.CopySays.{all_said, damaged_said, more_said, wrote_
 use Rattle.tier_store.proofs.CopyFiles.{Start, after_split}
 use Rattle.disk_model.specs.declared.disk.DiskErr.{DiskErr}
 use Rattle.disk_model.specs.declared.disk.DiskErr.TheVariants.{Fault, Memory}
-use Rattle.gate_journal.specs.Standing.{Standing, ReadsDisk}
+use Rattle.gate_journal.specs.DiskShown.{DiskShown, ReadsDisk}
 use Rattle.etl_mover.specs.Writing.{LeavesFile}
 use Rattle.pv_catalog.specs.Catalogue.{CatalogueState}
 use Rattle.pv_catalog.specs.declared.row.Row.{Row}
@@ -70,7 +70,7 @@ starts_last e series to head_len same = go (nat_eq e.part.start to.start) refl
     go true is = refl
     go false is = absurd (let no : nat_eq e.part.start to.start ≡ true = grind (arith, nat_tests, same) in cc (is, no))
 
-module _ (limbo : List Retired) (store : ℕ) (move : MoveState) where
+module _ (limbo : List Retired) (store : ℕ) (move : Moving) where
   abbrev of_move : Entry → Type 0
   of_move e = IsPart move.granularity e.part × (e.series ≡ move.series)
 
@@ -93,7 +93,7 @@ module _ (limbo : List Retired) (store : ℕ) (move : MoveState) where
       ∙ (starts_last e move.series to p.head_len start ∙ sym (starts_some (last_of move.pending move.listed) e move.series to p.head_len start (last_before e p goes at_hand)))
 
   module _ (revived : Option Entry) (goes_behind : GoesBehind limbo store move revived) (all : All of_move (pending_with move.pending revived)) where
-    abbrev with_it : MoveState
+    abbrev with_it : Moving
     with_it = reviving move revived
 
     pub to_none : (p : Entry) (s : Start) → GoesTo with_it None p s → GoesTo move revived p s
@@ -148,23 +148,23 @@ sets_over entry e ps new is same = inl (record { rest = ps; last = e; are = refl
 -- THE CALL
 
 -- what the move becomes: as the call tells it, or with the revived file where nothing is to be listed that wasn't before
-pub record Becomes (fine : Granularity) (revived : Option Entry) (old move nm : MoveState) (len : ℕ) (Copies : MoveState → Type 0) : Type 0 where
-  pub new : MoveState
+pub record Becomes (fine : Granularity) (revived : Option Entry) (old move nm : Moving) (len : ℕ) (Copies : Moving → Type 0) : Type 0 where
+  pub new : Moving
   pub adv : Advances move new None len
   pub run : IsMove fine new
   pub copies : Copies new
   pub same : ((new ≡ nm) × IsRevived (last_of nm.pending nm.listed) revived) ⊎ ((nm.pending ≡ old.pending) × (new.pending ≡ move.pending) × (new.listed ≡ nm.listed))
 
-module _ (files : Files) (later : Standing) (told : Type 0) (at len most : ℕ) (fine : Granularity) (limbo : List Retired) (store : ℕ) (move nm : MoveState) where
+module _ (files : Files) (later : DiskShown) (told : Type 0) (at len most : ℕ) (fine : Granularity) (limbo : List Retired) (store : ℕ) (move nm : Moving) where
   -- what the call tells of the lines
-  abbrev pub Copies : MoveState → Option Entry → MoveState → Type 0
+  abbrev pub Copies : Moving → Option Entry → Moving → Type 0
   Copies m revived new = told → (p : Entry) (start : Start) (bytes : List ℕ) → GoesTo m revived p start → files (source_file m p) ≡ Some bytes → CopiesPart m new start p at len most bytes files later
 
   pub becomes : (revived : Option Entry) → GoesBehind limbo store move revived → IsMove fine (reviving move revived) → Advances move nm revived len → Copies move revived nm → Becomes fine revived move (reviving move revived) nm len (Copies (reviving move revived) None)
   becomes None goes is adv copies = record { new = nm; adv = adv; run = advances_keep fine move nm None len is tt adv; copies = copies; same = inl (refl, λ e none. absurd (cc (none))) }
   becomes (Some e) goes is adv copies = by_sets adv.sets
     where
-      m : MoveState
+      m : Moving
       m = reviving move (Some e)
 
       all : All (of_move limbo store move) (pending_with move.pending (Some e))
@@ -186,7 +186,7 @@ module _ (files : Files) (later : Standing) (told : Type 0) (at len most : ℕ) 
           (sets_rest entry move.pending new move.listed e.part.start begin (last_before limbo store move e p goes to.at_hand) sets, sym begin)
 
       pending_is : adv.pending ≡ nm.pending
-      pending_is = elim adv.is [ inl same ↦ sym (ap (λ (x : MoveState). x.pending) same) | inr (p, at_hand, same) ↦ sym (ap (λ (x : MoveState). x.pending) same) ]
+      pending_is = elim adv.is [ inl same ↦ sym (ap (λ (x : Moving). x.pending) same) | inr (p, at_hand, same) ↦ sym (ap (λ (x : Moving). x.pending) same) ]
 
       -- nothing is set
       unset : nm.pending ≡ move.pending → Becomes fine (Some e) move m nm len (Copies m None)
@@ -212,15 +212,15 @@ module _ (files : Files) (later : Standing) (told : Type 0) (at len most : ℕ) 
         same = inr (same, refl, refl);
       }
         where
-          new : MoveState
+          new : Moving
           new = record nm { pending = m.pending }
 
           adv_is : Advances m new None len
           adv_is = record {
             pending = m.pending;
             is = elim adv.is [
-              | inl is_so ↦ inl (ap (λ (x : MoveState). record x { pending = m.pending }) is_so)
-              | inr (p, at_hand, is_so) ↦ inr (p, at_hand, ap (λ (x : MoveState). record x { pending = m.pending }) is_so)
+              | inl is_so ↦ inl (ap (λ (x : Moving). record x { pending = m.pending }) is_so)
+              | inr (p, at_hand, is_so) ↦ inr (p, at_hand, ap (λ (x : Moving). record x { pending = m.pending }) is_so)
             ];
             sets = inl refl;
           }
@@ -271,7 +271,7 @@ module _ (files : Files) (later : Standing) (told : Type 0) (at len most : ℕ) 
 push_front : (P : Entry → Type 0) (xs : List Entry) (x : Entry) → All P (xs ++ x ∷ []) → All P xs
 push_front P xs x all k d lt = All-contains P (xs ++ x ∷ []) (get_or xs k d) all (Contains-append_left xs (x ∷ []) (get_or xs k d) (Contains-get_or xs k d lt))
 
-pub plain : (fine : Granularity) (move : MoveState) (revived : Option Entry) → IsMove fine (reviving move revived) → IsMove fine move
+pub plain : (fine : Granularity) (move : Moving) (revived : Option Entry) → IsMove fine (reviving move revived) → IsMove fine move
 plain fine move None is = is
 plain fine move (Some e) is = record {
   nested = is.nested;
@@ -289,13 +289,13 @@ plain fine move (Some e) is = record {
     few_then (inl few) = omega (arith, few, length-append move.pending (e ∷ []))
     few_then (inr (one, next)) = omega (arith, one, length-append move.pending (e ∷ []))
 
-pub can_revive : (limbo : List Retired) (store : ℕ) (fine : Granularity) (move : MoveState) (revived : Option Entry) → GoesBehind limbo store move revived → IsMove fine (reviving move revived) → IfSome revived (CanRevive move)
+pub can_revive : (limbo : List Retired) (store : ℕ) (fine : Granularity) (move : Moving) (revived : Option Entry) → GoesBehind limbo store move revived → IsMove fine (reviving move revived) → IfSome revived (CanRevive move)
 can_revive limbo store fine move None goes is = tt
 can_revive limbo store fine move (Some e) goes is =
     let of = All-contains (of_move limbo store move) (move.pending ++ e ∷ []) e is.pending (Contains-push move.pending e) in
     record { own = of.1; is = of.0; holds = λ part at_hand. let r = goes part at_hand in subst (λ (x : Entry). HoldsMoment x.part part.part.start) r.3 r.2.holds }
 
-pub can_go : (limbo : List Retired) (store : ℕ) (fine : Granularity) (move : MoveState) (revived : Option Entry) (len : ℕ) (files : Files) (opened : Name → ℕ) → GoesBehind limbo store move revived → IsMove fine (reviving move revived) → CanCopy (reviving move revived) None len files opened → CanCopy move revived len files opened
+pub can_go : (limbo : List Retired) (store : ℕ) (fine : Granularity) (move : Moving) (revived : Option Entry) (len : ℕ) (files : Files) (opened : Name → ℕ) → GoesBehind limbo store move revived → IsMove fine (reviving move revived) → CanCopy (reviving move revived) None len files opened → CanCopy move revived len files opened
 can_go limbo store fine move revived len files opened goes is can = record {
   source = can.source;
   target = λ part start n to at. can.target part start n (from_none limbo store move revived goes is.pending part start to) at;
@@ -303,7 +303,7 @@ can_go limbo store fine move revived len files opened goes is can = record {
 
 -- THE ENTRY AS IT IS HANDED IN
 
-module _ (move : MoveState) (one two : Option Entry) (same : one ≡ two) where
+module _ (move : Moving) (one two : Option Entry) (same : one ≡ two) where
   pub either_it : (at len : ℕ) → ((part : Entry) → slice_get move.parts move.at ≡ Some part → at < len → IsPlacedOrNot move one part) → (part : Entry) → slice_get move.parts move.at ≡ Some part → at < len → IsPlacedOrNot move two part
   either_it at len either part at_hand low = subst (λ (o : Option Entry). IsPlacedOrNot move o part) same (either part at_hand low)
 
@@ -324,20 +324,20 @@ same_last : (a b : List Entry) (x y : Option Entry) → a ≡ b → x ≡ y → 
 same_last a b x y one two = ap (λ (l : List Entry). last_of l x) one ∙ ap (λ (o : Option Entry). last_of b o) two
 
 -- What a step does, whatever it answers: what is held stays so, the move runs as it did, and all else is left.
-pub record Went (from : ℕ) (tells : Bool) (old new : SeenAll) (move : MoveState) (revived : Option Entry) (faults later : ℕ) : Type 0 where
+pub record Went (from : ℕ) (tells : Bool) (old new : SeenAll) (move : Moving) (revived : Option Entry) (faults later : ℕ) : Type 0 where
   pub stays : (files : List Filed) (held : Stores) → Has tells old.stores held → CopiesFurther from tells old (reviving move revived) files held → StaysHeld tells old.stores new.stores held
   pub still : (files : List Filed) (held : Stores) → Has tells old.stores held → CopiesFurther from tells old (reviving move revived) files held → CopiesFurther from tells new (reviving move revived) files held
   pub rest : (r : Result CopyEnd DiskErr) → (r ≡ Err Fault → Rose faults later) → CopyLeaves move tells old new (end_of_disk r)
   pub done : (end : CopyEnd) → CopyLeaves {A = CopyEnd} {E = ⊥} move tells old new (Done end)
 
-module _ {S : Type 0} (shows : S → Standing) (faults_of : S → ℕ) (tells : Bool) (c : CatalogueState) (ms : List ManifestState) (limbo : List Retired) (from : ℕ) (d after : S) (seen_it : IsTrue tells → MayLeave (shows d).past (shows d).files) (move : MoveState) (revived : Option Entry) (name : Name) (at len : ℕ) where
+module _ {S : Type 0} (shows : S → DiskShown) (faults_of : S → ℕ) (tells : Bool) (c : CatalogueState) (ms : List ManifestState) (limbo : List Retired) (from : ℕ) (d after : S) (seen_it : IsTrue tells → MayLeave (shows d).past (shows d).files) (move : Moving) (revived : Option Entry) (name : Name) (at len : ℕ) where
   abbrev old : SeenAll
   old = beside (seen_on shows faults_of c ms d) limbo
 
   abbrev new : SeenAll
   new = beside (seen_on shows faults_of c ms after) limbo
 
-  abbrev m : MoveState
+  abbrev m : Moving
   m = reviving move revived
 
   module _ (begun : (files : List Filed) × (held : Stores) × Has tells old.stores held × CopiesFurther from tells old m files held × FindsLine from tells (shows d).files m held name at len) (stand : LimboStands old.stores limbo) (goes_behind : GoesBehind limbo (from + 2) move revived)
@@ -509,7 +509,7 @@ module _ {S : Type 0} (shows : S → Standing) (faults_of : S → ℕ) (tells : 
 
     -- WHAT IT ANSWERS
 
-    module _ (most : ℕ) (nm : MoveState) (adv : Advances move nm revived len) (copies : Copies (shows d).files (shows after) (IsTrue tells) at len most begun.3.runs.fine limbo (from + 2) move nm move revived nm) (files : List Filed) (held : Stores) (has : Has tells old.stores held) (is : CopiesFurther from tells old m files held) (line : FindsLine from tells (shows d).files m held name at len) where
+    module _ (most : ℕ) (nm : Moving) (adv : Advances move nm revived len) (copies : Copies (shows d).files (shows after) (IsTrue tells) at len most begun.3.runs.fine limbo (from + 2) move nm move revived nm) (files : List Filed) (held : Stores) (has : Has tells old.stores held) (is : CopiesFurther from tells old m files held) (line : FindsLine from tells (shows d).files m held name at len) where
       abbrev n : ℕ
       n = end_after (last_of m.pending m.listed)
 
@@ -520,7 +520,7 @@ module _ {S : Type 0} (shows : S → Standing) (faults_of : S → ℕ) (tells : 
       then_is = becomes (shows d).files (shows after) (IsTrue tells) at len most begun.3.runs.fine limbo (from + 2) move nm revived goes_behind begun.3.runs.running adv copies
 
       listed_same : nm.listed ≡ move.listed
-      listed_same = elim adv.is [ inl same ↦ ap (λ (x : MoveState). x.listed) same | inr (p, at_hand, same) ↦ ap (λ (x : MoveState). x.listed) same ]
+      listed_same = elim adv.is [ inl same ↦ ap (λ (x : Moving). x.listed) same | inr (p, at_hand, same) ↦ ap (λ (x : Moving). x.listed) same ]
 
       run : (fine : Granularity) → IsMove fine m → IsMove fine then_is.new
       run fine is_move = advances_keep fine m then_is.new None len is_move tt then_is.adv
@@ -548,16 +548,16 @@ module _ {S : Type 0} (shows : S → Standing) (faults_of : S → ℕ) (tells : 
       pub go_more : IsRevived (last_of nm.pending nm.listed) revived → n < ends_now → nm.at ≢ length nm.parts → SaysLines most from tells new m nm files held ends.More
       go_more on ahead not_all =
           let same = moved on ahead in
-          subst (λ (x : MoveState). SaysLines most from tells new m x files held ends.More) same
+          subst (λ (x : Moving). SaysLines most from tells new m x files held ends.More) same
           (more_said shows faults_of tells c ms limbo from to.0 to.1 d after seen_it m part.0 part.1 files held has is name at len most line apart_from then_is.new (run is.runs.fine is.runs.running) then_is.adv wrote then_is.copies
-          (subst (λ (x : MoveState). n < end_after (last_of x.pending x.listed)) (sym same) ahead) (subst (λ (x : MoveState). x.at ≢ length x.parts) (sym same) not_all))
+          (subst (λ (x : Moving). n < end_after (last_of x.pending x.listed)) (sym same) ahead) (subst (λ (x : Moving). x.at ≢ length x.parts) (sym same) not_all))
 
       pub go_all : IsRevived (last_of nm.pending nm.listed) revived → n < ends_now → nm.at ≡ length nm.parts → SaysLines most from tells new m nm files held ends.Copied
       go_all on ahead whole =
           let same = moved on ahead in
-          subst (λ (x : MoveState). SaysLines most from tells new m x files held ends.Copied) same
+          subst (λ (x : Moving). SaysLines most from tells new m x files held ends.Copied) same
           (all_said shows faults_of tells c ms limbo from to.0 to.1 d after seen_it m part.0 part.1 files held has is name at len most line apart_from then_is.new (run is.runs.fine is.runs.running) then_is.adv wrote then_is.copies
-          (subst (λ (x : MoveState). n < end_after (last_of x.pending x.listed)) (sym same) ahead) (subst (λ (x : MoveState). x.at ≡ length x.parts) (sym same) whole))
+          (subst (λ (x : Moving). n < end_after (last_of x.pending x.listed)) (sym same) ahead) (subst (λ (x : Moving). x.at ≡ length x.parts) (sym same) whole))
 
       pub go_damaged : IsNotRevived (last_of nm.pending nm.listed) revived ⊎ (ends_now ≤ n) → IsDamaged from tells (shows after).files m held name at
       go_damaged why = damaged_said shows faults_of tells c ms limbo from to.0 to.1 d after seen_it m part.0 part.1 files held has is name at len most line apart_from then_is.new (run is.runs.fine is.runs.running) then_is.adv wrote then_is.copies (high why)
@@ -566,13 +566,13 @@ module _ {S : Type 0} (shows : S → Standing) (faults_of : S → ℕ) (tells : 
           high why = elim then_is.same [
             | inl same ↦ elim why [
               | inl other ↦ let l = same.1 other.entry other.is in absurd (other.apart l.0 l.1 l.2)
-              | inr low ↦ subst (λ (x : MoveState). end_after (last_of x.pending x.listed) ≤ n) (sym same.0) low
+              | inr low ↦ subst (λ (x : Moving). end_after (last_of x.pending x.listed) ≤ n) (sym same.0) low
             ]
             | inr same ↦ let one = ap end_after (same_last then_is.new.pending m.pending then_is.new.listed m.listed same.1 (same.2 ∙ listed_same)) in omega (arith, one)
           ]
 
-module _ {S : Type 0} (shows : S → Standing) (faults_of : S → ℕ) (tells : Bool) (c : CatalogueState) (ms : List ManifestState) (limbo : List Retired) (from : ℕ) (m : ManifestState) (here : slice_get ms (from + 1) ≡ Some m) (d : S) (seen_it : IsTrue tells → MayLeave (shows d).past (shows d).files)
-    (move : MoveState) (files : List Filed) (held : Stores) where
+module _ {S : Type 0} (shows : S → DiskShown) (faults_of : S → ℕ) (tells : Bool) (c : CatalogueState) (ms : List ManifestState) (limbo : List Retired) (from : ℕ) (m : ManifestState) (here : slice_get ms (from + 1) ≡ Some m) (d : S) (seen_it : IsTrue tells → MayLeave (shows d).past (shows d).files)
+    (move : Moving) (files : List Filed) (held : Stores) where
   abbrev was_all : SeenAll
   was_all = beside (seen_on shows faults_of c ms d) limbo
 

@@ -10,7 +10,7 @@ use Rattle.std.proofs.lemmas.Option.{same_Some}
 use Rattle.std.proofs.Math.Seq.{get_or-append_seam}
 use Rattle.disk_model.specs.Files.{HasFile}
 use Rattle.etl_mover.specs.Copying.{last_of}
-use Rattle.etl_mover.specs.Move.{MoveState, FewPending, IsMove, OfNext}
+use Rattle.etl_mover.specs.Move.{Moving, FewPending, IsMove, OfNext}
 use Rattle.partition_names.specs.declared.granularity.Granularity.{Granularity}
 use Rattle.partition_names.specs.declared.part.Part.{Part}
 use Rattle.partition_names.specs.Part.{HoldsMoment, IsPart}
@@ -121,7 +121,7 @@ ends_within g rows x filed =
     let high = inside_until x.entry.part.end 0 x.samples (omega arith) (weaker (λ s. HoldsMoment x.entry.part s.t) (λ s. s.t < x.entry.part.end) (λ s inside. inside.1) x.samples (recursion_from_All (λ (s : Sample). HoldsMoment x.entry.part s.t) x.samples filed.inside)) in
     omega (arith, to, high)
 
-module _ (tells : Bool) (all : SeenAll) (from : ℕ) (move : MoveState) (files : List Filed) (held : Stores) (has : Has tells all.stores held) (runs : RunsBeside (from + 1) tells all move files held) (last_is : IsLastOf (map entry_of (put_all (list_at (from + 1) held) files)) move.series (last_of move.pending move.listed))
+module _ (tells : Bool) (all : SeenAll) (from : ℕ) (move : Moving) (files : List Filed) (held : Stores) (has : Has tells all.stores held) (runs : RunsBeside (from + 1) tells all move files held) (last_is : IsLastOf (map entry_of (put_all (list_at (from + 1) held) files)) move.series (last_of move.pending move.listed))
     (stand : LimboStands all.stores all.limbo) (retired : List Filed) (whole : AreWhole (from + 1) tells all.stores all.limbo held.stands retired) where
   abbrev ahead : List Filed
   ahead = put_all (list_at (from + 1) held) files

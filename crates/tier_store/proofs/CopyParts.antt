@@ -8,7 +8,7 @@ use Rattle.std.proofs.lemmas.Option.{same_Some, get_or_from_slice_get, slice_get
 use Rattle.disk_model.specs.Files.{Files, HasFile, Name}
 use Rattle.disk_model.specs.Past.{MayLeave}
 use Rattle.etl_mover.specs.Copying.{last_of}
-use Rattle.etl_mover.specs.Move.{IsMove, MoveState, StillLists, of_series}
+use Rattle.etl_mover.specs.Move.{IsMove, Moving, StillLists, of_series}
 use Rattle.etl_mover.specs.Step.{source_file, finished}
 use Rattle.partition_names.specs.declared.granularity.Granularity.{Granularity}
 use Rattle.partition_names.specs.declared.part.Part.{Part}
@@ -59,25 +59,25 @@ use Rattle.tier_store.proofs.Lines.{no_length}
 -- THE NEXT PART
 
 -- a move that copies beside the stores copies further
-abbrev pub further : (from : ℕ) (tells : Bool) (all : SeenAll) (move : MoveState) (files : List Filed) (held : Stores) → CopiesBeside from tells all move files held → CopiesFurther from tells all move files held
+abbrev pub further : (from : ℕ) (tells : Bool) (all : SeenAll) (move : Moving) (files : List Filed) (held : Stores) → CopiesBeside from tells all move files held → CopiesFurther from tells all move files held
 further from tells all move files held is = record { runs = is.runs; stage = is.stage; left = is.left; heads = is.heads; lengths = is.lengths; last = is.last; told = is.told }
 
 -- a move of which no more changed than its parts and what it is to list runs beside the stores as before
-pub runs_by : (i : ℕ) (tells : Bool) (old new : SeenAll) (move nm : MoveState) (files more : List Filed) (held : Stores) → granularities new.stores.manifests ≡ granularities old.stores.manifests → nm ≡ record move { parts = nm.parts; at = nm.at; pending = nm.pending } → (runs : RunsBeside i tells old move files held) → IsMove runs.fine nm → ListsParts (list_at runs.from held) nm
+pub runs_by : (i : ℕ) (tells : Bool) (old new : SeenAll) (move nm : Moving) (files more : List Filed) (held : Stores) → granularities new.stores.manifests ≡ granularities old.stores.manifests → nm ≡ record move { parts = nm.parts; at = nm.at; pending = nm.pending } → (runs : RunsBeside i tells old move files held) → IsMove runs.fine nm → ListsParts (list_at runs.from held) nm
     → (nm.at ≢ length nm.parts → move.at ≢ length move.parts) → nm.pending ≡ map entry_of more → MayBeListed i tells new held more → RunsBeside i tells new nm more held
 runs_by i tells old new move nm files more held same is runs running parts left pending ahead = record {
   from = runs.from;
   next = runs.next;
   fine = runs.fine;
   from_fine = ap (λ (gs : List Granularity). slice_get gs runs.from) same ∙ runs.from_fine;
-  to_coarse = ap (λ (gs : List Granularity). slice_get gs i) same ∙ (runs.to_coarse ∙ ap (λ (x : MoveState). Some x.granularity) (sym is));
+  to_coarse = ap (λ (gs : List Granularity). slice_get gs i) same ∙ (runs.to_coarse ∙ ap (λ (x : Moving). Some x.granularity) (sym is));
   running = running;
-  numbers = λ told. (ap (λ (x : MoveState). x.source) is ∙ (runs.numbers told).0, ap (λ (x : MoveState). x.destination) is ∙ (runs.numbers told).1);
+  numbers = λ told. (ap (λ (x : Moving). x.source) is ∙ (runs.numbers told).0, ap (λ (x : Moving). x.destination) is ∙ (runs.numbers told).1);
   row = runs.row;
-  stands = ap (λ (x : MoveState). slice_get held.rows x.series) is ∙ runs.stands;
-  name = runs.name ∙ ap (λ (x : MoveState). x.name) (sym is);
+  stands = ap (λ (x : Moving). slice_get held.rows x.series) is ∙ runs.stands;
+  name = runs.name ∙ ap (λ (x : Moving). x.name) (sym is);
   parts = parts;
-  last = λ some. subst (λ (x : MoveState). IsLastOf (map entry_of (list_at i held)) x.series x.listed) (sym is) (runs.last (left some));
+  last = λ some. subst (λ (x : Moving). IsLastOf (map entry_of (list_at i held)) x.series x.listed) (sym is) (runs.last (left some));
   pending = pending;
   ahead = ahead;
 }
@@ -130,12 +130,12 @@ in_list (f ∷ fs) zero q here = (zero, omega arith, same_Some f q here)
 in_list (f ∷ fs) (suc k) q here = let rest = in_list fs k q here in (suc rest.0, omega (arith, rest.1), rest.2)
 
 -- the part that is copied next is one of the move's parts
-pub part_in : (from : ℕ) (move : MoveState) (held : Stores) (q : Filed) → move.at < length move.parts → IsNextPart from move held q → Contains (oldest from move.series (length move.parts) held) q
+pub part_in : (from : ℕ) (move : Moving) (held : Stores) (q : Filed) → move.at < length move.parts → IsNextPart from move held q → Contains (oldest from move.series (length move.parts) held) q
 part_in from move held q low next = in_list (oldest from move.series (length move.parts) held) move.at q (take_at (of_row move.series (list_at from held)) (length move.parts) move.at q low next.here)
 
 -- THE PART
 
-module _ (tells : Bool) (all : SeenAll) (from : ℕ) (move : MoveState) (files : List Filed) (held : Stores) (has : Has tells all.stores held) (is : CopiesFurther from tells all move files held) where
+module _ (tells : Bool) (all : SeenAll) (from : ℕ) (move : Moving) (files : List Filed) (held : Stores) (has : Has tells all.stores held) (is : CopiesFurther from tells all move files held) where
   from_is : is.runs.from ≡ from
   from_is = let next = is.runs.next in omega (arith, next)
 
@@ -290,7 +290,7 @@ lengths_more (f ∷ fs) (p ∷ parts) (suc at) len q part here there long same =
 next_place : (at : ℕ) → suc at ≡ at + 1
 next_place at = omega arith
 
-pub lengths_finished : (from : ℕ) (move : MoveState) (held : Stores) (part : Entry) (len : ℕ) (q : Filed) → KnowsLengths from move held → slice_get (of_row move.series (list_at from held)) move.at ≡ Some q → slice_get move.parts move.at ≡ Some part → q.entry.len ≡ len → KnowsLengths from (finished move part len) held
+pub lengths_finished : (from : ℕ) (move : Moving) (held : Stores) (part : Entry) (len : ℕ) (q : Filed) → KnowsLengths from move held → slice_get (of_row move.series (list_at from held)) move.at ≡ Some q → slice_get move.parts move.at ≡ Some part → q.entry.len ≡ len → KnowsLengths from (finished move part len) held
 lengths_finished from move held part len q same here there long =
     subst (λ (k : ℕ). map file_len (take k (of_row move.series (list_at from held))) ≡ map entry_len (take k (set move.parts move.at (record part { len = len })))) (next_place move.at)
     (lengths_more (of_row move.series (list_at from held)) move.parts move.at len q part here there long same)
@@ -302,7 +302,7 @@ drop_all {A} zero (x ∷ xs) few = absurd (omega (arith, few))
 drop_all {A} (suc n) [] few = refl
 drop_all {A} (suc n) (x ∷ xs) few = drop_all n xs (omega (arith, few))
 
-pub copied_whole : (from : ℕ) (move : MoveState) (files : List Filed) (held : Stores) → move.at ≡ length move.parts → KnowsLengths from move held → (IsTrue held.stands → left_of from move move.at files held ≡ []) → KnowsCopied from move files held
+pub copied_whole : (from : ℕ) (move : Moving) (files : List Filed) (held : Stores) → move.at ≡ length move.parts → KnowsLengths from move held → (IsTrue held.stands → left_of from move move.at files held ≡ []) → KnowsCopied from move files held
 copied_whole from move files held all lengths passed = record {
   whole = move.at;
   most = omega (arith, all);
@@ -328,8 +328,8 @@ none_left g rows q n at len filed long end split =
     let none : split.back ≡ [] = no_length split.back (omega (arith, whole, head, place, both, long, end, length-append q.head (10 ∷ lines_of q.samples), length-append (lines_of split.front) (lines_of split.back))) in
     ap (since n) (split.split ∙ ap (λ (l : List Sample). split.front ++ l) none ∙ append-nil split.front) ∙ split.earlier
 
-module _ (tells : Bool) (all : SeenAll) (from : ℕ) (move : MoveState) (files : List Filed) (held : Stores) (has : Has tells all.stores held) (is : CopiesFurther from tells all move files held) (part : Entry) (next : slice_get move.parts move.at ≡ Some part) (q : Filed) (q_next : IsNextPart from move held q) (len : ℕ) (long : q.entry.len ≡ len) (run : IsMove is.runs.fine (finished move part len)) where
-  abbrev nm : MoveState
+module _ (tells : Bool) (all : SeenAll) (from : ℕ) (move : Moving) (files : List Filed) (held : Stores) (has : Has tells all.stores held) (is : CopiesFurther from tells all move files held) (part : Entry) (next : slice_get move.parts move.at ≡ Some part) (q : Filed) (q_next : IsNextPart from move held q) (len : ℕ) (long : q.entry.len ≡ len) (run : IsMove is.runs.fine (finished move part len)) where
+  abbrev nm : Moving
   nm = finished move part len
 
   long_then : length nm.parts ≡ length move.parts
@@ -393,13 +393,13 @@ module _ (tells : Bool) (all : SeenAll) (from : ℕ) (move : MoveState) (files :
     })
   ]
 
-pub further_finished : (tells : Bool) (all : SeenAll) (from : ℕ) (move new : MoveState) (files : List Filed) (held : Stores) → Has tells all.stores held → (is : CopiesFurther from tells all move files held) → (part : Entry) → slice_get move.parts move.at ≡ Some part → (q : Filed) → IsNextPart from move held q → (len : ℕ) → q.entry.len ≡ len → new ≡ finished move part len → IsMove is.runs.fine new → move.at + 1 ≢ length move.parts
+pub further_finished : (tells : Bool) (all : SeenAll) (from : ℕ) (move new : Moving) (files : List Filed) (held : Stores) → Has tells all.stores held → (is : CopiesFurther from tells all move files held) → (part : Entry) → slice_get move.parts move.at ≡ Some part → (q : Filed) → IsNextPart from move held q → (len : ℕ) → q.entry.len ≡ len → new ≡ finished move part len → IsMove is.runs.fine new → move.at + 1 ≢ length move.parts
     → CopiesFurther from tells all new files held
 further_finished tells all from move new files held has is part next q q_next len long same run apart =
-    subst (λ (x : MoveState). CopiesFurther from tells all x files held) (sym same) (further_then tells all from move files held has is part next q q_next len long (subst (IsMove is.runs.fine) same run) apart)
+    subst (λ (x : Moving). CopiesFurther from tells all x files held) (sym same) (further_then tells all from move files held has is part next q q_next len long (subst (IsMove is.runs.fine) same run) apart)
 
 -- a damaged place is told only where nothing stands
-pub damaged_part : (from : ℕ) (tells : Bool) (now : Files) (move : MoveState) (held : Stores) (lines : PartLines) (at : ℕ) → move.at < length move.parts → lines.later ≡ Damaged at → FindsPart from tells now move held lines → IsDamaged from tells now move held lines.name at
+pub damaged_part : (from : ℕ) (tells : Bool) (now : Files) (move : Moving) (held : Stores) (lines : PartLines) (at : ℕ) → move.at < length move.parts → lines.later ≡ Damaged at → FindsPart from tells now move held lines → IsDamaged from tells now move held lines.name at
 damaged_part from tells now move held lines at few is finds = record {
   file = finds.file;
   part = part_in from move held finds.file few finds.next;
@@ -412,7 +412,7 @@ damaged_part from tells now move held lines at few is finds = record {
 }
 
 -- a line is left at a place that isn't the end
-pub line_left : (from : ℕ) (tells : Bool) (now : Files) (move : MoveState) (held : Stores) (lines : PartLines) (at : ℕ) → lines.later ≡ At at → at < lines.len → FindsPart from tells now move held lines → FindsLine from tells now move held lines.name at lines.len
+pub line_left : (from : ℕ) (tells : Bool) (now : Files) (move : Moving) (held : Stores) (lines : PartLines) (at : ℕ) → lines.later ≡ At at → at < lines.len → FindsPart from tells now move held lines → FindsLine from tells now move held lines.name at lines.len
 line_left from tells now move held lines at is low finds = record {
   file = finds.file;
   next = finds.next;
@@ -429,7 +429,7 @@ none_behind : (at : ℕ) (bytes : List ℕ) → length bytes ≤ at → (ty : Pa
 none_behind at bytes end ty year start = let are = ap length (sym (drop_of_length-le bytes end) ∙ start.are) in omega (arith, are, length-append start.sample.line (10 ∷ start.rest))
 
 -- the same, of a part of which some is left
-line_says : (from : ℕ) (tells : Bool) (now : Files) (move : MoveState) (held : Stores) (lines : PartLines) (l : LaterLines) → lines.later ≡ l → move.at < length move.parts → (IsTrue held.stands → HasLater from move held) → (g : Granularity) → (IsTrue held.stands → (q : Filed) → IsNextPart from move held q → IsFiled g held.rows q) → FindsPart from tells now move held lines → (line : NextLine) → of_line lines l ≡ line → SaysLine from tells now move held line
+line_says : (from : ℕ) (tells : Bool) (now : Files) (move : Moving) (held : Stores) (lines : PartLines) (l : LaterLines) → lines.later ≡ l → move.at < length move.parts → (IsTrue held.stands → HasLater from move held) → (g : Granularity) → (IsTrue held.stands → (q : Filed) → IsNextPart from move held q → IsFiled g held.rows q) → FindsPart from tells now move held lines → (line : NextLine) → of_line lines l ≡ line → SaysLine from tells now move held line
 line_says from tells now move held lines (Damaged at) is few some g filed finds line same = subst (SaysLine from tells now move held) same (damaged_part from tells now move held lines at few is finds)
 line_says from tells now move held lines (At at) is few some g filed finds line same = by_test (nat_lt at lines.len) refl
   where
@@ -462,35 +462,35 @@ line_says from tells now move held lines (At at) is few some g filed finds line 
     by_test true low = subst (SaysLine from tells now move held) (sym (cond-true (nat_lt at lines.len) (next_line.Line (record { name = lines.name; at = at; len = lines.len })) (next_line.Damaged lines.name lines.len) low) ∙ same) (line_left from tells now move held lines at is (grind (arith, nat_tests, low)) finds)
     by_test false high = subst (SaysLine from tells now move held) (sym (cond-false (nat_lt at lines.len) (next_line.Line (record { name = lines.name; at = at; len = lines.len })) (next_line.Damaged lines.name lines.len) high) ∙ same) (over high)
 
-pub says_line : (from : ℕ) (tells : Bool) (now : Files) (move : MoveState) (held : Stores) (lines : PartLines) → move.at < length move.parts → (IsTrue held.stands → HasLater from move held) → (g : Granularity) → (IsTrue held.stands → (q : Filed) → IsNextPart from move held q → IsFiled g held.rows q) → FindsPart from tells now move held lines → (line : NextLine) → line_of lines ≡ line → SaysLine from tells now move held line
+pub says_line : (from : ℕ) (tells : Bool) (now : Files) (move : Moving) (held : Stores) (lines : PartLines) → move.at < length move.parts → (IsTrue held.stands → HasLater from move held) → (g : Granularity) → (IsTrue held.stands → (q : Filed) → IsNextPart from move held q → IsFiled g held.rows q) → FindsPart from tells now move held lines → (line : NextLine) → line_of lines ≡ line → SaysLine from tells now move held line
 says_line from tells now move held lines few some g filed finds line same = line_says from tells now move held lines lines.later refl few some g filed finds line same
 
 -- none is left at the end
-pub part_passed : {now : Files} (tells : Bool) (all : SeenAll) (from : ℕ) (move new : MoveState) (files : List Filed) (held : Stores) → Has tells all.stores held → (is : CopiesBeside from tells all move files held) → (part : Entry) → slice_get move.parts move.at ≡ Some part → (lines : PartLines) (at : ℕ) → lines.later ≡ At at → (at < lines.len → ⊥) → FindsPart from tells now move held lines
+pub part_passed : {now : Files} (tells : Bool) (all : SeenAll) (from : ℕ) (move new : Moving) (files : List Filed) (held : Stores) → Has tells all.stores held → (is : CopiesBeside from tells all move files held) → (part : Entry) → slice_get move.parts move.at ≡ Some part → (lines : PartLines) (at : ℕ) → lines.later ≡ At at → (at < lines.len → ⊥) → FindsPart from tells now move held lines
     → new ≡ finished move part lines.len → IsMove is.runs.fine new → CopiesOrHas from tells all new files held
 part_passed {now} tells all from move new files held has is part next lines at later over finds same run =
-    subst (λ (x : MoveState). CopiesOrHas from tells all x files held) (sym same)
+    subst (λ (x : Moving). CopiesOrHas from tells all x files held) (sym same)
     (passes_on tells all from move files held has (further from tells all move files held is) part next finds.file finds.next lines.len finds.long (subst (IsMove is.runs.fine) same run) at (elim (cases_lt at lines.len) [ inl low ↦ absurd (over low) | inr end ↦ end ])
     (λ stands. subst (IsNext finds.file.samples (end_after (last_of move.pending move.listed)) finds.file.entry.head_len) later (finds.splits stands)) is.passed)
 
-pub passes_finished : (move new : MoveState) (part : Entry) (len : ℕ) → new ≡ finished move part len → PassesParts move new
+pub passes_finished : (move new : Moving) (part : Entry) (len : ℕ) → new ≡ finished move part len → PassesParts move new
 passes_finished move new part len same = record {
-  is = subst (λ (x : MoveState). x ≡ record move { parts = x.parts; at = x.at }) (sym same) refl;
-  long = ap (λ (x : MoveState). length x.parts) same ∙ length-set move.parts move.at (record part { len = len });
+  is = subst (λ (x : Moving). x ≡ record move { parts = x.parts; at = x.at }) (sym same) refl;
+  long = ap (λ (x : Moving). length x.parts) same ∙ length-set move.parts move.at (record part { len = len });
 }
 
-pub passes_none : (move : MoveState) → PassesParts move move
+pub passes_none : (move : Moving) → PassesParts move move
 passes_none move = record { is = refl; long = refl }
 
-pub passes_then : (old mid new : MoveState) → PassesParts old mid → PassesParts mid new → PassesParts old new
-passes_then old mid new one two = record { is = two.is ∙ ap (λ (x : MoveState). record x { parts = new.parts; at = new.at }) one.is; long = two.long ∙ one.long }
+pub passes_then : (old mid new : Moving) → PassesParts old mid → PassesParts mid new → PassesParts old new
+passes_then old mid new one two = record { is = two.is ∙ ap (λ (x : Moving). record x { parts = new.parts; at = new.at }) one.is; long = two.long ∙ one.long }
 
 -- by whether parts are left
-pub copies_if_left : (from : ℕ) (tells : Bool) (all : SeenAll) (move : MoveState) (files : List Filed) (held : Stores) → move.at < length move.parts → CopiesOrHas from tells all move files held → CopiesBeside from tells all move files held
+pub copies_if_left : (from : ℕ) (tells : Bool) (all : SeenAll) (move : Moving) (files : List Filed) (held : Stores) → move.at < length move.parts → CopiesOrHas from tells all move files held → CopiesBeside from tells all move files held
 copies_if_left from tells all move files held low (inl is) = is
 copies_if_left from tells all move files held low (inr has) = let whole = has.all_copied in absurd (omega (arith, low, whole))
 
-pub has_if_none : (from : ℕ) (tells : Bool) (all : SeenAll) (move : MoveState) (files : List Filed) (held : Stores) → (move.at < length move.parts → ⊥) → CopiesOrHas from tells all move files held → HasPassedAll from tells all move files held
+pub has_if_none : (from : ℕ) (tells : Bool) (all : SeenAll) (move : Moving) (files : List Filed) (held : Stores) → (move.at < length move.parts → ⊥) → CopiesOrHas from tells all move files held → HasPassedAll from tells all move files held
 has_if_none from tells all move files held over (inl is) = absurd (over (elim (cases_lt move.at (length move.parts)) [ inl less ↦ less | inr more ↦ absurd (is.left (let most = is.runs.running.at in omega (arith, more, most))) ]))
 has_if_none from tells all move files held over (inr has) = has
 
@@ -546,16 +546,16 @@ heads_long n (suc k) [] = refl
 heads_long zero (suc k) (e ∷ parts) = ap suc (heads_long zero k parts)
 heads_long (suc n) (suc k) (e ∷ parts) = ap suc (heads_long n k parts)
 
-abbrev pub RestTo : MoveState → MoveState → Type 0
+abbrev pub RestTo : Moving → Moving → Type 0
 RestTo old move = move ≡ record old { parts = heads_to old.at move.at old.parts; at = move.at }
 
-pub rest_begun : (old : MoveState) → RestTo old old
+pub rest_begun : (old : Moving) → RestTo old old
 rest_begun old = ap (λ (l : List Entry). record old { parts = l; at = old.at }) (sym (heads_same old.at old.parts))
 
-rest_parts : (old move : MoveState) → RestTo old move → move.parts ≡ heads_to old.at move.at old.parts
-rest_parts old move is = ap (λ (x : MoveState). x.parts) is
+rest_parts : (old move : Moving) → RestTo old move → move.parts ≡ heads_to old.at move.at old.parts
+rest_parts old move is = ap (λ (x : Moving). x.parts) is
 
-pub rest_step : (old move new : MoveState) (p : Entry) (len : ℕ) → RestTo old move → old.at ≤ move.at → slice_get move.parts move.at ≡ Some p → len ≡ p.head_len → new ≡ finished move p len → RestTo old new
+pub rest_step : (old move new : Moving) (p : Entry) (len : ℕ) → RestTo old move → old.at ≤ move.at → slice_get move.parts move.at ≡ Some p → len ≡ p.head_len → new ≡ finished move p len → RestTo old new
 rest_step old move new p len is low here long same = subst (RestTo old) (sym (same ∙ ap (finished move p) long)) done
   where
     set_is : set move.parts move.at (record p { len = p.head_len }) ≡ heads_to old.at (move.at + 1) old.parts
@@ -564,12 +564,12 @@ rest_step old move new p len is low here long same = subst (RestTo old) (sym (sa
         ∙ (heads_more old.at move.at old.parts p low (ap (λ (l : List Entry). slice_get l move.at) (sym (rest_parts old move is)) ∙ here) ∙ ap (λ (k : ℕ). heads_to old.at k old.parts) (next_place move.at))
 
     done : RestTo old (finished move p p.head_len)
-    done = ap (λ (l : List Entry). record move { parts = l; at = move.at + 1 }) set_is ∙ ap (λ (x : MoveState). record x { parts = heads_to old.at (move.at + 1) old.parts; at = move.at + 1 }) is
+    done = ap (λ (l : List Entry). record move { parts = l; at = move.at + 1 }) set_is ∙ ap (λ (x : Moving). record x { parts = heads_to old.at (move.at + 1) old.parts; at = move.at + 1 }) is
 
-pub rest_long : (old move : MoveState) → RestTo old move → length move.parts ≡ length old.parts
+pub rest_long : (old move : Moving) → RestTo old move → length move.parts ≡ length old.parts
 rest_long old move is = ap length (rest_parts old move is) ∙ heads_long old.at move.at old.parts
 
-pub rest_done : (old move : MoveState) → RestTo old move → move.at ≤ length old.parts → (move.at < length move.parts → ⊥) → PassesRest old move
+pub rest_done : (old move : Moving) → RestTo old move → move.at ≤ length old.parts → (move.at < length move.parts → ⊥) → PassesRest old move
 rest_done old move is high over =
     let long = ap length (rest_parts old move is) ∙ heads_long old.at move.at old.parts in
     let all : move.at ≡ length old.parts = elim (cases_lt move.at (length move.parts)) [ inl low ↦ absurd (over low) | inr end ↦ omega (arith, high, end, long) ] in
@@ -583,10 +583,10 @@ take_set (suc n) k [] x low = refl
 take_set (suc n) zero (y ∷ xs) x low = absurd (omega (arith, low))
 take_set (suc n) (suc k) (y ∷ xs) x low = ap (λ (l : List Entry). y ∷ l) (take_set n k xs x (omega (arith, low)))
 
-pub fronts_finished : (n : ℕ) (move new : MoveState) (part : Entry) (len : ℕ) → n ≤ move.at → new ≡ finished move part len → take n new.parts ≡ take n move.parts
-fronts_finished n move new part len low same = ap (λ (x : MoveState). take n x.parts) same ∙ take_set n move.at move.parts (record part { len = len }) low
+pub fronts_finished : (n : ℕ) (move new : Moving) (part : Entry) (len : ℕ) → n ≤ move.at → new ≡ finished move part len → take n new.parts ≡ take n move.parts
+fronts_finished n move new part len low same = ap (λ (x : Moving). take n x.parts) same ∙ take_set n move.at move.parts (record part { len = len }) low
 
-pub parts_finished : (move new : MoveState) (part : Entry) (len : ℕ) → slice_get move.parts move.at ≡ Some part → new ≡ finished move part len → map (λ (e : Entry). e.part) new.parts ≡ map (λ (e : Entry). e.part) move.parts
+pub parts_finished : (move new : Moving) (part : Entry) (len : ℕ) → slice_get move.parts move.at ≡ Some part → new ≡ finished move part len → map (λ (e : Entry). e.part) new.parts ≡ map (λ (e : Entry). e.part) move.parts
 parts_finished move new part len here same =
-    ap (λ (x : MoveState). map (λ (e : Entry). e.part) x.parts) same
+    ap (λ (x : Moving). map (λ (e : Entry). e.part) x.parts) same
     ∙ map-set_same (λ (e : Entry). e.part) move.parts move.at (record part { len = len }) part (ap (λ (e : Entry). e.part) (sym (get_or_from_slice_get move.parts move.at part part here)))

@@ -5,9 +5,9 @@ use Rattle.std.specs.Prelude.{Contains, IsTrue, slice_get, All, ◌↔◌, nat_e
 use Rattle.std.proofs.lemmas.List.Elements.{All-contains, Contains-get_or, All-from_recursion, recursion_from_All}
 use Rattle.disk_model.specs.Files.{Name, Files, HasFile}
 use Rattle.disk_model.specs.Past.{MayLeave}
-use Rattle.gate_journal.specs.Standing.{Standing, ReadsDisk}
+use Rattle.gate_journal.specs.DiskShown.{DiskShown, ReadsDisk}
 use Rattle.etl_mover.specs.Growing.{IsPlaced, BecomesFile}
-use Rattle.etl_mover.specs.Move.{MoveState, IsMove}
+use Rattle.etl_mover.specs.Move.{Moving, IsMove}
 use Rattle.etl_mover.specs.Step.{GoesTo, GoesNowhere, target_file, Advances, AreFew, Takes, between, source_file, written_at, CopiesPart, IsPlacedOrNot}
 use Rattle.etl_mover.specs.Writing.{LeavesFile, WritesFile}
 use Rattle.etl_mover.proofs.Steps.{IsOfPart, goes_nowhere, last_all, one_start, still_lists, last_of-push}
@@ -62,7 +62,7 @@ use Rattle.tier_store.proofs.CopyLeft.{IsLater, IsOfRowIn, PartLeft, SplitsHere,
 use Rattle.tier_store.proofs.CopyWrites.{Leaves, Wrote, Apart, valid, coarse, copied, name_is, of_part, where_is, placed_here, put_cases}
 
 -- what the call tells of the lines, where the disk tells its files
-pub record WroteLines (files : Files) (later : Standing) (move : MoveState) (part : Entry) (start : Start) (entry : Entry) (at len most : ℕ) (Whole : Type 0) : Type 0 where
+pub record WroteLines (files : Files) (later : DiskShown) (move : Moving) (part : Entry) (start : Start) (entry : Entry) (at len most : ℕ) (Whole : Type 0) : Type 0 where
   pub bytes : List ℕ
   pub file : files (source_file move part) ≡ Some bytes
   pub lines : List ℕ
@@ -103,7 +103,7 @@ nowhere_before e begin start is = go (nat_eq e.part.start begin) refl (nat_lt be
     go false same true low is = grind (arith, nat_tests, low)
     go false same false high is = absurd (cc (is))
 
-module _ {S : Type 0} (shows : S → Standing) (faults_of : S → ℕ) (tells : Bool) (c : CatalogueState) (ms : List ManifestState) (limbo : List Retired) (from : ℕ) (m : ManifestState) (here : slice_get ms (from + 1) ≡ Some m) (d after : S)
+module _ {S : Type 0} (shows : S → DiskShown) (faults_of : S → ℕ) (tells : Bool) (c : CatalogueState) (ms : List ManifestState) (limbo : List Retired) (from : ℕ) (m : ManifestState) (here : slice_get ms (from + 1) ≡ Some m) (d after : S)
     (seen_it : IsTrue tells → MayLeave (shows d).past (shows d).files) where
   abbrev old : SeenAll
   old = beside (seen_on shows faults_of c ms d) limbo
@@ -113,7 +113,7 @@ module _ {S : Type 0} (shows : S → Standing) (faults_of : S → ℕ) (tells : 
 
   -- WHAT IT MAKES OF THE MOVE
 
-  module _ (move : MoveState) (part : Entry) (files : List Filed) (held : Stores) where
+  module _ (move : Moving) (part : Entry) (files : List Filed) (held : Stores) where
     abbrev b : Held
     b = with_files (tier (from + 1) held) files
 
@@ -225,7 +225,7 @@ module _ {S : Type 0} (shows : S → Standing) (faults_of : S → ℕ) (tells : 
         -- THE MOVE THEN
 
         module _ (back : List Sample) (grown : GrownFile m.granularity b start entry (IsTrue held.stands) (IsTrue tells) WroteBytes (CopiedOf most b back Whole)) (left : IsTrue held.stands → PartLeft q back (end_after (last_of move.pending move.listed))) (apart_from : Apart shows faults_of tells c ms limbo from m here d after seen_it move) (longer : start.entry.len ≤ entry.len)
-            (nm : MoveState) (run : IsMove is.runs.fine nm) (adv : Advances move nm None len) (sets : SetsLast entry move.pending nm.pending) where
+            (nm : Moving) (run : IsMove is.runs.fine nm) (adv : Advances move nm None len) (sets : SetsLast entry move.pending nm.pending) where
           abbrev pub f : Filed
           f = grown.file
 
@@ -238,8 +238,8 @@ module _ {S : Type 0} (shows : S → Standing) (faults_of : S → ℕ) (tells : 
           -- the move is the same but for its parts and what it is to list
           same_move : nm ≡ record move { parts = nm.parts; at = nm.at; pending = nm.pending }
           same_move = elim adv.is [
-            | inl same ↦ subst (λ (x : MoveState). x ≡ record move { parts = x.parts; at = x.at; pending = x.pending }) (sym same) refl
-            | inr (p, at_hand, same) ↦ subst (λ (x : MoveState). x ≡ record move { parts = x.parts; at = x.at; pending = x.pending }) (sym same) refl
+            | inl same ↦ subst (λ (x : Moving). x ≡ record move { parts = x.parts; at = x.at; pending = x.pending }) (sym same) refl
+            | inr (p, at_hand, same) ↦ subst (λ (x : Moving). x ≡ record move { parts = x.parts; at = x.at; pending = x.pending }) (sym same) refl
           ]
 
           all_own : All (λ (x : Filed). x.entry.series ≡ move.series) files
@@ -368,30 +368,30 @@ module _ {S : Type 0} (shows : S → Standing) (faults_of : S → ℕ) (tells : 
           last_new =
               let at_f = last_then move.series (put filed_at f b.files) rows_then.0 f rows_then.1 in
               subst (λ (o : Option Entry). IsLastOf (map entry_of (put_all (list_at (from + 1) held) more)) nm.series o) (sym last_is)
-              (subst (λ (k : ℕ). IsLastOf (map entry_of (put_all (list_at (from + 1) held) more)) k (Some f.entry)) (sym (ap (λ (x : MoveState). x.series) same_move))
+              (subst (λ (k : ℕ). IsLastOf (map entry_of (put_all (list_at (from + 1) held) more)) k (Some f.entry)) (sym (ap (λ (x : Moving). x.series) same_move))
               (subst (λ (fs : List Filed). IsLastOf (map entry_of fs) move.series (Some f.entry)) (sym files_are) at_f))
 
           long_then : length nm.parts ≡ length move.parts
           long_then = elim adv.is [
-            | inl same ↦ ap (λ (x : MoveState). length x.parts) same
-            | inr (p, at_hand, same) ↦ ap (λ (x : MoveState). length x.parts) same ∙ length-set move.parts move.at (record p { len = len })
+            | inl same ↦ ap (λ (x : Moving). length x.parts) same
+            | inr (p, at_hand, same) ↦ ap (λ (x : Moving). length x.parts) same ∙ length-set move.parts move.at (record p { len = len })
           ]
 
           heads_then : KnowsHeads from nm held
           heads_then =
-              ap (λ (x : MoveState). map (λ (g : Filed). g.entry.head_len) (oldest from x.series (length nm.parts) held)) same_move
+              ap (λ (x : Moving). map (λ (g : Filed). g.entry.head_len) (oldest from x.series (length nm.parts) held)) same_move
               ∙ (ap (λ (k : ℕ). map (λ (g : Filed). g.entry.head_len) (oldest from move.series k held)) long_then ∙ (is.heads ∙ sym heads_of))
             where
               heads_of : map (λ (e : Entry). e.head_len) nm.parts ≡ map (λ (e : Entry). e.head_len) move.parts
               heads_of = elim adv.is [
-                | inl same ↦ ap (λ (x : MoveState). map (λ (e : Entry). e.head_len) x.parts) same
-                | inr (p, at_hand, same) ↦ ap (λ (x : MoveState). map (λ (e : Entry). e.head_len) x.parts) same ∙ map-set_same (λ (e : Entry). e.head_len) move.parts move.at (record p { len = len }) p (ap (λ (e : Entry). e.head_len) (sym (get_or_from_slice_get move.parts move.at p p at_hand)))
+                | inl same ↦ ap (λ (x : Moving). map (λ (e : Entry). e.head_len) x.parts) same
+                | inr (p, at_hand, same) ↦ ap (λ (x : Moving). map (λ (e : Entry). e.head_len) x.parts) same ∙ map-set_same (λ (e : Entry). e.head_len) move.parts move.at (record p { len = len }) p (ap (λ (e : Entry). e.head_len) (sym (get_or_from_slice_get move.parts move.at p p at_hand)))
               ]
 
           lengths_then : KnowsLengths from nm held
           lengths_then = elim adv.is [
-            | inl same ↦ subst (λ (x : MoveState). KnowsLengths from x held) (sym same) is.lengths
-            | inr (p, at_hand, same) ↦ subst (λ (x : MoveState). KnowsLengths from x held) (sym same) (lengths_finished from move held p len q is.lengths q_next.here at_hand q_long)
+            | inl same ↦ subst (λ (x : Moving). KnowsLengths from x held) (sym same) is.lengths
+            | inr (p, at_hand, same) ↦ subst (λ (x : Moving). KnowsLengths from x held) (sym same) (lengths_finished from move held p len q is.lengths q_next.here at_hand q_long)
           ]
 
           few : move.at < length move.parts
@@ -463,19 +463,19 @@ module _ {S : Type 0} (shows : S → Standing) (faults_of : S → ℕ) (tells : 
 
             end_then : end_of (samples_ahead (from + 1) nm more held) ≡ end_from n (grown.samples stands).copied
             end_then =
-                ap (λ (x : MoveState). end_of (samples_ahead (from + 1) x more held)) same_move
+                ap (λ (x : Moving). end_of (samples_ahead (from + 1) x more held)) same_move
                 ∙ (ap end_of ahead_is ∙ (end_from-append 0 (samples_ahead (from + 1) move files held) (grown.samples stands).copied ∙ ap (λ (k : ℕ). end_from k (grown.samples stands).copied) (sym n_is)))
 
             -- something is left of the parts from one on
             left_from : (k : ℕ) (fs : List Filed) → drop k ps ≡ fs → AllByRecursion (λ (x : Filed). since (end_from n (grown.samples stands).copied) x.samples ≢ []) fs → All (IsLeft (from + 1) nm more held) (drop k (oldest from nm.series (length nm.parts) held))
             left_from k fs are all =
-                subst (λ (l : List Filed). All (IsLeft (from + 1) nm more held) (drop k l)) (sym (ap (λ (x : MoveState). oldest from x.series (length nm.parts) held) same_move ∙ ap (λ (j : ℕ). oldest from move.series j held) long_then))
+                subst (λ (l : List Filed). All (IsLeft (from + 1) nm more held) (drop k l)) (sym (ap (λ (x : Moving). oldest from x.series (length nm.parts) held) same_move ∙ ap (λ (j : ℕ). oldest from move.series j held) long_then))
                 (subst (All (IsLeft (from + 1) nm more held)) (sym are) (All-from_recursion (IsLeft (from + 1) nm more held) fs (subst (λ (j : ℕ). AllByRecursion (λ (x : Filed). since j x.samples ≢ []) fs) (sym end_then) all)))
 
             -- and they begin later
             later_from : (k : ℕ) (fs : List Filed) → drop k ps ≡ fs → AllByRecursion (IsLater (end_from n (grown.samples stands).copied)) fs → All (IsAllLater (from + 1) nm more held) (drop k (oldest from nm.series (length nm.parts) held))
             later_from k fs are all =
-                subst (λ (l : List Filed). All (IsAllLater (from + 1) nm more held) (drop k l)) (sym (ap (λ (x : MoveState). oldest from x.series (length nm.parts) held) same_move ∙ ap (λ (j : ℕ). oldest from move.series j held) long_then))
+                subst (λ (l : List Filed). All (IsAllLater (from + 1) nm more held) (drop k l)) (sym (ap (λ (x : Moving). oldest from x.series (length nm.parts) held) same_move ∙ ap (λ (j : ℕ). oldest from move.series j held) long_then))
                 (subst (All (IsAllLater (from + 1) nm more held)) (sym are) (All-from_recursion (IsAllLater (from + 1) nm more held) fs (subst (λ (j : ℕ). AllByRecursion (λ (x : Filed). BeginsAt j x.samples) fs) (sym end_then) (later_begins (end_from n (grown.samples stands).copied) fs all))))
 
             abbrev left_then : List Sample
@@ -497,7 +497,7 @@ module _ {S : Type 0} (shows : S → Standing) (faults_of : S → ℕ) (tells : 
                 left_now_of : left_of from nm (length nm.parts) more held ≡ since (end_from n (grown.samples stands).copied) (of_parts ps)
                 left_now_of =
                     ap (λ (k : ℕ). since k (of_parts (oldest from nm.series (length nm.parts) held))) end_then
-                    ∙ (ap (λ (x : MoveState). since (end_from n (grown.samples stands).copied) (of_parts (oldest from x.series (length nm.parts) held))) same_move
+                    ∙ (ap (λ (x : Moving). since (end_from n (grown.samples stands).copied) (of_parts (oldest from x.series (length nm.parts) held))) same_move
                     ∙ ap (λ (k : ℕ). since (end_from n (grown.samples stands).copied) (of_parts (oldest from move.series k held))) long_then)
 
                 before_is : since n (of_parts (take move.at ps)) ≡ left_of from move move.at files held
@@ -506,15 +506,15 @@ module _ {S : Type 0} (shows : S → Standing) (faults_of : S → ℕ) (tells : 
             passed_at : (k : ℕ) → k ≤ length move.parts → since (end_from n (grown.samples stands).copied) (of_parts (take k ps)) ≡ [] → left_of from nm k more held ≡ []
             passed_at k less none_left =
                 ap (λ (j : ℕ). since j (of_parts (oldest from nm.series k held))) end_then
-                ∙ (ap (λ (x : MoveState). since (end_from n (grown.samples stands).copied) (of_parts (oldest from x.series k held))) same_move
+                ∙ (ap (λ (x : Moving). since (end_from n (grown.samples stands).copied) (of_parts (oldest from x.series k held))) same_move
                 ∙ (ap (λ (fs : List Filed). since (end_from n (grown.samples stands).copied) (of_parts fs)) (first_ps k less) ∙ none_left))
 
           -- whether the part was copied whole
           module _ (whole_is : Whole ↔ (nm.at ≡ move.at + 1)) where
             at_cases : (nm.at ≡ move.at) ⊎ (nm.at ≡ move.at + 1)
             at_cases = elim adv.is [
-              | inl same ↦ inl (ap (λ (x : MoveState). x.at) same)
-              | inr (p, at_hand, same) ↦ inr (ap (λ (x : MoveState). x.at) same)
+              | inl same ↦ inl (ap (λ (x : Moving). x.at) same)
+              | inr (p, at_hand, same) ↦ inr (ap (λ (x : Moving). x.at) same)
             ]
 
             one_more_at : move.at + 1 ≡ suc move.at
@@ -534,7 +534,7 @@ module _ {S : Type 0} (shows : S → Standing) (faults_of : S → ℕ) (tells : 
               more,
               record {
                 runs = runs_then;
-                stage = ap (λ (x : MoveState). x.stage) same_move ∙ is.stage;
+                stage = ap (λ (x : Moving). x.stage) same_move ∙ is.stage;
                 left = not_all;
                 heads = heads_then;
                 lengths = lengths_then;
@@ -568,7 +568,7 @@ module _ {S : Type 0} (shows : S → Standing) (faults_of : S → ℕ) (tells : 
               more,
               record {
                 runs = runs_then;
-                stage = ap (λ (x : MoveState). x.stage) same_move ∙ is.stage;
+                stage = ap (λ (x : Moving). x.stage) same_move ∙ is.stage;
                 all_copied = all;
                 parts = copied_whole from nm more held all lengths_then passed_then;
               },
@@ -585,7 +585,7 @@ module _ {S : Type 0} (shows : S → Standing) (faults_of : S → ℕ) (tells : 
 
   -- WHAT IT ANSWERS
 
-  module _ (move : MoveState) (part : Entry) (next_is : slice_get move.parts move.at ≡ Some part) where
+  module _ (move : Moving) (part : Entry) (next_is : slice_get move.parts move.at ≡ Some part) where
     abbrev WroteIt : Type 0
     WroteIt = Wrote shows faults_of tells c ms limbo from m here d after seen_it move part
 
@@ -596,7 +596,7 @@ module _ {S : Type 0} (shows : S → Standing) (faults_of : S → ℕ) (tells : 
 
     -- WHAT THE ANSWER SAYS
 
-    module _ (files : List Filed) (held : Stores) (has : Has tells old.stores held) (is : CopiesFurther from tells old move files held) (name : Name) (at len most : ℕ) (line : FindsLine from tells (shows d).files move held name at len) (apart_from : Apart shows faults_of tells c ms limbo from m here d after seen_it move) (nm : MoveState) (run : IsMove is.runs.fine nm) (adv : Advances move nm None len) (wrote : WroteIt)
+    module _ (files : List Filed) (held : Stores) (has : Has tells old.stores held) (is : CopiesFurther from tells old move files held) (name : Name) (at len most : ℕ) (line : FindsLine from tells (shows d).files move held name at len) (apart_from : Apart shows faults_of tells c ms limbo from m here d after seen_it move) (nm : Moving) (run : IsMove is.runs.fine nm) (adv : Advances move nm None len) (wrote : WroteIt)
         (copies : IsTrue tells → (p : Entry) (start : Start) (bytes : List ℕ) → GoesTo move None p start → (shows d).files (source_file move p) ≡ Some bytes → CopiesPart move nm start p at len most bytes (shows d).files (shows after)) where
       abbrev n_was : ℕ
       n_was = end_after (last_of move.pending move.listed)
@@ -608,7 +608,7 @@ module _ {S : Type 0} (shows : S → Standing) (faults_of : S → ℕ) (tells : 
       Whole = nm.at ≡ move.at + 1
 
       listed_same : nm.listed ≡ move.listed
-      listed_same = elim adv.is [ inl same ↦ ap (λ (x : MoveState). x.listed) same | inr (p, at_hand, same) ↦ ap (λ (x : MoveState). x.listed) same ]
+      listed_same = elim adv.is [ inl same ↦ ap (λ (x : Moving). x.listed) same | inr (p, at_hand, same) ↦ ap (λ (x : Moving). x.listed) same ]
 
       not_ahead : nm.pending ≡ move.pending → n_was < ends_now → ⊥
       not_ahead same less = let one = ap (λ (l : List Entry). end_after (last_of l nm.listed)) same ∙ ap (λ (o : Option Entry). end_after (last_of move.pending o)) listed_same in omega (arith, one, less)
@@ -642,7 +642,7 @@ module _ {S : Type 0} (shows : S → Standing) (faults_of : S → ℕ) (tells : 
           ]
 
       pending_is : adv.pending ≡ nm.pending
-      pending_is = elim adv.is [ inl same ↦ sym (ap (λ (x : MoveState). x.pending) same) | inr (p, at_hand, same) ↦ sym (ap (λ (x : MoveState). x.pending) same) ]
+      pending_is = elim adv.is [ inl same ↦ sym (ap (λ (x : Moving). x.pending) same) | inr (p, at_hand, same) ↦ sym (ap (λ (x : Moving). x.pending) same) ]
 
       chosen_untold : (IsTrue tells → ⊥) → (start : Start) → GoesTo move None part start → (nm.pending ≡ move.pending → ⊥) → Chosen start
       chosen_untold never start goes apart = elim adv.sets [

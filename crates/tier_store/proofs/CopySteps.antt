@@ -5,7 +5,7 @@ use Rattle.std.specs.Prelude.{IfOk, OnErr, slice_get, Contains, IsTrue, nat_le, 
 use Rattle.disk_model.specs.Files.{Name, Files, HasFile}
 use Rattle.disk_model.specs.declared.disk.DiskErr.{DiskErr}
 use Rattle.disk_model.specs.declared.disk.DiskErr.TheVariants.{Fault, Memory}
-use Rattle.etl_mover.specs.Move.{MoveState, part_file}
+use Rattle.etl_mover.specs.Move.{Moving, part_file}
 use Rattle.pv_catalog.specs.Catalogue.{CatalogueState}
 use Rattle.pv_catalog.specs.Rows.{KeepsRows}
 use Rattle.pv_catalog.specs.declared.row.Row.{Row}
@@ -133,12 +133,12 @@ looks_fails {A} {B} tells old new Memory looks = record {
 
 -- WHAT RUNS BESIDE
 
-pub runs_on : (i : ℕ) (tells : Bool) (old new : SeenAll) (move : MoveState) (files : List Filed) (held : Stores) → granularities new.stores.manifests ≡ granularities old.stores.manifests → LeavesLater tells old new → RunsBeside i tells old move files held → RunsBeside i tells new move files held
+pub runs_on : (i : ℕ) (tells : Bool) (old new : SeenAll) (move : Moving) (files : List Filed) (held : Stores) → granularities new.stores.manifests ≡ granularities old.stores.manifests → LeavesLater tells old new → RunsBeside i tells old move files held → RunsBeside i tells new move files held
 runs_on i tells old new move files held same leaves runs =
     let next = runs.next in
     runs_still i tells old new move files held held same (beside_itself i move.series held) (leaves (names_of (i + 1, held.rows) files) (later_names i (i + 1, held.rows) files refl (omega (arith, next)))) runs
 
-pub copies_on : (from : ℕ) (tells : Bool) (old new : SeenAll) (move : MoveState) (files : List Filed) (held : Stores) → granularities new.stores.manifests ≡ granularities old.stores.manifests → LeavesLater tells old new → CopiesBeside from tells old move files held → CopiesBeside from tells new move files held
+pub copies_on : (from : ℕ) (tells : Bool) (old new : SeenAll) (move : Moving) (files : List Filed) (held : Stores) → granularities new.stores.manifests ≡ granularities old.stores.manifests → LeavesLater tells old new → CopiesBeside from tells old move files held → CopiesBeside from tells new move files held
 copies_on from tells old new move files held same leaves is = record {
   runs = runs_on (from + 1) tells old new move files held same leaves is.runs;
   stage = is.stage;
@@ -150,7 +150,7 @@ copies_on from tells old new move files held same leaves is = record {
   told = is.told;
 }
 
-pub further_on : (from : ℕ) (tells : Bool) (old new : SeenAll) (move : MoveState) (files : List Filed) (held : Stores) → granularities new.stores.manifests ≡ granularities old.stores.manifests → LeavesLater tells old new → CopiesFurther from tells old move files held → CopiesFurther from tells new move files held
+pub further_on : (from : ℕ) (tells : Bool) (old new : SeenAll) (move : Moving) (files : List Filed) (held : Stores) → granularities new.stores.manifests ≡ granularities old.stores.manifests → LeavesLater tells old new → CopiesFurther from tells old move files held → CopiesFurther from tells new move files held
 further_on from tells old new move files held same leaves is = record {
   runs = runs_on (from + 1) tells old new move files held same leaves is.runs;
   stage = is.stage;
@@ -167,7 +167,7 @@ looks_stands {A} {E} tells old new end looks stands =
     subst (LimboStands new.stores) (sym looks.limbo)
     (limbo_kept old.stores new.stores old.limbo (subst (λ (rows : List Row). KeepsRows old.stores.catalogue.rows rows) (sym (ap (λ (c : CatalogueState). c.rows) looks.catalogue)) (keeps_same old.stores.catalogue.rows)) (ap granularities looks.manifests) stands)
 
-pub copies_or_on : (from : ℕ) (tells : Bool) (old new : SeenAll) (move : MoveState) (files : List Filed) (held : Stores) → granularities new.stores.manifests ≡ granularities old.stores.manifests → LeavesLater tells old new → CopiesOrHas from tells old move files held → CopiesOrHas from tells new move files held
+pub copies_or_on : (from : ℕ) (tells : Bool) (old new : SeenAll) (move : Moving) (files : List Filed) (held : Stores) → granularities new.stores.manifests ≡ granularities old.stores.manifests → LeavesLater tells old new → CopiesOrHas from tells old move files held → CopiesOrHas from tells new move files held
 copies_or_on from tells old new move files held same leaves (inl is) = inl (copies_on from tells old new move files held same leaves is)
 copies_or_on from tells old new move files held same leaves (inr is) = inr (record { runs = runs_on (from + 1) tells old new move files held same leaves is.runs; stage = is.stage; all_copied = is.all_copied; lengths = is.lengths; none_left = is.none_left })
 
@@ -263,15 +263,15 @@ zero_least : (n : ℕ) → 0 ≤ n
 zero_least n = omega arith
 
 -- passing parts leaves what is left to copy
-module _ (from : ℕ) (move mid : MoveState) (files : List Filed) (held : Stores) (passes : PassesParts move mid) where
+module _ (from : ℕ) (move mid : Moving) (files : List Filed) (held : Stores) (passes : PassesParts move mid) where
   pub left_same : left_of from mid (length mid.parts) files held ≡ left_of from move (length move.parts) files held
-  left_same = ap (λ (x : MoveState). left_of from x (length mid.parts) files held) passes.is ∙ ap (λ (k : ℕ). left_of from move k files held) passes.long
+  left_same = ap (λ (x : Moving). left_of from x (length mid.parts) files held) passes.is ∙ ap (λ (k : ℕ). left_of from move k files held) passes.long
 
   pub ahead_same : (more : List Filed) → samples_ahead (from + 1) mid more held ≡ samples_ahead (from + 1) move more held
-  ahead_same more = ap (λ (x : MoveState). samples_ahead (from + 1) x more held) passes.is
+  ahead_same more = ap (λ (x : Moving). samples_ahead (from + 1) x more held) passes.is
 
   pub series_same : mid.series ≡ move.series
-  series_same = ap (λ (x : MoveState). x.series) passes.is
+  series_same = ap (λ (x : Moving). x.series) passes.is
 
   abbrev next_same : (most : ℕ) (limbo : List Retired) (retired more : List Filed) (copied rest : List Sample) → CopiesNext most from limbo retired mid files more held copied rest → CopiesNext most from limbo retired move files more held copied rest
   next_same most limbo retired more copied rest next = record {
@@ -283,7 +283,7 @@ module _ (from : ℕ) (move mid : MoveState) (files : List Filed) (held : Stores
   }
 
   parts_same : oldest from mid.series (length mid.parts) held ≡ oldest from move.series (length move.parts) held
-  parts_same = ap (λ (x : MoveState). oldest from x.series (length mid.parts) held) passes.is ∙ ap (λ (k : ℕ). oldest from move.series k held) passes.long
+  parts_same = ap (λ (x : Moving). oldest from x.series (length mid.parts) held) passes.is ∙ ap (λ (k : ℕ). oldest from move.series k held) passes.long
 
   pub damaged_same : (tells : Bool) (now : Files) (name : Name) (at : ℕ) → IsDamaged from tells now mid held name at → IsDamaged from tells now move held name at
   damaged_same tells now name at damaged = record {
@@ -295,12 +295,12 @@ module _ (from : ℕ) (move mid : MoveState) (files : List Filed) (held : Stores
     bad = damaged.bad;
   }
 
-  pub says_from : (most : ℕ) (tells : Bool) (all : SeenAll) (retired : List Filed) (new : MoveState) (end : CopyEnd) → SaysCopied most from tells all retired mid new files held end → SaysCopied most from tells all retired move new files held end
+  pub says_from : (most : ℕ) (tells : Bool) (all : SeenAll) (retired : List Filed) (new : Moving) (end : CopyEnd) → SaysCopied most from tells all retired mid new files held end → SaysCopied most from tells all retired move new files held end
   says_from most tells all retired new ends.More (more, is, said) = (more, is, λ stands. let s = said stands in (s.0, s.1, next_same most all.limbo retired more s.0 s.1 s.2, s.3, s.4))
   says_from most tells all retired new ends.Copied (more, is, said) = (more, is, λ stands. let s = said stands in (s.0, next_same most all.limbo retired more s.0 [] s.1))
   says_from most tells all retired new (ends.Damaged name at) damaged = damaged_same tells all.stores.files name at damaged
 
-  pub part_from : (most : ℕ) (tells : Bool) (all : SeenAll) (k : ℕ) (retired : List Filed) (new : MoveState) (end : CopyEnd) → SaysPart most from tells all k retired mid new files held end → SaysPart most from tells all k retired move new files held end
+  pub part_from : (most : ℕ) (tells : Bool) (all : SeenAll) (k : ℕ) (retired : List Filed) (new : Moving) (end : CopyEnd) → SaysPart most from tells all k retired mid new files held end → SaysPart most from tells all k retired move new files held end
   part_from most tells all k retired new ends.More (more, is, said) = (
     more,
     is,
@@ -326,25 +326,25 @@ module _ (from : ℕ) (move mid : MoveState) (files : List Filed) (held : Stores
 
 -- WHAT MAY HAVE CHANGED OF THE MOVE
 
-pub moves_none : (move : MoveState) → MovesOn move move
+pub moves_none : (move : Moving) → MovesOn move move
 moves_none move = record { is = refl; long = refl }
 
-pub moves_passed : (old new : MoveState) → PassesParts old new → MovesOn old new
+pub moves_passed : (old new : Moving) → PassesParts old new → MovesOn old new
 moves_passed old new passes = record {
-  is = passes.is ∙ ap (λ (l : List Entry). record old { parts = new.parts; at = new.at; pending = l }) (sym (ap (λ (x : MoveState). x.pending) passes.is));
+  is = passes.is ∙ ap (λ (l : List Entry). record old { parts = new.parts; at = new.at; pending = l }) (sym (ap (λ (x : Moving). x.pending) passes.is));
   long = passes.long;
 }
 
-pub moves_then : (old mid new : MoveState) → PassesParts old mid → MovesOn mid new → MovesOn old new
+pub moves_then : (old mid new : Moving) → PassesParts old mid → MovesOn mid new → MovesOn old new
 moves_then old mid new one two = record {
-  is = two.is ∙ ap (λ (x : MoveState). record x { parts = new.parts; at = new.at; pending = new.pending }) one.is;
+  is = two.is ∙ ap (λ (x : Moving). record x { parts = new.parts; at = new.at; pending = new.pending }) one.is;
   long = two.long ∙ one.long;
 }
 
 -- WHAT IT LEAVES
 
 -- where files were read alone
-pub looks_leave : {A E : Type 0} (tells : Bool) (old new : SeenAll) (move : MoveState) (end : End A E) → length old.stores.manifests ≡ 3 → OnlyLooks tells old new end → CopyLeaves move tells old new end
+pub looks_leave : {A E : Type 0} (tells : Bool) (old new : SeenAll) (move : Moving) (end : End A E) → length old.stores.manifests ≡ 3 → OnlyLooks tells old new end → CopyLeaves move tells old new end
 looks_leave {A} {E} tells old new move end three looks = record {
   shown = looks.shown;
   leaves = λ names later none. looks.leaves names later;
@@ -353,12 +353,12 @@ looks_leave {A} {E} tells old new move end three looks = record {
 }
 
 -- what a move leaves that has passed parts
-others_passed : (tells : Bool) (old mid new : SeenAll) (move later : MoveState) → PassesParts move later → LeavesLater tells old mid → LeavesOthers later tells mid new → LeavesOthers move tells old new
+others_passed : (tells : Bool) (old mid new : SeenAll) (move later : Moving) → PassesParts move later → LeavesLater tells old mid → LeavesOthers later tells mid new → LeavesOthers move tells old new
 others_passed tells old mid new move later passes leaves others names high none =
     names_then names tells old mid new (leaves names high)
-    (others names high (λ e within. none e (subst (λ (x : MoveState). Contains names (part_file x.destination x.name e)) passes.is within)))
+    (others names high (λ e within. none e (subst (λ (x : Moving). Contains names (part_file x.destination x.name e)) passes.is within)))
 
-pub look_then_leaves : {A B E F : Type 0} (tells : Bool) (old mid new : SeenAll) (move later : MoveState) (first : End A E) (end : End B F) → PassesParts move later → length old.stores.manifests ≡ 3 → OnlyLooks tells old mid first → CopyLeaves later tells mid new end → CopyLeaves move tells old new end
+pub look_then_leaves : {A B E F : Type 0} (tells : Bool) (old mid new : SeenAll) (move later : Moving) (first : End A E) (end : End B F) → PassesParts move later → length old.stores.manifests ≡ 3 → OnlyLooks tells old mid first → CopyLeaves later tells mid new end → CopyLeaves move tells old new end
 look_then_leaves {A} {B} {E} {F} tells old mid new move later first end passes three looks rest = record {
   shown = λ name bytes was. rest.shown name bytes (looks.shown name bytes was);
   leaves = others_passed tells old mid new move later passes looks.leaves rest.leaves;
@@ -366,11 +366,11 @@ look_then_leaves {A} {B} {E} {F} tells old mid new move later first end passes t
   costs = look_then_costs tells old mid new.stores first end looks rest.costs;
 }
 
-pub passed_leaves : {A E : Type 0} (tells : Bool) (old new : SeenAll) (move later : MoveState) (end : End A E) → PassesParts move later → CopyLeaves later tells old new end → CopyLeaves move tells old new end
+pub passed_leaves : {A E : Type 0} (tells : Bool) (old new : SeenAll) (move later : Moving) (end : End A E) → PassesParts move later → CopyLeaves later tells old new end → CopyLeaves move tells old new end
 passed_leaves {A} {E} tells old new move later end passes rest = record { shown = rest.shown; leaves = others_passed tells old old new move later passes (nothing_leaves tells old) rest.leaves; whole = rest.whole; costs = rest.costs }
 
 -- whatever it answers otherwise than with an error
-pub done_leaves : {A : Type 0} (tells : Bool) (old new : SeenAll) (move : MoveState) (a b : A) → CopyLeaves {A = A} {E = ⊥} move tells old new (Done a) → CopyLeaves {A = A} {E = ⊥} move tells old new (Done b)
+pub done_leaves : {A : Type 0} (tells : Bool) (old new : SeenAll) (move : Moving) (a b : A) → CopyLeaves {A = A} {E = ⊥} move tells old new (Done a) → CopyLeaves {A = A} {E = ⊥} move tells old new (Done b)
 done_leaves {A} tells old new move a b rest = record { shown = rest.shown; leaves = rest.leaves; whole = rest.whole; costs = record { granularity = rest.costs.granularity; faults = rest.costs.faults; cause = λ failed. absurd failed } }
 
 -- BY AN ANSWER
@@ -389,7 +389,7 @@ on_ok {A} {P} {Q} (Err e) holds to = tt
 
 -- A STEP BY THE FILES IN LIMBO
 
-module _ (tells : Bool) (all : SeenAll) (from : ℕ) (move : MoveState) (files : List Filed) (held : Stores) (has : Has tells all.stores held) (is : CopiesFurther from tells all move files held) (stand : LimboStands all.stores all.limbo) (retired : List Filed) (whole : AreWhole (from + 1) tells all.stores all.limbo held.stands retired) (stands : IsTrue held.stands)
+module _ (tells : Bool) (all : SeenAll) (from : ℕ) (move : Moving) (files : List Filed) (held : Stores) (has : Has tells all.stores held) (is : CopiesFurther from tells all move files held) (stand : LimboStands all.stores all.limbo) (retired : List Filed) (whole : AreWhole (from + 1) tells all.stores all.limbo held.stands retired) (stands : IsTrue held.stands)
     (q : Filed) (q_next : IsNextPart from move held q) (part : Entry) (at_hand : slice_get move.parts move.at ≡ Some part) where
   abbrev pub B : List Filed
   B = back tells all from move files held has is.runs is.last stand retired whole stands
@@ -415,7 +415,7 @@ module _ (tells : Bool) (all : SeenAll) (from : ℕ) (move : MoveState) (files :
   pub first_ps : oldest from move.series move.at held ≡ take move.at ps
   first_ps = sym (take-take move.at (length move.parts) (of_row move.series (list_at from held)) (omega (arith, few)))
 
-  module _ (most : ℕ) (nm : MoveState) (skipped : past B move.series (left_of from move move.at files held) ≡ []) where
+  module _ (most : ℕ) (nm : Moving) (skipped : past B move.series (left_of from move move.at files held) ≡ []) where
     -- WHERE THE FILE IS MADE ANEW, OR GOES ON BEHIND ALL THAT IS AHEAD
 
     module _ (none : SaysBehind all.limbo (from + 2) move.series (last_of move.pending move.listed) q.entry.part.start None) (more : List Filed) (copied rest : List Sample) (lines : CopiesLines most from move nm files more held copied rest) where
@@ -573,7 +573,7 @@ since_all_before k (s ∷ xs) none = by_test (since_all_before k xs) (nat_le k s
 pub since_some : (k : ℕ) (xs : List Sample) → k < end_of xs → since k xs ≢ []
 since_some k xs less none = let most = inside_until k 0 xs (omega arith) (since_all_before k xs none) in omega (arith, less, most)
 
-module _ (tells : Bool) (all : SeenAll) (from : ℕ) (move : MoveState) (files : List Filed) (held : Stores) (has : Has tells all.stores held) (is : CopiesFurther from tells all move files held) (stand : LimboStands all.stores all.limbo) (retired : List Filed) (whole : AreWhole (from + 1) tells all.stores all.limbo held.stands retired)
+module _ (tells : Bool) (all : SeenAll) (from : ℕ) (move : Moving) (files : List Filed) (held : Stores) (has : Has tells all.stores held) (is : CopiesFurther from tells all move files held) (stand : LimboStands all.stores all.limbo) (retired : List Filed) (whole : AreWhole (from + 1) tells all.stores all.limbo held.stands retired)
     (q : Filed) (q_next : IsNextPart from move held q) (part : Entry) (at_hand : slice_get move.parts move.at ≡ Some part) where
   same_start : q.entry.part.start ≡ part.part.start
   same_start = ap (λ (p : Part). p.start) (q_part tells all from move files held has is q q_next part at_hand)
@@ -621,7 +621,7 @@ module _ (tells : Bool) (all : SeenAll) (from : ℕ) (move : MoveState) (files :
     ]
 
 -- a call that leaves the files with one more leaves those without it
-pub further_without : (tells : Bool) (old new : SeenAll) (from : ℕ) (move : MoveState) (files : List Filed) (x : Filed) (m : MoveState) (held : Stores) → granularities new.stores.manifests ≡ granularities old.stores.manifests → new.limbo ≡ old.limbo → CopiesFurther from tells old move files held → CopiesFurther from tells new m (files ++ x ∷ []) held → CopiesFurther from tells new move files held
+pub further_without : (tells : Bool) (old new : SeenAll) (from : ℕ) (move : Moving) (files : List Filed) (x : Filed) (m : Moving) (held : Stores) → granularities new.stores.manifests ≡ granularities old.stores.manifests → new.limbo ≡ old.limbo → CopiesFurther from tells old move files held → CopiesFurther from tells new m (files ++ x ∷ []) held → CopiesFurther from tells new move files held
 further_without tells old new from move files x m held same limbo is then = record {
   runs = runs_by (from + 1) tells old new move move files files held same refl is.runs is.runs.running is.runs.parts (λ some. some) is.runs.pending (record {
     rise = is.runs.ahead.rise;
@@ -646,8 +646,8 @@ further_without tells old new from move files x m held same limbo is then = reco
 
 -- WHAT THE ANSWER SAYS
 
-module _ (tells : Bool) (all new : SeenAll) (limbo : new.limbo ≡ all.limbo) (from : ℕ) (move : MoveState) (files : List Filed) (held : Stores) (has : Has tells all.stores held) (is : CopiesFurther from tells all move files held) (stand : LimboStands all.stores all.limbo) (retired : List Filed) (whole : AreWhole (from + 1) tells all.stores all.limbo held.stands retired)
-    (q : Filed) (q_next : IsNextPart from move held q) (part : Entry) (at_hand : slice_get move.parts move.at ≡ Some part) (most : ℕ) (nm : MoveState) (skipped : (stands : IsTrue held.stands) → past (B tells all from move files held has is stand retired whole stands q q_next part at_hand) move.series (left_of from move move.at files held) ≡ []) where
+module _ (tells : Bool) (all new : SeenAll) (limbo : new.limbo ≡ all.limbo) (from : ℕ) (move : Moving) (files : List Filed) (held : Stores) (has : Has tells all.stores held) (is : CopiesFurther from tells all move files held) (stand : LimboStands all.stores all.limbo) (retired : List Filed) (whole : AreWhole (from + 1) tells all.stores all.limbo held.stands retired)
+    (q : Filed) (q_next : IsNextPart from move held q) (part : Entry) (at_hand : slice_get move.parts move.at ≡ Some part) (most : ℕ) (nm : Moving) (skipped : (stands : IsTrue held.stands) → past (B tells all from move files held has is stand retired whole stands q q_next part at_hand) move.series (left_of from move move.at files held) ≡ []) where
   abbrev b : IsTrue held.stands → List Filed
   b stands = B tells all from move files held has is stand retired whole stands q q_next part at_hand
 
@@ -699,15 +699,15 @@ module _ (tells : Bool) (all new : SeenAll) (limbo : new.limbo ≡ all.limbo) (f
 
 -- The part that is copied next, with the file in limbo in which its lines go on, if there is one: what is to be listed with that, and what a step over
 -- it leaves and says of the move without it.
-pub record Turn (tells : Bool) (all : SeenAll) (from : ℕ) (move : MoveState) (files retired : List Filed) (held : Stores) (revived : Option Entry) (most : ℕ) : Type 1 where
+pub record Turn (tells : Bool) (all : SeenAll) (from : ℕ) (move : Moving) (files retired : List Filed) (held : Stores) (revived : Option Entry) (most : ℕ) : Type 1 where
   pub those : List Filed
   pub further : CopiesFurther from tells all (reviving move revived) those held
   pub later : IsTrue held.stands → HasLater from (reviving move revived) held
   pub goes : GoesBehind all.limbo (from + 2) move revived
   pub back : (new : SeenAll) → granularities new.stores.manifests ≡ granularities all.stores.manifests → new.limbo ≡ all.limbo → CopiesFurther from tells new (reviving move revived) those held → CopiesFurther from tells new move files held
-  pub says : (new : SeenAll) (nm : MoveState) (end : CopyEnd) → new.limbo ≡ all.limbo → SaysLines most from tells new (reviving move revived) nm those held end → SaysPart most from tells new move.at retired move nm files held end
+  pub says : (new : SeenAll) (nm : Moving) (end : CopyEnd) → new.limbo ≡ all.limbo → SaysLines most from tells new (reviving move revived) nm those held end → SaysPart most from tells new move.at retired move nm files held end
 
-module _ (tells : Bool) (all : SeenAll) (from : ℕ) (move : MoveState) (files : List Filed) (held : Stores) (has : Has tells all.stores held) (is : CopiesFurther from tells all move files held) (stand : LimboStands all.stores all.limbo) (retired : List Filed) (whole : AreWhole (from + 1) tells all.stores all.limbo held.stands retired)
+module _ (tells : Bool) (all : SeenAll) (from : ℕ) (move : Moving) (files : List Filed) (held : Stores) (has : Has tells all.stores held) (is : CopiesFurther from tells all move files held) (stand : LimboStands all.stores all.limbo) (retired : List Filed) (whole : AreWhole (from + 1) tells all.stores all.limbo held.stands retired)
     (q : Filed) (q_next : IsNextPart from move held q) (part : Entry) (at_hand : slice_get move.parts move.at ≡ Some part) where
   -- something of the part is left
   turn_later : (revived : Option Entry) → SaysBehind all.limbo (from + 2) move.series (last_of move.pending move.listed) q.entry.part.start revived → IsUncovered all.limbo (from + 2) move.series (last_of move.pending move.listed) q.entry → (IsTrue held.stands → since (end_after (last_of move.pending move.listed)) q.samples ≢ []) → IsTrue held.stands → HasLater from (reviving move revived) held
@@ -750,7 +750,7 @@ module _ (tells : Bool) (all : SeenAll) (from : ℕ) (move : MoveState) (files :
 
 -- FROM A LINE THAT WAS FOUND
 
-module _ (tells : Bool) (all : SeenAll) (from : ℕ) (move : MoveState) (files : List Filed) (held : Stores) (has : Has tells all.stores held) (is : CopiesFurther from tells all move files held) where
+module _ (tells : Bool) (all : SeenAll) (from : ℕ) (move : Moving) (files : List Filed) (held : Stores) (has : Has tells all.stores held) (is : CopiesFurther from tells all move files held) where
   -- a line that is left is a sample that is
   pub line_later : (name : Name) (at len : ℕ) → FindsLine from tells all.stores.files move held name at len → IsTrue held.stands → HasLater from move held
   line_later name at len line stands q q_next none =
@@ -769,11 +769,11 @@ module _ (tells : Bool) (all : SeenAll) (from : ℕ) (move : MoveState) (files :
       rest_none (s ∷ xs) ys is = absurd (cc (is))
 
 -- it is the line of the part that is copied next where no part was passed
-line_still : (from : ℕ) (tells : Bool) (now : Files) (move mid : MoveState) (held : Stores) (line : LineLeft) → PassesParts move mid → mid.at ≡ move.at → FindsLine from tells now move held line.name line.at line.len → FindsLine from tells now mid held line.name line.at line.len
-line_still from tells now move mid held line passes same found = subst (λ (x : MoveState). FindsLine from tells now x held line.name line.at line.len) (sym (passes.is ∙ ap (λ (k : ℕ). record move { parts = mid.parts; at = k }) same))
+line_still : (from : ℕ) (tells : Bool) (now : Files) (move mid : Moving) (held : Stores) (line : LineLeft) → PassesParts move mid → mid.at ≡ move.at → FindsLine from tells now move held line.name line.at line.len → FindsLine from tells now mid held line.name line.at line.len
+line_still from tells now move mid held line passes same found = subst (λ (x : Moving). FindsLine from tells now x held line.name line.at line.len) (sym (passes.is ∙ ap (λ (k : ℕ). record move { parts = mid.parts; at = k }) same))
     (record { file = found.file; next = record { here = found.next.here; within = found.next.within }; long = found.long; low = found.low; behind = found.behind; named = found.named; splits = found.splits; good = found.good })
 
-pub has_line : (from : ℕ) (tells : Bool) (now : Files) (move mid : MoveState) (held : Stores) (line : LineLeft) (own : Bool) (revived : Option Entry) (kept : Option LineLeft) → PassesParts move mid → (IsTrue own → mid.at ≡ move.at) → IfSome kept (λ k. (k ≡ line) × IsTrue own × (revived ≡ None))
+pub has_line : (from : ℕ) (tells : Bool) (now : Files) (move mid : Moving) (held : Stores) (line : LineLeft) (own : Bool) (revived : Option Entry) (kept : Option LineLeft) → PassesParts move mid → (IsTrue own → mid.at ≡ move.at) → IfSome kept (λ k. (k ≡ line) × IsTrue own × (revived ≡ None))
     → FindsLine from tells now move held line.name line.at line.len → (IsTrue held.stands → HasLater from (reviving mid revived) held) → HasLine from tells now (reviving mid revived) held kept
 has_line from tells now move mid held line own revived None passes same says found later = later
 has_line from tells now move mid held line own revived (Some k) passes same says found later =

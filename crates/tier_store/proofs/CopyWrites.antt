@@ -5,9 +5,9 @@ use Rattle.std.proofs.lemmas.List.Elements.{All-contains, Contains-get_or, filte
 use Rattle.disk_model.specs.Files.{Name, Files, HasFile, At}
 use Rattle.disk_model.specs.Past.{MayLeave, Passes}
 use Rattle.disk_model.proofs.Passing.{passes_weaker}
-use Rattle.gate_journal.specs.Standing.{Standing, ReadsDisk}
+use Rattle.gate_journal.specs.DiskShown.{DiskShown, ReadsDisk}
 use Rattle.etl_mover.specs.Growing.{IsPlaced}
-use Rattle.etl_mover.specs.Move.{MoveState, part_file}
+use Rattle.etl_mover.specs.Move.{Moving, part_file}
 use Rattle.etl_mover.specs.Step.{GoesTo, GoesNowhere, target_file}
 use Rattle.etl_mover.specs.Writing.{LeavesFile}
 use Rattle.etl_mover.proofs.Steps.{IsOfPart, start_is}
@@ -66,7 +66,7 @@ put_cases xs fs f within =
 
 -- WHAT IS SAID OF THE DISK
 
-module _ {S : Type 0} (shows : S → Standing) (faults_of : S → ℕ) (tells : Bool) (c : CatalogueState) (ms : List ManifestState) (limbo : List Retired) (from : ℕ) (m : ManifestState) (here : slice_get ms (from + 1) ≡ Some m) (d after : S)
+module _ {S : Type 0} (shows : S → DiskShown) (faults_of : S → ℕ) (tells : Bool) (c : CatalogueState) (ms : List ManifestState) (limbo : List Retired) (from : ℕ) (m : ManifestState) (here : slice_get ms (from + 1) ≡ Some m) (d after : S)
     (seen_it : IsTrue tells → MayLeave (shows d).past (shows d).files) where
   abbrev i : ℕ
   i = from + 1
@@ -78,17 +78,17 @@ module _ {S : Type 0} (shows : S → Standing) (faults_of : S → ℕ) (tells : 
   new = beside (seen_on shows faults_of c ms after) limbo
 
   -- what the call says of files: lines went behind a place of one, or files were read alone
-  abbrev pub Leaves : MoveState → Start → Type 0
+  abbrev pub Leaves : Moving → Start → Type 0
   Leaves move start = IsTrue tells → LeavesFile (target_file move start) start.at (shows d) (shows after)
 
   abbrev pub Reads : Type 0
   Reads = IsTrue tells → ReadsDisk (shows d) (shows after)
 
-  abbrev pub Wrote : MoveState → Entry → Type 0
+  abbrev pub Wrote : Moving → Entry → Type 0
   Wrote move part = ((start : Start) × GoesTo move None part start × Leaves move start) ⊎ (GoesNowhere move None part × Reads)
 
   -- no file in limbo has the name of a file that is made anew
-  abbrev pub Apart : MoveState → Type 0
+  abbrev pub Apart : Moving → Type 0
   Apart move = (p : Entry) (start : Start) → GoesTo move None p start → start.at ≡ None → (r : Retired) → Contains limbo r → r.name ≡ file_of (i + 1, c.rows) start.entry → ⊥
 
   -- what it leaves of its store
@@ -97,7 +97,7 @@ module _ {S : Type 0} (shows : S → Standing) (faults_of : S → ℕ) (tells : 
     pub moments : Passes (λ a b. Holds m.granularity b (tier i held)) (shows d).past (shows after).past
     pub safe : AreSafe (of_files i held files) (shows after)
 
-  module _ (move : MoveState) (part : Entry) (files : List Filed) (held : Stores) (has : Has tells old.stores held) (is : CopiesFurther from tells old move files held) where
+  module _ (move : Moving) (part : Entry) (files : List Filed) (held : Stores) (has : Has tells old.stores held) (is : CopiesFurther from tells old move files held) where
     abbrev pub base : Held
     base = with_files (tier i held) files
 
@@ -273,7 +273,7 @@ module _ {S : Type 0} (shows : S → Standing) (faults_of : S → ℕ) (tells : 
     shown_still (inr (nowhere, reads)) apart_from = read_shown shows faults_of tells c ms limbo d after (λ told. (reads told).same)
 
   -- all other names stay
-  pub leaves_others : (move : MoveState) (part : Entry) → Wrote move part → LeavesOthers move tells old new
+  pub leaves_others : (move : Moving) (part : Entry) → Wrote move part → LeavesOthers move tells old new
   leaves_others move part (inl (start, goes, leaves)) names later none = record {
     files = λ told n within. (leaves told).elsewhere n (λ same. none start.entry (subst (Contains names) same within));
     fewer = λ told n within. (leaves told).fewer n;
@@ -325,7 +325,7 @@ module _ {S : Type 0} (shows : S → Standing) (faults_of : S → ℕ) (tells : 
 
   -- LIMBO STAYS WHOLE
 
-  module _ (move : MoveState) (part : Entry) (files : List Filed) (held : Stores) where
+  module _ (move : Moving) (part : Entry) (files : List Filed) (held : Stores) where
     abbrev list : List Filed
     list = list_at i held
 

@@ -8,7 +8,7 @@ use Rattle.disk_model.specs.Past.{Passes}
 use Rattle.disk_model.specs.declared.disk.DiskErr.{DiskErr}
 use Rattle.disk_model.proofs.Passing.{passes_none, passes_then, passes_weaker}
 use Rattle.gate_journal.specs.Generations.{IsOwn, AtOwn}
-use Rattle.gate_journal.specs.Standing.{Standing}
+use Rattle.gate_journal.specs.DiskShown.{DiskShown}
 use Rattle.pv_catalog.specs.declared.row.Row.{Row}
 use Rattle.series_model.specs.declared.batch.RowSamples.{RowSamples}
 use Rattle.store_files.specs.Fronts.{Begins, Keeps}
@@ -23,7 +23,7 @@ use Rattle.durable_write.proofs.Written.{contains_entry, listed_stays, put_all_n
 use Rattle.durable_write.proofs.Staying.{contains_map, same_cases, filed_still, safe_grows, safe_both}
 use Rattle.tier_store.specs.Stores.{Stores, tier, list_at, with_rows}
 use Rattle.tier_store.specs.Seen.{Seen, granularities, on_disk}
-use Rattle.tier_store.specs.Change.{IsKnownAt, Has, IsOpen, HasEither, SameFiles, EndsFrom, Call, Changes}
+use Rattle.tier_store.specs.Change.{IsKnownAt, Has, IsOpen, HasEither, SameFiles, EndsFrom, StoreCall, Changes}
 use Rattle.tier_store.specs.Limbo.{LimboStands, IsListedName, IsNeeded, Removes, StayUnlisted}
 use Rattle.tier_store.specs.Pinned.{SeenAll, beside, IsThereTo, KeepsShown, LeavesFronts, IsHeldTo, IsRetiredTo}
 use Rattle.tier_store.specs.Revival.{AreInLimbo, flushing_over, AreWhole, IsAmong, IsOfLimbo, KeepsWhole, store_with, AreUnlistedIn}
@@ -50,7 +50,7 @@ use Rattle.tier_store.specs.Reviving.{free_of, is_free, is_nothing}
 use Rattle.tier_store.proofs.RunningMoves.{later_names, name_in, read_names, commit_leaves, commit_leaves_files, first_leaves, none_further, nothing_leaves, read_leaves}
 use Rattle.tier_store.proofs.Removals.{stay_from}
 use Rattle.pv_catalog.specs.Catalogue.{CatalogueState}
-use Rattle.durable_write.specs.declared.piece.Piece.{Piece}
+use Rattle.durable_write.specs.declared.file_write.FileWrite.{FileWrite}
 use Rattle.tier_store.specs.Frame.{Frame}
 use Rattle.tier_store.specs.Strays.{LeavesTidy}
 use Rattle.tier_store.proofs.Strays.{file_apart, fronts_strays, ok_always, ok_both, ok_settled}
@@ -202,7 +202,7 @@ module _ (i : ℕ) (rows : List Row) (all left : List Filed) (stands : Bool) (wi
     filed = λ is k d lt. All-contains (IsFiled g rows) all (get_or left k d) (was.filed is) (within k d lt);
   }
 
-  pub safe_fewer : (disk : Standing) → AreSafe (store_of i rows all stands) disk → AreSafe (store_of i rows left stands) disk
+  pub safe_fewer : (disk : DiskShown) → AreSafe (store_of i rows all stands) disk → AreSafe (store_of i rows left stands) disk
   safe_fewer disk was = record {
     long = λ k d lt. All-contains (λ (f : Filed). HasFile disk.files (name_at i rows f) (λ b. f.entry.len ≤ length b)) all (get_or left k d) was.long (within k d lt);
     unopened = λ k d lt. All-contains (λ (f : Filed). disk.opened (name_at i rows f) ≤ f.entry.len) all (get_or left k d) was.unopened (within k d lt);
@@ -512,7 +512,7 @@ read_frame tells old new three rows lists limbo files opened passes =
 -- A COMMIT OF ONE JOURNAL
 
 -- a call by which the stores go on, and which writes no files but those of one journal
-module _ {A E : Type 0} (tells : Bool) (call : Call A E) (old new : SeenAll) (end : End A E) (limbo : new.limbo ≡ old.limbo) (held : Stores) (has : Has tells old.stores held) (ends : EndsFrom tells call new.stores held end)
+module _ {A E : Type 0} (tells : Bool) (call : StoreCall A E) (old new : SeenAll) (end : End A E) (limbo : new.limbo ≡ old.limbo) (held : Stores) (has : Has tells old.stores held) (ends : EndsFrom tells call new.stores held end)
     (goes : (made : Stores) → call.by held made → GoesOn held made) (spares : (made : Stores) → call.by held made → (name : Name) (len : ℕ) → IsRetiredTo old name len → Spares held name len → Spares made name len) where
   listed_still : (name : Name) (len : ℕ) → IsHeldTo old.stores name len → IsHeldTo new.stores name len
   listed_still name len h = ends_held tells call old.stores new.stores held end name len has goes ends h
@@ -527,7 +527,7 @@ module _ {A E : Type 0} (tells : Bool) (call : Call A E) (old new : SeenAll) (en
       (call_whole tells old new has.known.three limbo (λ name h. listed_still name 0 h) keeps same_g (commit_leaves_files tells old new journal R limbo zero_store elsewhere fewer passes))
 
 -- the rows go on, and only the catalogue's files are written
-pub rows_frame : {A E : Type 0} (tells : Bool) (call : Call A E) (old new : SeenAll) (end : End A E) (R : Files → Files → Type 0) → new.limbo ≡ old.limbo → (held : Stores) × Has tells old.stores held → ((held made : Stores) → call.by held made → (made ≡ with_rows held made.rows) × KeepsRows held.rows made.rows) → Changes tells call old.stores new.stores end
+pub rows_frame : {A E : Type 0} (tells : Bool) (call : StoreCall A E) (old new : SeenAll) (end : End A E) (R : Files → Files → Type 0) → new.limbo ≡ old.limbo → (held : Stores) × Has tells old.stores held → ((held made : Stores) → call.by held made → (made ≡ with_rows held made.rows) × KeepsRows held.rows made.rows) → Changes tells call old.stores new.stores end
     → (IsTrue tells → (n : Name) → (IsOwn old.stores.catalogue.journal.name n → ⊥) → new.stores.files n ≡ old.stores.files n) → (IsTrue tells → new.stores.opened ≡ old.stores.opened) → (IsTrue tells → Passes (AtOwn old.stores.catalogue.journal.name R) old.stores.past new.stores.past) → Frame tells old new
 rows_frame {A} {E} tells call old new end R limbo has goes change elsewhere opened passes =
     commit_frame tells call old new end limbo has.0 has.1 (change.ends has.0 has.1) (λ made by. inr (goes has.0 made by))
@@ -535,7 +535,7 @@ rows_frame {A} {E} tells call old new end R limbo has goes change elsewhere open
     old.stores.catalogue.journal.name R (rows_keep tells call old.stores new.stores end has goes change) change.costs.granularity (λ told. ap (λ (n : Name). n.0) (has.1.disk told).rows.named) elsewhere (λ told. none_further old.stores.opened new.stores.opened (opened told)) passes
 
 -- and then no file is a stray that was none
-pub rows_tidy : {A B E : Type 0} (tells : Bool) (call : Call A E) (old new : SeenAll) (end_by : Result A B → End A E) (r : Result A B) → ((a : A) → end_by (Ok a) ≡ Done a) → (held : Stores) × Has tells old.stores held → Changes tells call old.stores new.stores (end_by r) → Frame tells old new
+pub rows_tidy : {A B E : Type 0} (tells : Bool) (call : StoreCall A E) (old new : SeenAll) (end_by : Result A B → End A E) (r : Result A B) → ((a : A) → end_by (Ok a) ≡ Done a) → (held : Stores) × Has tells old.stores held → Changes tells call old.stores new.stores (end_by r) → Frame tells old new
     → (IsTrue tells → (n : Name) → (IsOwn old.stores.catalogue.journal.name n → ⊥) → new.stores.files n ≡ old.stores.files n) → OnOk r (LeavesTidy tells old new)
 rows_tidy {A} {B} {E} tells call old new end_by r done has change frame elsewhere =
     ok_both r _ _ (ok_settled tells call new.stores has.0 end_by r done (change.ends has.0 has.1)) (ok_always r _
@@ -546,7 +546,7 @@ rows_tidy {A} {B} {E} tells call old new end_by r done has change frame elsewher
 -- store 1 has the batch too, and of the other stores none is written
 module _ (tells : Bool) (files : List Filed) (batch : List RowSamples) (old new : SeenAll) (end : End ℕ ⊥) (limbo : new.limbo ≡ old.limbo) (catalogue : new.stores.catalogue ≡ old.stores.catalogue) (stands : LimboStands old.stores old.limbo)
     (held : Stores) (has : Has tells old.stores held) (whole : AreWhole 0 tells old.stores old.limbo held.stands files) (ends : EndsFrom tells (flushing_over old.limbo files batch) new.stores held end) (m : ManifestState) (here : slice_get old.stores.manifests 0 ≡ Some m)
-    (entries : List Entry) (listed : AreUnlistedIn old.stores.manifests 1 old.limbo entries) (pieces : List Piece) (count : ℕ) (revives : ToRevive tells old.stores m old.limbo entries files batch pieces count held) where
+    (entries : List Entry) (listed : AreUnlistedIn old.stores.manifests 1 old.limbo entries) (writes : List FileWrite) (count : ℕ) (revives : ToRevive tells old.stores m old.limbo entries files batch writes count held) where
   pub flush_frame : granularities new.stores.manifests ≡ granularities old.stores.manifests → (IsTrue tells → LeavesListed (listing_of (with_files (tier 0 held) revives.by.back)) old.stores.files new.stores.files old.stores.past new.stores.past) → (IsTrue tells → AreLong (with_files (tier 0 held) revives.by.back) new.stores.files)
       → (IsTrue tells → Beside 1 m.journal.name old.stores.files new.stores.files) → (IsTrue tells → (n : Name) → new.stores.opened n ≤ old.stores.opened n) → (IsTrue tells → Passes (Beside 1 m.journal.name) old.stores.past new.stores.past) → Frame tells old new
   flush_frame same_g leaves long elsewhere fewer passes =

@@ -21,7 +21,7 @@ use Rattle.pb_messages.specs.declared.info.PayloadInfo.{PayloadInfo}
 use Rattle.durable_write.proofs.Staying.{same_then}
 use Rattle.std.proofs.lemmas.Option.{same_Some}
 use Rattle.disk_model.specs.declared.disk.DiskErr.{DiskErr}
-use Rattle.gate_journal.specs.Standing.{Standing, ReadsDisk}
+use Rattle.gate_journal.specs.DiskShown.{DiskShown, ReadsDisk}
 use Rattle.pb_lines.specs.Header.{IsHeaderLine}
 use Rattle.tier_store.specs.Finding.{AreLinesFrom, BeginsWithHeader, GoesOnWith, IsGoodUpTo, IsLaterStart, IsNoSooner, IsTold, IsUpTo, SaysFile, SkipsLines, SplitsAt, no_line}
 use Rattle.tier_store.specs.declared.finding.LaterLines.{LaterLines}
@@ -211,7 +211,7 @@ none_left files name from at end w ty year n samples count len more bytes is all
 -- THE WHOLE FILE
 
 -- a read after another
-pub then_reads : (old mid new : Standing) → ReadsDisk old mid → ReadsDisk mid new → ReadsDisk old new
+pub then_reads : (old mid new : DiskShown) → ReadsDisk old mid → ReadsDisk mid new → ReadsDisk old new
 then_reads old mid new one two = record { same = two.same ∙ one.same; same_opened = two.same_opened ∙ one.same_opened; any_moment = same_then old.past mid.past new.past one.any_moment two.any_moment }
 
 -- a file's header's line, and its samples' lines behind it

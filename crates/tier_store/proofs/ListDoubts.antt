@@ -20,7 +20,7 @@ use Rattle.tier_store.specs.Change.{IsKnownAt, Has, RowsInDoubt, PlaceInDoubt, D
 use Rattle.tier_store.proofs.Places.{one_manifest, within_three, set_cases, tier_other}
 use Rattle.disk_model.proofs.Passing.{passes_weaker}
 use Rattle.gate_journal.specs.Generations.{IsOwn, AtOwn}
-use Rattle.gate_journal.specs.Standing.{Standing, ReadsDisk}
+use Rattle.gate_journal.specs.DiskShown.{DiskShown, ReadsDisk}
 use Rattle.gate_journal.proofs.Keeping.{says_stays}
 use Rattle.gate_journal.proofs.Owning.{own_store}
 use Rattle.partition_names.specs.declared.granularity.Granularity.{Granularity}
@@ -35,7 +35,7 @@ use Rattle.store_manifest.specs.Manifest as manifest
 
 -- ON THE DISK
 
-module _ (old new : Standing) (reads : ReadsDisk old new) where
+module _ (old new : DiskShown) (reads : ReadsDisk old new) where
   all : Reads old new
   all = reads_all old new reads.any_moment reads.same reads.same_opened
 
@@ -44,7 +44,7 @@ module _ (old new : Standing) (reads : ReadsDisk old new) where
 
 -- IN MEMORY TOO
 
-module _ {S : Type 0} (shows : S → Standing) (faults_of : S → ℕ) (tells : Bool) (d after : S)
+module _ {S : Type 0} (shows : S → DiskShown) (faults_of : S → ℕ) (tells : Bool) (d after : S)
     (reads : IsTrue tells → ReadsDisk (shows d) (shows after)) (c : CatalogueState) (ms : List ManifestState) (before next : Stores) where
   abbrev seen_at : CatalogueState → List ManifestState → S → Seen
   seen_at catalogue manifests x = seen_on shows faults_of catalogue manifests x
@@ -110,7 +110,7 @@ list_in_doubt tells at before next i m here (inr doubt) unsound told = elim doub
         (subst (IsUnsure (Configured n.granularity) n.journal (on_disk at) (map entry_of (list_at k before))) (sym p.next) (p.disk told).list.unsure)
 
 -- the review is a call on the files of one manifest alone
-module _ {S : Type 0} (shows : S → Standing) (faults_of : S → ℕ) (tells : Bool) (d after : S) (c : CatalogueState) (ms : List ManifestState) (before next : Stores) (i : ℕ) (m made : ManifestState) (here : slice_get ms i ≡ Some m)
+module _ {S : Type 0} (shows : S → DiskShown) (faults_of : S → ℕ) (tells : Bool) (d after : S) (c : CatalogueState) (ms : List ManifestState) (before next : Stores) (i : ℕ) (m made : ManifestState) (here : slice_get ms i ≡ Some m)
     (same_g : made.granularity ≡ m.granularity) (name : made.journal.name ≡ m.journal.name) (alone : IsTrue tells → Alone m.journal.name (shows d) (shows after)) where
   abbrev at : CatalogueState → List ManifestState → S → Seen
   at catalogue manifests x = seen_on shows faults_of catalogue manifests x

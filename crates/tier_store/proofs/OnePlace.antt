@@ -5,7 +5,7 @@ use Rattle.disk_model.specs.Files.{Name, Files, Rose}
 use Rattle.disk_model.specs.Past.{Passes, MayLeave}
 use Rattle.gate_journal.specs.Generations.{IsOwn, AtOwn}
 use Rattle.gate_journal.specs.Journal.{JournalState}
-use Rattle.gate_journal.specs.Standing.{Standing}
+use Rattle.gate_journal.specs.DiskShown.{DiskShown}
 use Rattle.gate_journal.proofs.Keeping.{says_stays}
 use Rattle.partition_names.specs.declared.granularity.Granularity.{Granularity}
 use Rattle.pv_catalog.specs.declared.row.Row.{Row}
@@ -19,7 +19,7 @@ use Rattle.durable_write.specs.Stored.{Holds, AreLong, AreSafe, CatalogueStored,
 use Rattle.durable_write.specs.Three.{Beside, Anything}
 use Rattle.durable_write.proofs.Commits.{other_journal}
 use Rattle.durable_write.proofs.Staying.{Untouched, catalogue_stays, tier_stays, not_own_in, safe_stays, manifests_differ, same_cases, set_long, get_set_same}
-use Rattle.tier_store.specs.Change.{SameFiles, Has, HoldsBy, HoldsEither as StoresEither, Call, EndsFrom, OnlyReads, OnlySettles, Changes, IsKnownAt, IsKnown, Doubts, CanList}
+use Rattle.tier_store.specs.Change.{SameFiles, Has, HoldsBy, HoldsEither as StoresEither, StoreCall, EndsFrom, OnlyReads, OnlySettles, Changes, IsKnownAt, IsKnown, Doubts, CanList}
 use Rattle.std.specs.Prelude.{IsTrue, Result, Ok, Err, slice_get, slice_set}
 use Rattle.disk_model.specs.declared.disk.DiskErr.{DiskErr}
 use Rattle.disk_model.specs.declared.disk.DiskErr.TheVariants.{Fault, Memory}
@@ -32,7 +32,7 @@ use Rattle.tier_store.specs.Given.{ChangesGiven}
 use Rattle.tier_store.proofs.Holding.{has_left, open_left, all_hold, all_left, hold_at}
 use Rattle.tier_store.proofs.Places.{within_three, one_manifest, set_cases, same_granularities, holding, list_set, tier_set, tier_other}
 use Rattle.series_model.specs.declared.batch.RowSamples.{RowSamples}
-use Rattle.durable_write.specs.declared.piece.Piece.{Piece}
+use Rattle.durable_write.specs.declared.file_write.FileWrite.{FileWrite}
 use Rattle.store_manifest.specs.declared.entry.Entry.{Entry}
 use Rattle.durable_write.specs.Flush.{HoldsBoth}
 use Rattle.durable_write.specs.Flush as flush
@@ -89,14 +89,14 @@ long_out a c t numbered same long k d lt =
 -- ONE STORE
 
 -- a call on the files of one store and on its manifest
-pub record OnStore (store : ℕ) (name : Name) (old new : Standing) : Type 0 where
+pub record OnStore (store : ℕ) (name : Name) (old new : DiskShown) : Type 0 where
   pub numbered : 1 ≤ store
   pub named : name ≡ manifest_name store
   pub passes : Passes (Beside store name) old.past new.past
   pub same : Beside store name old.files new.files
   pub fewer : (n : Name) → new.opened n ≤ old.opened n
 
-module _ (store : ℕ) (name : Name) (old new : Standing) (call : OnStore store name old new) where
+module _ (store : ℕ) (name : Name) (old new : DiskShown) (call : OnStore store name old new) where
   by_name : (a c : Files) → Beside store name a c → Beside store (manifest_name store) a c
   by_name a c step = subst (λ (n : Name). Beside store n a c) call.named step
 
@@ -144,7 +144,7 @@ nothing_read {A} {E} tells s end not_failed = record {
 }
 
 -- what is said of all stores is said of those of which this is true
-pub changes_given : {A E : Type 0} (Is : Stores → Type 0) (tells : Bool) (call : Call A E) (old new : Seen) (end : End A E) → Changes tells call old new end → ChangesGiven Is tells call old new end
+pub changes_given : {A E : Type 0} (Is : Stores → Type 0) (tells : Bool) (call : StoreCall A E) (old new : Seen) (end : End A E) → Changes tells call old new end → ChangesGiven Is tells call old new end
 changes_given {A} {E} Is tells call old new end change = record { ends = λ held has given. change.ends held has; any_moment = λ told held has given. change.any_moment told held has; costs = change.costs }
 
 -- a call that only read settles nothing, and whatever was in doubt stays
@@ -161,7 +161,7 @@ reads_settle {A} {E} tells old new end reads = record {
 }
 
 -- nothing was done
-pub nothing_changes : {A E : Type 0} (tells : Bool) (call : Call A E) (s : Seen) (end : End A E) → ((held : Stores) → Has tells s held → EndsFrom tells call s held end) → (IsFailed end → ⊥) → Changes tells call s s end
+pub nothing_changes : {A E : Type 0} (tells : Bool) (call : StoreCall A E) (s : Seen) (end : End A E) → ((held : Stores) → Has tells s held → EndsFrom tells call s held end) → (IsFailed end → ⊥) → Changes tells call s s end
 nothing_changes {A} {E} tells call s end ends not_failed = record {
   ends = ends;
   any_moment = λ told held has. passes_none (HoldsBy (granularities s.manifests) call.by held) s.past (λ image left. inl (has_left tells s held has told image left));
@@ -171,13 +171,13 @@ nothing_changes {A} {E} tells call s end ends not_failed = record {
 -- A CHANGE OF THE LIST AT ONE PLACE
 
 -- what is said of stores of which anything is true is said of all
-every : {A E : Type 0} (tells : Bool) (call : Call A E) (old new : Seen) (end : End A E) → ChangesGiven (λ (s : Stores). Unit {0}) tells call old new end → Changes tells call old new end
+every : {A E : Type 0} (tells : Bool) (call : StoreCall A E) (old new : Seen) (end : End A E) → ChangesGiven (λ (s : Stores). Unit {0}) tells call old new end → Changes tells call old new end
 every {A} {E} tells call old new end change = record { ends = λ held has. change.ends held has tt; any_moment = λ told held has. change.any_moment told held has tt; costs = change.costs }
 
 places_apart : (i k : ℕ) → k ≢ i → k + 1 ≢ i + 1
 places_apart i k apart is = apart (omega (arith, is))
 
-module _ {S : Type 0} (shows : S → Standing) (faults_of : S → ℕ) (tells : Bool) (c : CatalogueState) (ms : List ManifestState) (i : ℕ) (m made : ManifestState) (here : slice_get ms i ≡ Some m) (d after : S) where
+module _ {S : Type 0} (shows : S → DiskShown) (faults_of : S → ℕ) (tells : Bool) (c : CatalogueState) (ms : List ManifestState) (i : ℕ) (m made : ManifestState) (here : slice_get ms i ≡ Some m) (d after : S) where
   abbrev set : List ManifestState
   set = slice_set ms i made
 
@@ -240,7 +240,7 @@ module _ {S : Type 0} (shows : S → Standing) (faults_of : S → ℕ) (tells : 
     still_has held has unchanged sound stored = has_list held held has refl (λ k low apart. refl) sound (unchanged ∙ (has.known.each i m here).entries) (has.known.each i m here).valid stored
 
     -- what the place is to list of stores of which this is true
-    module _ {A E : Type 0} (Is : Stores → Type 0) (call : Call A E) (next : (held : Stores) → Has tells before held → Is held → List Filed) (by : (held : Stores) (has : Has tells before held) (is : Is held) → call.by held (with_list i (next held has is) held))
+    module _ {A E : Type 0} (Is : Stores → Type 0) (call : StoreCall A E) (next : (held : Stores) → Has tells before held → Is held → List Filed) (by : (held : Stores) (has : Has tells before held) (is : Is held) → call.by held (with_list i (next held has is) held))
         (valid : (held : Stores) (has : Has tells before held) (is : Is held) → AreHeld m.granularity (holding i held (next held has is)))
         (moment : IsTrue tells → (held : Stores) (has : Has tells before held) (is : Is held) → Passes (HoldsEither m.granularity (tier i held) (holding i held (next held has is))) (shows d).past (shows after).past) where
       abbrev then : (held : Stores) → Has tells before held → Is held → Stores
@@ -358,7 +358,7 @@ module _ {S : Type 0} (shows : S → Standing) (faults_of : S → ℕ) (tells : 
                 }
 
     -- and of all stores
-    module _ {A E : Type 0} (call : Call A E) (next : (held : Stores) → Has tells before held → List Filed) (by : (held : Stores) (has : Has tells before held) → call.by held (with_list i (next held has) held))
+    module _ {A E : Type 0} (call : StoreCall A E) (next : (held : Stores) → Has tells before held → List Filed) (by : (held : Stores) (has : Has tells before held) → call.by held (with_list i (next held has) held))
         (valid : (held : Stores) (has : Has tells before held) → AreHeld m.granularity (holding i held (next held has)))
         (moment : IsTrue tells → (held : Stores) (has : Has tells before held) → Passes (HoldsEither m.granularity (tier i held) (holding i held (next held has))) (shows d).past (shows after).past) where
       abbrev Any : Stores → Type 0
@@ -380,7 +380,7 @@ module _ {S : Type 0} (shows : S → Standing) (faults_of : S → ℕ) (tells : 
 -- A FLUSH INTO STORE 1
 
 -- a store of which the list is in doubt, out of what is said of it with the catalogue
-pub list_unsure : (catalogue : JournalState) (m : ManifestState) (shelf : Shelf) (disk : Standing) (before after : Held) → IsDoubtedAs catalogue m shelf disk before after → m.journal.sound ≡ false → TierUnsure m.granularity m.journal disk before after
+pub list_unsure : (catalogue : JournalState) (m : ManifestState) (shelf : Shelf) (disk : DiskShown) (before after : Held) → IsDoubtedAs catalogue m shelf disk before after → m.journal.sound ≡ false → TierUnsure m.granularity m.journal disk before after
 list_unsure catalogue m shelf disk before after doubted unsound = elim doubted.in_doubt.doubt [
   | inl r ↦ absurd (cc (unsound, r.tier.sound))
   | inr l ↦ l.tier
@@ -395,18 +395,18 @@ stored_as tells at held i m here has told = record {
 }
 
 -- the plan of a manifest that is the same
-pub planned : (ms : List ManifestState) (n m : ManifestState) → slice_get ms 0 ≡ Some n → slice_get ms 0 ≡ Some m → (rows : List Row) (limbo : List Entry) (batch : List RowSamples) (pieces : List Piece) (count : ℕ) → ((held : Held) → HoldsBoth n.granularity rows n.entries limbo held → flush.Flushes n.granularity held batch pieces count)
-    → (held : Held) → HoldsBoth m.granularity rows m.entries limbo held → flush.Flushes m.granularity held batch pieces count
-planned ms n m there here rows limbo batch pieces count plan =
-    subst (λ (x : ManifestState). (held : Held) → HoldsBoth x.granularity rows x.entries limbo held → flush.Flushes x.granularity held batch pieces count) (one_manifest ms 0 0 m n refl here there) plan
+pub planned : (ms : List ManifestState) (n m : ManifestState) → slice_get ms 0 ≡ Some n → slice_get ms 0 ≡ Some m → (rows : List Row) (limbo : List Entry) (batch : List RowSamples) (writes : List FileWrite) (count : ℕ) → ((held : Held) → HoldsBoth n.granularity rows n.entries limbo held → flush.Flushes n.granularity held batch writes count)
+    → (held : Held) → HoldsBoth m.granularity rows m.entries limbo held → flush.Flushes m.granularity held batch writes count
+planned ms n m there here rows limbo batch writes count plan =
+    subst (λ (x : ManifestState). (held : Held) → HoldsBoth x.granularity rows x.entries limbo held → flush.Flushes x.granularity held batch writes count) (one_manifest ms 0 0 m n refl here there) plan
 
--- what the writing of the pieces says of all that stands beside store 1
-pub on_store : (tells : Bool) (at : Seen) (held : Stores) (i : ℕ) (m : ManifestState) → slice_get at.manifests i ≡ Some m → Has tells at held → (tells_it : IsTrue tells) → (new : Standing) → Passes (Beside (i + 1) m.journal.name) at.past new.past → ((n : Name) → n.0 ≢ i + 1 → (IsOwn m.journal.name n → ⊥) → new.files n ≡ at.files n) → ((n : Name) → new.opened n ≤ at.opened n) → OnStore (i + 1) m.journal.name (on_disk at) new
+-- what the writing of the writes says of all that stands beside store 1
+pub on_store : (tells : Bool) (at : Seen) (held : Stores) (i : ℕ) (m : ManifestState) → slice_get at.manifests i ≡ Some m → Has tells at held → (tells_it : IsTrue tells) → (new : DiskShown) → Passes (Beside (i + 1) m.journal.name) at.past new.past → ((n : Name) → n.0 ≢ i + 1 → (IsOwn m.journal.name n → ⊥) → new.files n ≡ at.files n) → ((n : Name) → new.opened n ≤ at.opened n) → OnStore (i + 1) m.journal.name (on_disk at) new
 on_store tells at held i m here has told new passes same fewer = record { numbered = omega arith; named = ((has.disk told).each i m here).named; passes = passes; same = same; fewer = fewer }
 
 -- OTHER FILES AT ONE PLACE
 
-module _ {S : Type 0} (shows : S → Standing) (faults_of : S → ℕ) (tells : Bool) (c : CatalogueState) (ms : List ManifestState) (i : ℕ) (m made : ManifestState) (here : slice_get ms i ≡ Some m) (d after : S) (changes : List Change)
+module _ {S : Type 0} (shows : S → DiskShown) (faults_of : S → ℕ) (tells : Bool) (c : CatalogueState) (ms : List ManifestState) (i : ℕ) (m made : ManifestState) (here : slice_get ms i ≡ Some m) (d after : S) (changes : List Change)
     (can : (held : Stores) → Has tells (seen_on shows faults_of c ms d) held → (fs : List Filed) × CanList i tells (seen_on shows faults_of c ms d) changes held fs) where
   abbrev list_before : Seen
   list_before = seen_on shows faults_of c ms d
@@ -454,7 +454,7 @@ module _ {S : Type 0} (shows : S → Standing) (faults_of : S → ℕ) (tells : 
     at_moment told held has = moment told c.journal shelf (tier i held) (holding i held (files held has)) (can_relist held has told)
 
     -- by whatever call lists these files
-    module _ (call : Call (Unit {0}) ⊥) (by : (held : Stores) (has : Has tells list_before held) → call.by held (with_list i (files held has) held)) (says : (held : Stores) (has : Has tells list_before held) → call.says tt held (with_list i (files held has) held)) where
+    module _ (call : StoreCall (Unit {0}) ⊥) (by : (held : Stores) (has : Has tells list_before held) → call.by held (with_list i (files held has) held)) (says : (held : Stores) (has : Has tells list_before held) → call.says tt held (with_list i (files held has) held)) where
       pub call_done : made.entries ≡ all_changed m.entries changes → made.journal.sound ≡ true
           → (IsTrue tells → (catalogue : JournalState) (s : Shelf) (held next : Held) → Can catalogue s held next → IsStoredAs catalogue made s (shows after) next)
           → Changes tells call list_before list_behind (Done tt)

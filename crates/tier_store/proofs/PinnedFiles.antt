@@ -27,7 +27,7 @@ use Rattle.series_model.specs.Retrieval.{answer, reach}
 use Rattle.series_model.proofs.RisingLists.{end_from-append, RisesFrom-lower, RisesFrom-taken_from, taken_from-rising, taken_from-append, taken_over}
 use Rattle.series_model.proofs.AnswerLemmas.{answer_of_front, answer_of_rest}
 use Rattle.series_model.proofs.OverLemmas.{end_from-since, over_assoc, over_rising}
-use Rattle.act_model.specs.Limbo.{FileState}
+use Rattle.act_model.specs.Limbo.{RowFile}
 use Rattle.act_model.specs.Pin.{over_pieces}
 use Rattle.std.proofs.lemmas.Bool.{cases_lt}
 use Rattle.act_model.specs.Rule.{index_of}
@@ -62,14 +62,14 @@ use Rattle.tier_store.specs.Telling.{SaysOf}
 
 -- ONE AFTER ANOTHER
 
-abbrev pub flat : List FileState → List Sample
-flat fs = flat_map (λ (f : FileState). f.samples) fs
+abbrev pub flat : List RowFile → List Sample
+flat fs = flat_map (λ (f : RowFile). f.samples) fs
 
-abbrev pub Rises : FileState → Type 0
+abbrev pub Rises : RowFile → Type 0
 Rises f = IsRising f.samples
 
 -- pieces over one another and a tail over them are what is taken of all their samples, one after another
-pub over_taken : (fs : List FileState) (a tail : List Sample) → AllByRecursion Rises fs → IsRising tail → over (over_pieces (taken a) fs) tail ≡ taken (a ++ (flat fs ++ tail))
+pub over_taken : (fs : List RowFile) (a tail : List Sample) → AllByRecursion Rises fs → IsRising tail → over (over_pieces (taken a) fs) tail ≡ taken (a ++ (flat fs ++ tail))
 over_taken [] a tail rise last = sym (taken_over a tail last)
 over_taken (f ∷ fs) a tail rise last =
     let next : over (taken a) f.samples ≡ taken (a ++ f.samples) = sym (taken_over a f.samples rise.0) in
@@ -79,10 +79,10 @@ over_taken (f ∷ fs) a tail rise last =
 -- WHERE THEY END
 
 -- the piece rises, and ends no later than n
-abbrev pub EndsBy : ℕ → FileState → Type 0
+abbrev pub EndsBy : ℕ → RowFile → Type 0
 EndsBy n f = IsRising f.samples × (end_of f.samples ≤ n)
 
-ends_by : (fs : List FileState) (k n : ℕ) → AllByRecursion (EndsBy n) fs → k ≤ n → end_from k (taken_from k (flat fs)) ≤ n
+ends_by : (fs : List RowFile) (k n : ℕ) → AllByRecursion (EndsBy n) fs → k ≤ n → end_from k (taken_from k (flat fs)) ≤ n
 ends_by [] k n all low = low
 ends_by (f ∷ fs) k n all low =
     let m = end_from k (taken_from k f.samples) in
@@ -107,9 +107,9 @@ cut closed xs q x later early =
     ap (λ (ys : List Sample). answer ys q) all ∙ answer_of_rest (taken closed) (x ∷ rest) q x (before q.from rest) rises some ∙ ap (λ (ys : List Sample). answer ys q) (sym own)
 
 -- the first of the pieces begins before the interval, and no earlier than all of these end
-pub record Leads (q : Query) (closed files : List FileState) : Type 0 where
-  pub first : FileState
-  pub others : List FileState
+pub record Leads (q : Query) (closed files : List RowFile) : Type 0 where
+  pub first : RowFile
+  pub others : List RowFile
   pub are : files ≡ first ∷ others
   pub sample : Sample
   pub more : List Sample
@@ -118,14 +118,14 @@ pub record Leads (q : Query) (closed files : List FileState) : Type 0 where
   pub later : AllByRecursion (EndsBy sample.t) closed
 
 -- such pieces and a tail answer as all pieces and the tail do
-pub enough : (closed files : List FileState) (tail : List Sample) (q : Query) → AllByRecursion Rises files → IsRising tail → (closed ≡ []) ⊎ Leads q closed files → answer (over (over_pieces [] files) tail) q ≡ answer (taken ((flat closed ++ flat files) ++ tail)) q
+pub enough : (closed files : List RowFile) (tail : List Sample) (q : Query) → AllByRecursion Rises files → IsRising tail → (closed ≡ []) ⊎ Leads q closed files → answer (over (over_pieces [] files) tail) q ≡ answer (taken ((flat closed ++ flat files) ++ tail)) q
 enough closed files tail q rise last (inl none) =
-    let all : flat files ++ tail ≡ (flat closed ++ flat files) ++ tail = ap (λ (fs : List FileState). (flat fs ++ flat files) ++ tail) (sym none) in
+    let all : flat files ++ tail ≡ (flat closed ++ flat files) ++ tail = ap (λ (fs : List RowFile). (flat fs ++ flat files) ++ tail) (sym none) in
     ap (λ (x : List Sample). answer x q) (over_taken files [] tail rise last ∙ ap taken all)
 enough closed files tail q rise last (inr leads) =
     let x = leads.sample in
     let xs = leads.more ++ (flat leads.others ++ tail) in
-    let begin : flat files ++ tail ≡ x ∷ xs = ap (λ (fs : List FileState). flat fs ++ tail) leads.are ∙ ap (λ (ys : List Sample). (ys ++ flat leads.others) ++ tail) leads.samples ∙ ap (λ (ys : List Sample). x ∷ ys) (append_assoc leads.more (flat leads.others) tail) in
+    let begin : flat files ++ tail ≡ x ∷ xs = ap (λ (fs : List RowFile). flat fs ++ tail) leads.are ∙ ap (λ (ys : List Sample). (ys ++ flat leads.others) ++ tail) leads.samples ∙ ap (λ (ys : List Sample). x ∷ ys) (append_assoc leads.more (flat leads.others) tail) in
     let whole : (flat closed ++ flat files) ++ tail ≡ flat closed ++ x ∷ xs = append_assoc (flat closed) (flat files) tail ∙ ap (λ (ys : List Sample). flat closed ++ ys) begin in
     ap (λ (ys : List Sample). answer ys q) (over_taken files [] tail rise last ∙ ap taken begin)
     ∙ sym (cut (flat closed) xs q x (ends_by closed 0 x.t leads.later (omega arith)) leads.early)
@@ -161,18 +161,18 @@ without front rest q late =
     ∙ answer_of_front (taken front) (taken_from n rest) q (reach q) (rises_from (reach q) n (taken_from n rest) (RisesFrom-taken_from n rest) (taken_none_before (reach q) n rest late)) (omega arith) (omega arith)
 
 -- all samples of the piece are so late
-abbrev pub LiesBehind : Query → FileState → Type 0
+abbrev pub LiesBehind : Query → RowFile → Type 0
 LiesBehind q f = NoneBefore (reach q) f.samples
 
-flat_behind : (q : Query) (fs : List FileState) → AllByRecursion (LiesBehind q) fs → NoneBefore (reach q) (flat fs)
+flat_behind : (q : Query) (fs : List RowFile) → AllByRecursion (LiesBehind q) fs → NoneBefore (reach q) (flat fs)
 flat_behind q [] all = tt
 flat_behind q (f ∷ fs) all = all-append (λ (s : Sample). reach q ≤ s.t) f.samples (flat fs) all.0 (flat_behind q fs all.1)
 
 -- pieces without those that lie behind, as the tail does, answer as with them
-pub without_behind : (files behind : List FileState) (tail : List Sample) (q : Query) → AllByRecursion Rises (files ++ behind) → IsRising tail → AllByRecursion (LiesBehind q) behind → NoneBefore (reach q) tail
+pub without_behind : (files behind : List RowFile) (tail : List Sample) (q : Query) → AllByRecursion Rises (files ++ behind) → IsRising tail → AllByRecursion (LiesBehind q) behind → NoneBefore (reach q) tail
     → answer (over (over_pieces [] files) tail) q ≡ answer (over (over_pieces [] (files ++ behind)) tail) q
 without_behind files behind tail q rise last late late_tail =
-    let whole : flat (files ++ behind) ++ tail ≡ flat files ++ (flat behind ++ tail) = ap (λ (xs : List Sample). xs ++ tail) (flat_map-append (λ (f : FileState). f.samples) files behind) ∙ append_assoc (flat files) (flat behind) tail in
+    let whole : flat (files ++ behind) ++ tail ≡ flat files ++ (flat behind ++ tail) = ap (λ (xs : List Sample). xs ++ tail) (flat_map-append (λ (f : RowFile). f.samples) files behind) ∙ append_assoc (flat files) (flat behind) tail in
     let few : over (over_pieces [] files) tail ≡ taken (flat files ++ tail) = over_taken files [] tail (all_front Rises files behind rise) last in
     let all : over (over_pieces [] (files ++ behind)) tail ≡ taken (flat files ++ (flat behind ++ tail)) = over_taken (files ++ behind) [] tail rise last ∙ ap taken whole in
     let more : NoneBefore (reach q) (flat behind ++ tail) = all-append (λ (s : Sample). reach q ≤ s.t) (flat behind) tail (flat_behind q behind late) late_tail in
@@ -300,7 +300,7 @@ flat_placed store [] = refl
 flat_placed store (f ∷ fs) = ap (λ (xs : List Sample). f.samples ++ xs) (flat_placed store fs)
 
 flat_both : (ps qs : List Placed) → flat (map state_of (ps ++ qs)) ≡ flat (map state_of ps) ++ flat (map state_of qs)
-flat_both ps qs = ap flat (map-append state_of ps qs) ∙ flat_map-append (λ (f : FileState). f.samples) (map state_of ps) (map state_of qs)
+flat_both ps qs = ap flat (map-append state_of ps qs) ∙ flat_map-append (λ (f : RowFile). f.samples) (map state_of ps) (map state_of qs)
 
 flat_files : (row : ℕ) (s : Stores) → flat (map state_of (files_in row s)) ≡ (samples_of row s.long ++ samples_of row s.medium) ++ samples_of row s.short
 flat_files row s =
@@ -378,7 +378,7 @@ module _ (rows : List Row) (q : Query) (files : List Placed) where
   so_late tail behind good rising late past =
       let rise : AllByRecursion Rises (map state_of files ++ map state_of behind) = subst (AllByRecursion Rises) (map-append state_of files behind) (all_rise rows (files ++ behind) good) in
       without_behind (map state_of files) (map state_of behind) tail q rise rising (files_behind rows q behind (all_rest (Good rows) files behind good) past) late
-      ∙ ap (λ (fs : List FileState). answer (over (over_pieces [] fs) tail) q) (sym (map-append state_of files behind))
+      ∙ ap (λ (fs : List RowFile). answer (over (over_pieces [] fs) tail) q) (sym (map-append state_of files behind))
 
   pub closed_behind : (tail : List Sample) (behind : List Placed) → AllByRecursion (Good rows) (files ++ behind) → IsRising tail → All (StartsPast q.from (files_to q tail)) (map listed_of behind) → AnswersSo tail behind
   closed_behind tail [] good rising past = ap (λ (ps : List Placed). answer (over (over_pieces [] (map state_of ps)) tail) q) (sym (append-nil files))

@@ -22,7 +22,7 @@ use Rattle.durable_write.proofs.Staying.{catalogue_unsure_stays, tier_unsure_sta
 use Rattle.tier_store.specs.Stores.{Stores, list_at, tier}
 use Rattle.tier_store.specs.Seen.{Seen, seen_on, granularities}
 use Rattle.tier_store.specs.Stored.{IsStoredAt, AllStored, RowsUnsure, PlaceUnsure, HoldsAll}
-use Rattle.tier_store.specs.Change.{Has, Doubts, IsOpen, Call, Changes, HoldsBy, IsKnown, IsListedIn}
+use Rattle.tier_store.specs.Change.{Has, Doubts, IsOpen, StoreCall, Changes, HoldsBy, IsKnown, IsListedIn}
 use Rattle.tier_store.specs.Pinned.{SeenAll, beside, IsThereTo, KeepsShown, IsShown, PinsStand, IsHeldTo, IsNoShorter}
 use Rattle.tier_store.specs.declared.limbo.Retired.{Retired}
 use Rattle.tier_store.specs.Opening.{IsReaderOf, answer_of, end_of_answer}
@@ -48,7 +48,7 @@ use Rattle.std.specs.List.{list_any}
 use Rattle.std.proofs.lemmas.List.Elements.{All-contains, Contains-get_or, filter_passes}
 use Rattle.std.proofs.lemmas.List.Folds.{Any-from_list_any, list_any-from_Any}
 use Rattle.disk_model.specs.Record.{is_same}
-use Rattle.etl_mover.specs.Move.{MoveState}
+use Rattle.etl_mover.specs.Move.{Moving}
 use Rattle.pv_catalog.specs.declared.row.Row.{Row}
 use Rattle.pv_catalog.proofs.Standing.{keeps_same}
 use Rattle.durable_write.proofs.Places.{listed_at, rise_filter}
@@ -57,7 +57,7 @@ use Rattle.tier_store.specs.Revival.{AreWhole, IsAmong, IsOfLimbo}
 use Rattle.tier_store.proofs.Revival.{known_open, limbo_name}
 use Rattle.tier_store.proofs.Frames.{filed_fewer, name_at, safe_fewer, spared_whole}
 use Rattle.disk_model.proofs.Lookups.{is_same-true, is_same-same}
-use Rattle.gate_journal.specs.Standing.{Standing, ReadsDisk}
+use Rattle.gate_journal.specs.DiskShown.{DiskShown, ReadsDisk}
 use Rattle.durable_write.proofs.Written.{contains_entry, one_of_place}
 
 -- OPENING A FILE AT ITS PINNED LENGTH
@@ -130,7 +130,7 @@ stand_fewer tells all pins gone stand n i pin piece here there = stand n i pin p
 
 -- OPENING
 
-module _ {S : Type 0} (shows : S → Standing) (faults_of : S → ℕ) (tells : Bool) (c : CatalogueState) (ms : List ManifestState) (d after : S) (name : Name) (len : ℕ) (numbered : 1 ≤ name.0) (passes : IsTrue tells → Passes (λ a b. b ≡ a) (shows d).past (shows after).past)
+module _ {S : Type 0} (shows : S → DiskShown) (faults_of : S → ℕ) (tells : Bool) (c : CatalogueState) (ms : List ManifestState) (d after : S) (name : Name) (len : ℕ) (numbered : 1 ≤ name.0) (passes : IsTrue tells → Passes (λ a b. b ≡ a) (shows d).past (shows after).past)
     (same : IsTrue tells → (shows after).files ≡ (shows d).files) (here : IsTrue tells → (shows after).opened name ≤ max ((shows d).opened name) len) (others : IsTrue tells → (n : Name) → n ≢ name → (shows after).opened n ≡ (shows d).opened n) where
   abbrev old : Seen
   old = seen_on shows faults_of c ms d
@@ -269,7 +269,7 @@ opened_most was now len is = omega (arith, is)
 -- CALLS THAT ONLY READ
 
 -- whatever stood so does so still
-module _ {S : Type 0} (shows : S → Standing) (faults_of : S → ℕ) (tells : Bool) (c : CatalogueState) (ms : List ManifestState) (d after : S) (passes : IsTrue tells → Passes (λ a b. b ≡ a) (shows d).past (shows after).past) (same : IsTrue tells → (shows after).files ≡ (shows d).files) (unopened : IsTrue tells → (shows after).opened ≡ (shows d).opened) where
+module _ {S : Type 0} (shows : S → DiskShown) (faults_of : S → ℕ) (tells : Bool) (c : CatalogueState) (ms : List ManifestState) (d after : S) (passes : IsTrue tells → Passes (λ a b. b ≡ a) (shows d).past (shows after).past) (same : IsTrue tells → (shows after).files ≡ (shows d).files) (unopened : IsTrue tells → (shows after).opened ≡ (shows d).opened) where
   abbrev any : Name
   any = (1, [])
 
@@ -291,7 +291,7 @@ module _ {S : Type 0} (shows : S → Standing) (faults_of : S → ℕ) (tells : 
 -- READING FILES
 
 -- what is held is so still when files were read
-module _ {S : Type 0} (shows : S → Standing) (faults_of : S → ℕ) (tells : Bool) (c : CatalogueState) (ms : List ManifestState) (d after : S) (reads : IsTrue tells → ReadsDisk (shows d) (shows after)) where
+module _ {S : Type 0} (shows : S → DiskShown) (faults_of : S → ℕ) (tells : Bool) (c : CatalogueState) (ms : List ManifestState) (d after : S) (reads : IsTrue tells → ReadsDisk (shows d) (shows after)) where
   pub has_read : (held : Stores) → Has tells (seen_on shows faults_of c ms d) held → Has tells (seen_on shows faults_of c ms after) held
   has_read held has = read_has shows faults_of tells c ms d after (λ told. (reads told).any_moment) (λ told. (reads told).same) (λ told. (reads told).same_opened) held has
 
@@ -321,7 +321,7 @@ module _ {R : Type 0} (tells : Bool) (name : List ℕ) (tail : List Sample) (hel
 -- ASKING WHICH FILES ARE THERE
 
 -- a call that only read
-pub reads_look : {S A : Type 0} (shows : S → Standing) (faults_of : S → ℕ) (tells : Bool) (c : CatalogueState) (ms : List ManifestState) (limbo : List Retired) (d after : S) (r : Result A DiskErr)
+pub reads_look : {S A : Type 0} (shows : S → DiskShown) (faults_of : S → ℕ) (tells : Bool) (c : CatalogueState) (ms : List ManifestState) (limbo : List Retired) (d after : S) (r : Result A DiskErr)
     → (IsTrue tells → ReadsDisk (shows d) (shows after)) → faults_of d ≤ faults_of after → (r ≡ Err Fault → Rose (faults_of d) (faults_of after))
     → OnlyLooks tells (beside (seen_on shows faults_of c ms d) limbo) (beside (seen_on shows faults_of c ms after) limbo) (end_of_disk {A = A} r)
 reads_look {S} {A} shows faults_of tells c ms limbo d after r reads more cause = record {
@@ -336,7 +336,7 @@ reads_look {S} {A} shows faults_of tells c ms limbo d after r reads more cause =
 }
 
 -- of all stores
-pub given_changes : {A E : Type 0} (tells : Bool) (call : Call A E) (old new : Seen) (end : End A E) → ChangesGiven (λ (s : Stores). Unit {0}) tells call old new end → Changes tells call old new end
+pub given_changes : {A E : Type 0} (tells : Bool) (call : StoreCall A E) (old new : Seen) (end : End A E) → ChangesGiven (λ (s : Stores). Unit {0}) tells call old new end → Changes tells call old new end
 given_changes {A} {E} tells call old new end change = record {
   ends = λ held has. change.ends held has tt;
   any_moment = λ told held has. change.any_moment told held has tt;
@@ -366,12 +366,12 @@ if_ok_to {A} (Ok a) P Q to was = to a was
 if_ok_to {A} (Err e) P Q to was = tt
 
 -- any call: where the asking failed, and where it follows
-asked_moments : {A E B F : Type 0} (tells : Bool) (call : Call A E) (old new : SeenAll) (end : End B F) → OnlyLooks tells old new end → IsTrue tells → (held : Stores) → Has tells old.stores held → Passes (HoldsBy (granularities old.stores.manifests) call.by held) old.stores.past new.stores.past
+asked_moments : {A E B F : Type 0} (tells : Bool) (call : StoreCall A E) (old new : SeenAll) (end : End B F) → OnlyLooks tells old new end → IsTrue tells → (held : Stores) → Has tells old.stores held → Passes (HoldsBy (granularities old.stores.manifests) call.by held) old.stores.past new.stores.past
 asked_moments {A} {E} {B} {F} tells call old new end looks told held has =
     passes_weaker (λ a b. b ≡ a) (HoldsBy (granularities old.stores.manifests) call.by held) old.stores.past new.stores.past (looks.reads.any_moment told)
     (λ a x left same. inl (subst (λ (f : Files). HoldsAll (granularities old.stores.manifests) f held) (sym same) (all_left old.stores held a (has.disk told) left)))
 
-look_cut : {A : Type 0} (tells : Bool) (call : Call A ⊥) (old new : SeenAll) (e : DiskErr) → OnlyLooks tells old new (end_of_disk {A = A} (Err e)) → Changes tells call old.stores new.stores (end_of_disk {A = A} (Err e))
+look_cut : {A : Type 0} (tells : Bool) (call : StoreCall A ⊥) (old new : SeenAll) (e : DiskErr) → OnlyLooks tells old new (end_of_disk {A = A} (Err e)) → Changes tells call old.stores new.stores (end_of_disk {A = A} (Err e))
 look_cut {A} tells call old new Fault looks = record {
   ends = λ held has. inl (looks.kept held has);
   any_moment = λ told held has. asked_moments tells call old new _ looks told held has;
@@ -383,11 +383,11 @@ look_cut {A} tells call old new Memory looks = record {
   costs = record { granularity = ap granularities looks.manifests; faults = looks.reads.faults; cause = looks.reads.cause };
 }
 
-pub look_fails : {A : Type 0} (tells : Bool) (call : Call A ⊥) (old new : SeenAll) (r : Result A DiskErr) (e : DiskErr) → r ≡ Err e → OnlyLooks tells old new (end_of_disk r) → Changes tells call old.stores new.stores (end_of_disk r)
+pub look_fails : {A : Type 0} (tells : Bool) (call : StoreCall A ⊥) (old new : SeenAll) (r : Result A DiskErr) (e : DiskErr) → r ≡ Err e → OnlyLooks tells old new (end_of_disk r) → Changes tells call old.stores new.stores (end_of_disk r)
 look_fails {A} tells call old new r e is looks =
     subst (λ (x : Result A DiskErr). Changes tells call old.stores new.stores (end_of_disk x)) (sym is) (look_cut tells call old new e (subst (λ (x : Result A DiskErr). OnlyLooks tells old new (end_of_disk x)) is looks))
 
-pub look_then_call : {A E B F : Type 0} (tells : Bool) (call : Call A E) (old mid : SeenAll) (new : Seen) (first : End B F) (end : End A E) → OnlyLooks tells old mid first → Changes tells call mid.stores new end → Changes tells call old.stores new end
+pub look_then_call : {A E B F : Type 0} (tells : Bool) (call : StoreCall A E) (old mid : SeenAll) (new : Seen) (first : End B F) (end : End A E) → OnlyLooks tells old mid first → Changes tells call mid.stores new end → Changes tells call old.stores new end
 look_then_call {A} {E} {B} {F} tells call old mid new first end looks change = record {
   ends = λ held has. change.ends held (looks.kept held has);
   any_moment = λ told held has.
@@ -453,7 +453,7 @@ held_less at n len h = record {
   rows_in_doubt = λ unsound. less_to _ n len (h.rows_in_doubt unsound);
 }
 
-module _ {S : Type 0} (shows : S → Standing) (faults_of : S → ℕ) (tells : Bool) (c : CatalogueState) (ms : List ManifestState) (limbo : List Retired) (d after : S) (name : Name) (len : ℕ) (there : IsThereTo (beside (seen_on shows faults_of c ms d) limbo) name len)
+module _ {S : Type 0} (shows : S → DiskShown) (faults_of : S → ℕ) (tells : Bool) (c : CatalogueState) (ms : List ManifestState) (limbo : List Retired) (d after : S) (name : Name) (len : ℕ) (there : IsThereTo (beside (seen_on shows faults_of c ms d) limbo) name len)
     (passes : IsTrue tells → Passes (λ a b. b ≡ a) (shows d).past (shows after).past) (same : IsTrue tells → (shows after).files ≡ (shows d).files) (here : IsTrue tells → (shows after).opened name ≤ max ((shows d).opened name) len) (others : IsTrue tells → (n : Name) → n ≢ name → (shows after).opened n ≡ (shows d).opened n) where
   abbrev at : Seen
   at = seen_on shows faults_of c ms d
@@ -610,7 +610,7 @@ module _ {S : Type 0} (shows : S → Standing) (faults_of : S → ℕ) (tells : 
   may_spares held (inr (other, inl doubt)) short = known_spares at held name len doubt.known short
   may_spares held (inr (other, inr doubt)) short = after_spares tells at other held name len doubt short
 
-  module _ (held : Stores) (may : MayHold tells at held) (i : ℕ) (move : MoveState) (files : List Filed) (runs : RunsBeside i tells (beside at limbo) move files held) where
+  module _ (held : Stores) (may : MayHold tells at held) (i : ℕ) (move : Moving) (files : List Filed) (runs : RunsBeside i tells (beside at limbo) move files held) where
     -- a file that is opened so far is to be listed at least so far
     reaches : (f : Filed) → Contains files f → file_of (i + 1, held.rows) f.entry ≡ name → len ≤ f.entry.len
     reaches f within is = elim there [

@@ -15,7 +15,7 @@ use Rattle.disk_model.specs.Past.{Past, Passes, Only}
 use Rattle.disk_model.proofs.Passing.{passes_then, passes_weaker, passes_none}
 use Rattle.partition_names.specs.declared.granularity.Granularity.{Granularity}
 use Rattle.pins.specs.Pieces.{PinOf, named, Agree, file_of as piece_file}
-use Rattle.pins.specs.Pinned.{PinState, IsPinned}
+use Rattle.pins.specs.Pinned.{PinnedNames, IsPinned}
 use Rattle.store_manifest.specs.Manifest.{ManifestState}
 use Rattle.durable_write.specs.Held.{Filed, IsListed, file_of, filed_at, entry_of}
 use Rattle.durable_write.specs.Stored.{KeysDiffer}
@@ -38,7 +38,7 @@ use Rattle.std.specs.Result.{result_and}
 use Rattle.std.specs.List.Retain.{IsFiltered, ReturnsInTurn}
 use Rattle.std.proofs.lemmas.List.{get_or_default, take_more}
 use Rattle.disk_model.specs.declared.disk.DiskErr.{DiskErr}
-use Rattle.gate_journal.specs.Standing.{Standing}
+use Rattle.gate_journal.specs.DiskShown.{DiskShown}
 use Rattle.pv_catalog.specs.Catalogue.{CatalogueState}
 use Rattle.store_manifest.specs.Listing.{OfSeries}
 use Rattle.std.proofs.lemmas.List.Quantifiers.{all_pairs_push}
@@ -207,7 +207,7 @@ lists_any ms r place m es b store here are is = (to, from)
 
 -- PINS
 
-pub pinned_from : (table : FinMap nat_cmp PinState) (pins : FinMap nat_cmp PinOf) (name : Name) → Agree table pins → IsPinnedFile pins name → IsPinned table name
+pub pinned_from : (table : FinMap nat_cmp PinnedNames) (pins : FinMap nat_cmp PinOf) (name : Name) → Agree table pins → IsPinnedFile pins name → IsPinned table name
 pinned_from table pins name agree p = record { number = p.number; pin = record { owner = p.pin.owner; files = map piece_file p.pin.pieces }; stands = agree p.number ∙ ap named p.stands; names = p.names }
 
 -- REMOVALS
@@ -443,7 +443,7 @@ read_fewer opened after same n = let is : after n ≡ opened n = ap (λ (o : Nam
 -- ONE AFTER ANOTHER
 
 module _ (pins : FinMap nat_cmp PinOf) (copied : List Name) (limbo : List Retired) where
-  module _ (old now new : Standing) (so_far : Removes pins copied limbo old now) where
+  module _ (old now new : DiskShown) (so_far : Removes pins copied limbo old now) where
     pub removes_read : new.files ≡ now.files → new.opened ≡ now.opened → Passes (λ a b. b ≡ a) now.past new.past → Removes pins copied limbo old new
     removes_read same opened_same passes = record {
       any_moment = spares_then pins copied limbo old.past now.past new.past so_far.any_moment (passes_weaker (λ a b. b ≡ a) (Spares pins copied limbo) now.past new.past passes (λ a c left step n other. ap (λ (f : Files). f n) step));
@@ -458,7 +458,7 @@ gone_for_good pins copied files past rs gone durable k d lt free =
     subst (λ (content : Content). Only past n content) (gone k d lt free) (durable k d lt free)
 
 -- whether a file is needed, where no pin names it
-pub needed_among : (table : FinMap nat_cmp PinState) (pins : FinMap nat_cmp PinOf) (copied : List Name) (name : Name) (pinned among : Bool) → Agree table pins → (IsTrue pinned ↔ IsPinned table name) → pinned ≡ false → among ≡ list_any (λ other. is_same other name) copied → IsTrue among ↔ IsNeeded pins copied name
+pub needed_among : (table : FinMap nat_cmp PinnedNames) (pins : FinMap nat_cmp PinOf) (copied : List Name) (name : Name) (pinned among : Bool) → Agree table pins → (IsTrue pinned ↔ IsPinned table name) → pinned ≡ false → among ≡ list_any (λ other. is_same other name) copied → IsTrue among ↔ IsNeeded pins copied name
 needed_among table pins copied name pinned among agree says none is = (
   λ yes. inr (among_is copied name (sym is ∙ yes)),
   λ needed. elim needed [
@@ -613,14 +613,14 @@ found_still Goes limbo files later names same found = record {
 
 -- THE REMOVAL
 
-pub names_none : (names : List Name) (disk : Standing) → RemovesNames names disk disk
+pub names_none : (names : List Name) (disk : DiskShown) → RemovesNames names disk disk
 names_none names disk = record {
   any_moment = passes_none (SparesNames names) disk.past (λ a left n other. refl);
   spares = λ n other. refl;
   fewer = λ n. omega arith;
 }
 
-pub names_more : (names : List Name) (old now new : Standing) (name : Name) → Contains names name → RemovesNames names old now → Elsewhere name now.files new.files → Passes (Elsewhere name) now.past new.past → ((n : Name) → new.opened n ≤ now.opened n) → RemovesNames names old new
+pub names_more : (names : List Name) (old now new : DiskShown) (name : Name) → Contains names name → RemovesNames names old now → Elsewhere name now.files new.files → Passes (Elsewhere name) now.past new.past → ((n : Name) → new.opened n ≤ now.opened n) → RemovesNames names old new
 names_more names old now new name within so_far elsewhere passes fewer = record {
   any_moment = passes_then (SparesNames names) (SparesNames names) old.past now.past new.past so_far.any_moment (passes_weaker (Elsewhere name) (SparesNames names) now.past new.past passes (λ a c left step. apart a c step)) (λ a b c was one left two n other. two n other ∙ one n other);
   spares = λ n other. apart now.files new.files elsewhere n other ∙ so_far.spares n other;
@@ -646,7 +646,7 @@ pub both_err : (a b : Result (Unit {0}) DiskErr) (P : Type 0) → (IsErr a → P
 both_err (Ok u) b P one two is = two is
 both_err (Err e) b P one two is = one refl
 
-module _ (pins : FinMap nat_cmp PinOf) (copied : List Name) (limbo : List Retired) (names : List Name) (old new : Standing) (found : AreRemovable (IsUseless pins copied) limbo old.files names) (removes : RemovesNames names old new) where
+module _ (pins : FinMap nat_cmp PinOf) (copied : List Name) (limbo : List Retired) (names : List Name) (old new : DiskShown) (found : AreRemovable (IsUseless pins copied) limbo old.files names) (removes : RemovesNames names old new) where
   own_spared : (a b : Files) → SparesNames names a b → Spares pins copied limbo a b
   own_spared a b step n other = step n (λ within.
       let o = All-contains (λ (m : Name). (r : Retired) × Contains limbo r × (r.name ≡ m) × IsUseless pins copied r) names n found.own within in

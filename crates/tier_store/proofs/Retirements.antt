@@ -11,7 +11,7 @@ use Rattle.disk_model.specs.Past.{Passes, Only}
 use Rattle.disk_model.proofs.Passing.{passes_weaker, passes_then}
 use Rattle.gate_journal.specs.Generations.{IsOwn}
 use Rattle.gate_journal.specs.Journal.{JournalState}
-use Rattle.gate_journal.specs.Standing.{Standing, standing}
+use Rattle.gate_journal.specs.DiskShown.{DiskShown, shown_by}
 use Rattle.gate_journal.proofs.Keeping.{says_stays}
 use Rattle.gate_journal.proofs.Owning.{own_store}
 use Rattle.partition_names.specs.declared.granularity.Granularity.{Granularity}
@@ -32,7 +32,7 @@ use Rattle.tier_store.specs.Stores.{Stores, list_at, tier}
 use Rattle.tier_store.specs.Seen.{Seen, granularities, seen, seen_on, on_disk}
 use Rattle.tier_store.specs.declared.store.TierStore.{TierStore}
 use Rattle.disk_model.specs.declared.disk.Disk.{Ghosts}
-use Rattle.tier_store.specs.Change.{IsKnown, Has, HoldsBy, EndsFrom, Changes, Call}
+use Rattle.tier_store.specs.Change.{IsKnown, Has, HoldsBy, EndsFrom, Changes, StoreCall}
 use Rattle.tier_store.specs.Pinned.{SeenAll, beside, IsHeldTo, IsNoShorter, IsThereTo, KeepsShown, PinsStand, Shows}
 use Rattle.tier_store.specs.Limbo.{IsOfPlace, LimboStands, NamesDiffer, IsListedName, IsPinnedFile, IsNeeded, IsKeptName, IsSwept, StayUnlisted, StayNeeded, AreGone, AreFree, Removes, Spares, SparesKept, LeavesKept, staying, Stay, LeaveListed}
 use Rattle.tier_store.specs.declared.limbo.Retired.{Retired}
@@ -84,7 +84,7 @@ module _ (Spared : Name → Type 0) (journals : (n : Name) → n.0 ≡ 0 → Spa
     files = in_spared t a c spared step holds.files;
   }
 
-  module _ (old new : Standing) (passes : Passes Step old.past new.past) (same : Step old.files new.files) (fewer : (n : Name) → new.opened n ≤ old.opened n) where
+  module _ (old new : DiskShown) (passes : Passes Step old.past new.past) (same : Step old.files new.files) (fewer : (n : Name) → new.opened n ≤ old.opened n) where
     untouched : (journal : JournalState) (own : Name) → journal.name ≡ own → own.0 ≡ 0 → Untouched Step journal old.files new.files old.opened new.opened
     untouched journal own is zero_store =
         let spared : (n : Name) → IsOwn journal.name n → Spared n = λ n own. journals n (own_store journal.name n own ∙ ap (λ (m : Name). m.0) is ∙ zero_store) in
@@ -100,7 +100,7 @@ module _ (Spared : Name → Type 0) (journals : (n : Name) → n.0 ≡ 0 → Spa
 
 -- THE MEMORY IS THE SAME
 
-abbrev pub after_disk : Seen → Standing → ℕ → Seen
+abbrev pub after_disk : Seen → DiskShown → ℕ → Seen
 after_disk at disk faults = record { catalogue = at.catalogue; manifests = at.manifests; files = disk.files; opened = disk.opened; past = disk.past; faults = faults }
 
 pub same_memory : (old new : Seen) → new.catalogue ≡ old.catalogue → new.manifests ≡ old.manifests → after_disk old (on_disk new) new.faults ≡ new
@@ -128,8 +128,8 @@ more_shown tells old new more same limbo = subst (λ (all : SeenAll). KeepsShown
 })
 
 -- stores of these parts
-pub seen_new : {D R : Type 0} (disk : Ghosts D R) (store : TierStore D R) (catalogue : CatalogueState) (manifests : List ManifestState) (d : D) → store.catalogue ≡ catalogue → store.manifests.items ≡ manifests → store.disk ≡ d → seen disk store ≡ seen_on (standing disk) disk.faults catalogue manifests d
-seen_new {D} {R} disk store catalogue manifests d rows lists is i = seen_on (standing disk) disk.faults (rows i) (lists i) (is i)
+pub seen_new : {D R : Type 0} (disk : Ghosts D R) (store : TierStore D R) (catalogue : CatalogueState) (manifests : List ManifestState) (d : D) → store.catalogue ≡ catalogue → store.manifests.items ≡ manifests → store.disk ≡ d → seen disk store ≡ seen_on (shown_by disk) disk.faults catalogue manifests d
+seen_new {D} {R} disk store catalogue manifests d rows lists is i = seen_on (shown_by disk) disk.faults (rows i) (lists i) (is i)
 
 -- NAMES THAT ARE LISTED
 
@@ -145,7 +145,7 @@ listed_name at s k m f known here within = record {
 
 -- THE SWEEP
 
-module _ (tells : Bool) (at : Seen) (pins : FinMap nat_cmp PinOf) (copied : List Name) (limbo retired : List Retired) (stands : LimboStands at limbo) (unlisted : StayUnlisted at limbo retired) (seen : Standing) (faults : ℕ)
+module _ (tells : Bool) (at : Seen) (pins : FinMap nat_cmp PinOf) (copied : List Name) (limbo retired : List Retired) (stands : LimboStands at limbo) (unlisted : StayUnlisted at limbo retired) (seen : DiskShown) (faults : ℕ)
     (removes : IsTrue tells → Removes pins copied retired (on_disk at) seen) where
   abbrev Spared : Name → Type 0
   Spared n = (r : Retired) → Contains retired r → r.name ≡ n → IsNeeded pins copied n
@@ -303,7 +303,7 @@ pins_kept tells pins copied old new leaves stand n i pin piece here there =
 -- Stores whose memory and disk are the same
 
 -- the memory and the disk are the same
-pub same_seen : {S : Type 0} (shows : S → Standing) (faults_of : S → ℕ) (c later : CatalogueState) (ms ns : List ManifestState) (d after : S) → later ≡ c → ns ≡ ms → after ≡ d
+pub same_seen : {S : Type 0} (shows : S → DiskShown) (faults_of : S → ℕ) (c later : CatalogueState) (ms ns : List ManifestState) (d after : S) → later ≡ c → ns ≡ ms → after ≡ d
     → seen_on shows faults_of c ms d ≡ seen_on shows faults_of later ns after
 same_seen {S} shows faults_of c later ms ns d after is is₂ is₃ = λ i. seen_on shows faults_of (sym is i) (sym is₂ i) (sym is₃ i)
 
@@ -381,7 +381,7 @@ module _ (pins : FinMap nat_cmp PinOf) (files limbo left : List Retired) (stay :
   spares_left : All (Contains limbo) files → (a b : Files) → Spares pins [] files a b → Spares pins (names_in left) limbo a b
   spares_left among a b spares n other = spares n (λ r within is. inl (left_pinned n (r, within, is) (other r (All-contains (Contains limbo) files r among within) is)))
 
-  pub removes_left : All (Contains limbo) files → (old new : Standing) → Removes pins [] files old new → Removes pins (names_in left) limbo old new
+  pub removes_left : All (Contains limbo) files → (old new : DiskShown) → Removes pins [] files old new → Removes pins (names_in left) limbo old new
   removes_left among old new removes = record {
     any_moment = passes_weaker (Spares pins [] files) (Spares pins (names_in left) limbo) old.past new.past removes.any_moment (λ a c there step. spares_left among a c step);
     spares = spares_left among old.files new.files removes.spares;
@@ -721,7 +721,7 @@ fewer_stand at limbo left stands stay = (
 )
 
 -- nothing was done
-pub nothing_retired : (tells : Bool) (call : Call RetireEnd ⊥) (at new : Seen) (end : End RetireEnd ⊥) → at ≡ new → end ≡ Spent → Changes tells call at new end
+pub nothing_retired : (tells : Bool) (call : StoreCall RetireEnd ⊥) (at new : Seen) (end : End RetireEnd ⊥) → at ≡ new → end ≡ Spent → Changes tells call at new end
 nothing_retired tells call at new end same spent =
     subst (λ (s : Seen). Changes tells call at s end) same (subst (λ (e : End RetireEnd ⊥). Changes tells call at at e) (sym spent) (nothing_changes tells call at Spent (λ held has. has) (λ failed. failed)))
 

@@ -7,7 +7,7 @@ use Rattle.disk_model.specs.Past.{Passes}
 use Rattle.disk_model.specs.declared.disk.DiskErr.{DiskErr}
 use Rattle.disk_model.specs.declared.disk.DiskErr.TheVariants.{Fault, Memory}
 use Rattle.gate_journal.specs.Journal.{JournalState}
-use Rattle.gate_journal.specs.Standing.{Standing}
+use Rattle.gate_journal.specs.DiskShown.{DiskShown}
 use Rattle.partition_names.specs.Part.{IsPart}
 use Rattle.pv_catalog.specs.Catalogue.{CatalogueState}
 use Rattle.pv_catalog.specs.declared.row.Row.{Row}
@@ -15,7 +15,7 @@ use Rattle.series_model.specs.declared.batch.RowSamples.{RowSamples}
 use Rattle.store_manifest.specs.declared.entry.Entry.{Entry}
 use Rattle.store_manifest.specs.Entries.{Place, place, all_changed, InOrder}
 use Rattle.store_manifest.specs.Manifest.{ManifestState}
-use Rattle.durable_write.specs.declared.piece.Piece.{Piece}
+use Rattle.durable_write.specs.declared.file_write.FileWrite.{FileWrite}
 use Rattle.durable_write.specs.Ahead.{HasCopied}
 use Rattle.durable_write.specs.Ends.{End, Done, end_of_error}
 use Rattle.durable_write.specs.Flush.{HoldsBoth, MakesFiles, PlacesRise, file_at, put_all, with_files}
@@ -94,7 +94,7 @@ pick files (e ∷ es) all =
     (one.0 ∷ more.0, ap (λ (x : Entry). x ∷ map entry_of more.0) one.2 ∙ ap (λ (l : List Entry). e ∷ l) more.1, All-cons (Contains files) one.0 more.0 one.1 more.2)
 
 -- some of the files that are safe
-safe_some : (t : Held) (back : List Filed) (disk : Standing) → All (Contains t.files) back → AreSafe t disk → AreSafe (having t back) disk
+safe_some : (t : Held) (back : List Filed) (disk : DiskShown) → All (Contains t.files) back → AreSafe t disk → AreSafe (having t back) disk
 safe_some t back disk known safe = record {
   long = λ k d lt. All-contains (λ (f : Filed). HasFile disk.files (file_of (shelf_of t) f.entry) (λ b. f.entry.len ≤ length b)) t.files (get_or back k d) safe.long (known k d lt);
   unopened = λ k d lt. All-contains (λ (f : Filed). disk.opened (file_of (shelf_of t) f.entry) ≤ f.entry.len) t.files (get_or back k d) safe.unopened (known k d lt);
@@ -159,16 +159,16 @@ module _ (tells : Bool) (at : Seen) (limbo : List Retired) (stands : LimboStands
       subst (λ (rows : List Row). AreSafe (T rows) (on_disk at)) has.known.rows (safe_some (store_with 0 at held.stands files) back (on_disk at) back_known (whole.safe told))
 
 -- what the flush makes of what is held
-pub record ToRevive (tells : Bool) (at : Seen) (m : ManifestState) (limbo : List Retired) (entries : List Entry) (files : List Filed) (batch : List RowSamples) (pieces : List Piece) (count : ℕ) (held : Stores) : Type 0 where
+pub record ToRevive (tells : Bool) (at : Seen) (m : ManifestState) (limbo : List Retired) (entries : List Entry) (files : List Filed) (batch : List RowSamples) (writes : List FileWrite) (count : ℕ) (held : Stores) : Type 0 where
   pub filed : List Filed
   pub by : FlushesOver limbo files batch held (with_list 0 (put_all held.short filed) held)
   pub counts : IsTrue held.stands → CountsOver limbo files batch count held (with_list 0 (put_all held.short filed) held)
   pub are : map entry_of by.back ≡ entries
   pub in_limbo : one_store.AreInLimbo m.granularity (tier 0 held) by.back
   pub safe : IsTrue tells → AreSafe (having (tier 0 held) by.back) (on_disk at)
-  pub makes : MakesFiles m.granularity (with_files (tier 0 held) by.back) pieces filed
+  pub makes : MakesFiles m.granularity (with_files (tier 0 held) by.back) writes filed
   pub valid : AreHeld m.granularity (with_files (tier 0 held) filed)
-  pub lists : all_changed m.entries (map set_of pieces) ≡ map entry_of (put_all held.short filed)
+  pub lists : all_changed m.entries (map set_of writes) ≡ map entry_of (put_all held.short filed)
 
 -- the entries of files in limbo are of partitions
 pub limbo_parts : (tells : Bool) (at : Seen) (limbo : List Retired) (entries : List Entry) (m : ManifestState) → slice_get at.manifests 0 ≡ Some m → LimboStands at limbo → AreUnlistedIn at.manifests 1 limbo entries → (files : List Filed) (held : Stores) → Has tells at held → AreWhole 0 tells at limbo held.stands files
@@ -186,7 +186,7 @@ listed_as ms list limbo found es entries list_is found_is entries_are says order
 
 -- THE CALL
 
-module _ {S : Type 0} (shows : S → Standing) (faults_of : S → ℕ) (tells : Bool) (c : CatalogueState) (ms : List ManifestState) (m made : ManifestState) (here : slice_get ms 0 ≡ Some m) (d after : S) (rows : List Row) (same_rows : rows ≡ c.rows) (batch : List RowSamples) (planned pieces : List Piece) (are : pieces ≡ planned) (count : ℕ)
+module _ {S : Type 0} (shows : S → DiskShown) (faults_of : S → ℕ) (tells : Bool) (c : CatalogueState) (ms : List ManifestState) (m made : ManifestState) (here : slice_get ms 0 ≡ Some m) (d after : S) (rows : List Row) (same_rows : rows ≡ c.rows) (batch : List RowSamples) (planned writes : List FileWrite) (are : writes ≡ planned) (count : ℕ)
     (limbo : List Retired) (stands : LimboStands (seen_on shows faults_of c ms d) limbo) (entries : List Entry) (listed : (held : Stores) → IsKnown c ms held → AreUnlistedIn ms 1 limbo entries) (files : List Filed)
     (flushes : (held : Held) → HoldsBoth m.granularity rows m.entries entries held → flush.Flushes m.granularity held batch planned count) where
   abbrev before : Seen
@@ -198,7 +198,7 @@ module _ {S : Type 0} (shows : S → Standing) (faults_of : S → ℕ) (tells : 
   abbrev IsAheadOf : JournalState → Held → Held → Type 0
   IsAheadOf catalogue held ahead = HasCopied catalogue m (1, rows) (shows d) held ahead
 
-  pub to : (held : Stores) → Whole held → Has tells before held → ToRevive tells before m limbo entries files batch pieces count held
+  pub to : (held : Stores) → Whole held → Has tells before held → ToRevive tells before m limbo entries files batch writes count held
   to held whole has =
       let is = listed held has.known in
       let back = back tells before limbo stands entries is files held has whole in
@@ -206,7 +206,7 @@ module _ {S : Type 0} (shows : S → Standing) (faults_of : S → ℕ) (tells : 
       let known = has.known.each 0 m here in
       let both = subst (λ (es : List Entry). HoldsBoth m.granularity rows m.entries es (with_files (tier 0 held) back)) (back_are tells before limbo stands entries is files held has whole) (holds_both m.granularity rows m.entries (tier 0 held) back (sym (same_rows ∙ has.known.rows)) known.entries known.valid in_limbo) in
       let plan = flushes (with_files (tier 0 held) back) both in
-      let makes : MakesFiles m.granularity (with_files (tier 0 held) back) pieces plan.files = subst (λ (ps : List Piece). MakesFiles m.granularity (with_files (tier 0 held) back) ps plan.files) (sym are) plan.makes in
+      let makes : MakesFiles m.granularity (with_files (tier 0 held) back) writes plan.files = subst (λ (ps : List FileWrite). MakesFiles m.granularity (with_files (tier 0 held) back) ps plan.files) (sym are) plan.makes in
       let by : FlushesOver limbo files batch held (with_list 0 (put_all held.short plan.files) held) = record {
         back = back;
         in_limbo = back_in_limbo tells before limbo stands entries is files held has whole m here;
@@ -221,8 +221,8 @@ module _ {S : Type 0} (shows : S → Standing) (faults_of : S → ℕ) (tells : 
         in_limbo = in_limbo;
         safe = back_safe tells before limbo stands entries is files held has whole;
         makes = makes;
-        valid = valid_over m.granularity (tier 0 held) (with_files (tier 0 held) back) pieces plan.files (leads_beside (tier 0 held) back known.valid.apart in_limbo.unlisted) known.valid makes;
-        lists = entries_over m (tier 0 held) (with_files (tier 0 held) back) pieces plan.files (map set_of pieces) known.entries refl makes;
+        valid = valid_over m.granularity (tier 0 held) (with_files (tier 0 held) back) writes plan.files (leads_beside (tier 0 held) back known.valid.apart in_limbo.unlisted) known.valid makes;
+        lists = entries_over m (tier 0 held) (with_files (tier 0 held) back) writes plan.files (map set_of writes) known.entries refl makes;
       }
 
   pub is_ahead : (held : Stores) (whole : Whole held) (has : Has tells before held) → IsTrue tells → IsAheadOf c.journal (tier 0 held) (with_files (tier 0 held) (to held whole has).by.back)
@@ -235,22 +235,22 @@ module _ {S : Type 0} (shows : S → Standing) (faults_of : S → ℕ) (tells : 
   files_then held has whole = put_all held.short (to held whole has).filed
 
   module _ (same_g : made.granularity ≡ m.granularity)
-      (moment : IsTrue tells → (catalogue : JournalState) (held ahead : Held) (fs : List Filed) → IsAheadOf catalogue held ahead → MakesFiles m.granularity ahead pieces fs → Passes (HoldsEither m.granularity held (with_files held fs)) (shows d).past (shows after).past)
+      (moment : IsTrue tells → (catalogue : JournalState) (held ahead : Held) (fs : List Filed) → IsAheadOf catalogue held ahead → MakesFiles m.granularity ahead writes fs → Passes (HoldsEither m.granularity held (with_files held fs)) (shows d).past (shows after).past)
       (on_store : IsTrue tells → OnStore 1 m.journal.name (shows d) (shows after)) (faults : faults_of d ≤ faults_of after) where
     at_moment : IsTrue tells → (held : Stores) (has : Has tells before held) (whole : Whole held) → Passes (HoldsEither m.granularity (tier 0 held) (with_files (tier 0 held) (to held whole has).filed)) (shows d).past (shows after).past
     at_moment told held has whole = let t = to held whole has in moment told c.journal (tier 0 held) (with_files (tier 0 held) t.by.back) t.filed (is_ahead held whole has told) t.makes
 
-    pub over_done : made.entries ≡ all_changed m.entries (map set_of pieces) → made.journal.sound ≡ true
-        → (IsTrue tells → (catalogue : JournalState) (held ahead : Held) (fs : List Filed) → IsAheadOf catalogue held ahead → MakesFiles m.granularity ahead pieces fs → IsStoredAs catalogue made (1, rows) (shows after) (with_files held fs))
+    pub over_done : made.entries ≡ all_changed m.entries (map set_of writes) → made.journal.sound ≡ true
+        → (IsTrue tells → (catalogue : JournalState) (held ahead : Held) (fs : List Filed) → IsAheadOf catalogue held ahead → MakesFiles m.granularity ahead writes fs → IsStoredAs catalogue made (1, rows) (shows after) (with_files held fs))
         → ChangesGiven Whole tells (flushing_over limbo files batch) before (seen_on shows faults_of c (slice_set ms 0 made) after) (Done count)
     over_done entries sound stored =
         given_done shows faults_of tells c ms 0 m made here d after same_g on_store faults Whole (flushing_over limbo files batch) files_then (λ held has whole. (to held whole has).by) (λ held has whole. (to held whole has).valid) at_moment count (λ held has whole. (to held whole has).counts) sound
         (λ held has whole. entries ∙ (to held whole has).lists)
         (λ told held has whole. let t = to held whole has in (stored told c.journal (tier 0 held) (with_files (tier 0 held) t.by.back) t.filed (is_ahead held whole has told) t.makes).stored.tier)
 
-    pub over_cut : made.entries ≡ m.entries → (made.journal.sound ≡ false → made.next ≡ all_changed m.entries (map set_of pieces))
-        → (IsTrue tells → (catalogue : JournalState) (held ahead : Held) (fs : List Filed) → IsAheadOf catalogue held ahead → MakesFiles m.granularity ahead pieces fs → made.journal.sound ≡ true → IsStoredAs catalogue made (1, rows) (shows after) held)
-        → (IsTrue tells → (catalogue : JournalState) (held ahead : Held) (fs : List Filed) → IsAheadOf catalogue held ahead → MakesFiles m.granularity ahead pieces fs → made.journal.sound ≡ false → IsDoubtedAs catalogue made (1, rows) (shows after) held (with_files held fs))
+    pub over_cut : made.entries ≡ m.entries → (made.journal.sound ≡ false → made.next ≡ all_changed m.entries (map set_of writes))
+        → (IsTrue tells → (catalogue : JournalState) (held ahead : Held) (fs : List Filed) → IsAheadOf catalogue held ahead → MakesFiles m.granularity ahead writes fs → made.journal.sound ≡ true → IsStoredAs catalogue made (1, rows) (shows after) held)
+        → (IsTrue tells → (catalogue : JournalState) (held ahead : Held) (fs : List Filed) → IsAheadOf catalogue held ahead → MakesFiles m.granularity ahead writes fs → made.journal.sound ≡ false → IsDoubtedAs catalogue made (1, rows) (shows after) held (with_files held fs))
         → (e : DiskErr) (end : End ℕ ⊥) → end ≡ end_of_error e → (e ≡ Memory → made.journal.sound ≡ true) → (e ≡ Fault → Rose (faults_of d) (faults_of after)) → ChangesGiven Whole tells (flushing_over limbo files batch) before (seen_on shows faults_of c (slice_set ms 0 made) after) end
     over_cut unchanged next unmade in_doubt e end is memory cause =
         given_cut shows faults_of tells c ms 0 m made here d after same_g on_store faults Whole (flushing_over limbo files batch) files_then (λ held has whole. (to held whole has).by) (λ held has whole. (to held whole has).valid) at_moment unchanged

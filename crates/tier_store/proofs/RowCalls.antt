@@ -12,7 +12,7 @@ use Rattle.gate_journal.specs.Generations.{IsOwn, AtOwn}
 use Rattle.gate_journal.specs.Journal.{JournalState}
 use Rattle.gate_journal.specs.Kept as journal
 use Rattle.gate_journal.specs.Kept.{Says, SaysEither}
-use Rattle.gate_journal.specs.Standing.{Standing}
+use Rattle.gate_journal.specs.DiskShown.{DiskShown}
 use Rattle.gate_journal.proofs.Keeping.{says_stays}
 use Rattle.partition_names.specs.declared.granularity.Granularity.{Granularity}
 use Rattle.pv_catalog.specs.Catalogue as catalogue
@@ -37,7 +37,7 @@ use Rattle.durable_write.proofs.Staying.{tier_stays, filed_still, held_grows, in
 use Rattle.durable_write.proofs.Places.{keeps_renamed, keys_pushed, keys_renamed, keys_switched, of_disk, has_state}
 use Rattle.tier_store.specs.Stores.{Stores, tier, with_rows}
 use Rattle.tier_store.specs.Seen.{Seen, seen_on, AtEach, granularities}
-use Rattle.tier_store.specs.Change.{IsKnown, Has, HoldsBy, Call, EndsFrom, Changes, registering, renaming, pausing, resuming, Registers, Renames, Switches}
+use Rattle.tier_store.specs.Change.{IsKnown, Has, HoldsBy, StoreCall, EndsFrom, Changes, registering, renaming, pausing, resuming, Registers, Renames, Switches}
 use Rattle.tier_store.proofs.Holding.{all_left, has_left}
 
 registers : (c : List Row) (name : List ℕ) (about : About) → ((e : RegisterErr) → Refuses c name e → ⊥) → (held : Stores) → held.rows ≡ c → Registers name about held (with_rows held (c ++ registered c name about ∷ []))
@@ -83,7 +83,7 @@ module _ (name : Name) (R : Files → Files → Type 0) (named : name ≡ catalo
     files = in_grows g (tier i s) later c keeps holds.filed (in_still (tier i s) a c holds.filed.numbered step holds.files);
   }
 
-  module _ (old new : Standing) (passes : Passes (AtOwn name R) old.past new.past) (elsewhere : (n : Name) → (IsOwn name n → ⊥) → new.files n ≡ old.files n) (same : new.opened ≡ old.opened) where
+  module _ (old new : DiskShown) (passes : Passes (AtOwn name R) old.past new.past) (elsewhere : (n : Name) → (IsOwn name n → ⊥) → new.files n ≡ old.files n) (same : new.opened ≡ old.opened) where
     fewer : (n : Name) → new.opened n ≤ old.opened n
     fewer n = let here : new.opened n ≡ old.opened n = ap (λ (f : Name → ℕ). f n) same in omega (arith, here)
 
@@ -101,7 +101,7 @@ module _ (name : Name) (R : Files → Files → Type 0) (named : name ≡ catalo
 
 -- THE CALL
 
-module _ {S : Type 0} (shows : S → Standing) (faults_of : S → ℕ) (tells : Bool) (c made : CatalogueState) (ms : List ManifestState) (d after : S) where
+module _ {S : Type 0} (shows : S → DiskShown) (faults_of : S → ℕ) (tells : Bool) (c made : CatalogueState) (ms : List ManifestState) (d after : S) where
   abbrev before : Seen
   before = seen_on shows faults_of c ms d
 
@@ -109,7 +109,7 @@ module _ {S : Type 0} (shows : S → Standing) (faults_of : S → ℕ) (tells : 
   behind = seen_on shows faults_of made ms after
 
   -- the rows and the disk are as they were
-  rows_same : {A E : Type 0} (call : Call A E) (end : End A E) → made.journal ≡ c.journal → made.rows ≡ c.rows → after ≡ d → ((held : Stores) → Has tells behind held → held.rows ≡ c.rows → EndsFrom tells call behind held end) → (IsFailed end → ⊥) → Changes tells call before behind end
+  rows_same : {A E : Type 0} (call : StoreCall A E) (end : End A E) → made.journal ≡ c.journal → made.rows ≡ c.rows → after ≡ d → ((held : Stores) → Has tells behind held → held.rows ≡ c.rows → EndsFrom tells call behind held end) → (IsFailed end → ⊥) → Changes tells call before behind end
   rows_same {A} {E} call end journal rows same ends not_failed = record {
     ends = λ held has. ends held (still held has) (sym has.known.rows);
     any_moment = λ told held has.
@@ -128,7 +128,7 @@ module _ {S : Type 0} (shows : S → Standing) (faults_of : S → ℕ) (tells : 
       })
 
   module _ (next : List Row) (keeps : KeepsRows c.rows next) (name : made.journal.name ≡ c.journal.name) (passes : IsTrue tells → Passes (AtOwn c.journal.name (SaysEither IsCatalogue c.rows next c.journal.name)) (shows d).past (shows after).past) (elsewhere : IsTrue tells → (n : Name) → (IsOwn c.journal.name n → ⊥) → (shows after).files n ≡ (shows d).files n)
-      (opened : IsTrue tells → (shows after).opened ≡ (shows d).opened) (faults : faults_of d ≤ faults_of after) {A E : Type 0} (call : Call A E) (by : (held : Stores) → held.rows ≡ c.rows → call.by held (with_rows held next)) (keys : KeysDiffer c.rows → KeysDiffer next) where
+      (opened : IsTrue tells → (shows after).opened ≡ (shows d).opened) (faults : faults_of d ≤ faults_of after) {A E : Type 0} (call : StoreCall A E) (by : (held : Stores) → held.rows ≡ c.rows → call.by held (with_rows held next)) (keys : KeysDiffer c.rows → KeysDiffer next) where
     abbrev R : Files → Files → Type 0
     R = SaysEither IsCatalogue c.rows next c.journal.name
 

@@ -20,7 +20,7 @@ use Rattle.tier_store.specs.Seen.{Seen, granularities, seen_on, on_disk}
 use Rattle.tier_store.specs.declared.limbo.Retired.{Retired}
 use Rattle.std.proofs.lemmas.Bool.Decides.{Decides-eqb}
 use Rattle.std.proofs.lemmas.List.{append_assoc, length-map, map-append, take_at, take-append-drop, take-map, take-take, take_all}
-use Rattle.etl_mover.specs.Move.{MoveState, HasBegun, IsMove, StillLists, of_series, IsAhead, set_entry}
+use Rattle.etl_mover.specs.Move.{Moving, HasBegun, IsMove, StillLists, of_series, IsAhead, set_entry}
 use Rattle.partition_names.specs.declared.granularity.Granularity.{Granularity}
 use Rattle.partition_names.specs.declared.part.Part.{Part}
 use Rattle.partition_names.specs.Part.{IsPart}
@@ -49,7 +49,7 @@ use Rattle.disk_model.specs.declared.disk.DiskErr.TheVariants.{Fault, Memory}
 use Rattle.etl_mover.specs.Lists.{Relists, Commits, Knows, Stands, published}
 use Rattle.etl_mover.proofs.Written.{entries_with}
 use Rattle.gate_journal.specs.Journal.{JournalState}
-use Rattle.gate_journal.specs.Standing.{Standing}
+use Rattle.gate_journal.specs.DiskShown.{DiskShown}
 use Rattle.pv_catalog.specs.Catalogue.{CatalogueState}
 use Rattle.durable_write.specs.Ends.{end_of_disk, end_of_error}
 use Rattle.durable_write.specs.Writing.{IsStoredAs, IsDoubtedAs}
@@ -210,7 +210,7 @@ entry_parts : (row : ℕ) (files : List Filed) → map (λ (e : Entry). e.part) 
 entry_parts row files = ap (map (λ (e : Entry). e.part)) (filter-map (λ (e : Entry). e.series == row) files) ∙ parts_map (of_row row files)
 
 -- a list whose partitions go on has the first ones still
-module _ (move : MoveState) (old new : List Filed) (more : List Part) (goes : parts_in move.series new ≡ parts_in move.series old ++ more) (lists : ListsParts old move) (m : ManifestState) (are : m.entries ≡ map entry_of new) where
+module _ (move : Moving) (old new : List Filed) (more : List Part) (goes : parts_in move.series new ≡ parts_in move.series old ++ more) (lists : ListsParts old move) (m : ManifestState) (are : m.entries ≡ map entry_of new) where
   abbrev part : Entry → Part
   part e = e.part
 
@@ -232,7 +232,7 @@ module _ (move : MoveState) (old new : List Filed) (more : List Part) (goes : pa
   still_lists : StillLists move m
   still_lists = record { now = take (length was.now) listed; others = drop (length was.now) listed; entries = sym (take-append-drop (length was.now) listed); parts = front ∙ was.parts }
 
-parts_stay : (move : MoveState) (old new : List Filed) (more : List Part) → parts_in move.series new ≡ parts_in move.series old ++ more → ListsParts old move → ListsParts new move
+parts_stay : (move : Moving) (old new : List Filed) (more : List Part) → parts_in move.series new ≡ parts_in move.series old ++ more → ListsParts old move → ListsParts new move
 parts_stay move old new more goes lists m are = still_lists move old new more goes lists m are
 
 -- THROUGH OTHER CALLS
@@ -241,7 +241,7 @@ parts_stay move old new more goes lists m are = still_lists move old new more go
 pub beside_itself : (i row : ℕ) (held : Stores) → GoesBeside i row held held
 beside_itself i row held = record { rows = keeps_same held.rows; stands = refl; listed = refl; parts = λ from next. ([], sym (append-nil (parts_in row (list_at from held)))) }
 
-module _ (i : ℕ) (tells : Bool) (old new : SeenAll) (move : MoveState) (files : List Filed) (held made : Stores) (same : granularities new.stores.manifests ≡ granularities old.stores.manifests) (goes : GoesBeside i move.series held made) (leaves : LeavesNames (names_of (i + 1, held.rows) files) tells old new)
+module _ (i : ℕ) (tells : Bool) (old new : SeenAll) (move : Moving) (files : List Filed) (held made : Stores) (same : granularities new.stores.manifests ≡ granularities old.stores.manifests) (goes : GoesBeside i move.series held made) (leaves : LeavesNames (names_of (i + 1, held.rows) files) tells old new)
     (runs : RunsBeside i tells old move files held) where
   are_listed : All (IsListed move.granularity held.rows) files
   are_listed = (runs.ahead.filed move.granularity runs.to_coarse).listed
@@ -332,7 +332,7 @@ module _ (i : ℕ) (tells : Bool) (old new : SeenAll) (move : MoveState) (files 
 -- THE BEGINNING
 
 -- a move that has just begun has written nothing
-pub runs_begun : (i from : ℕ) (tells : Bool) (all : SeenAll) (held : Stores) (source dest : ManifestState) (row : Row) (n : ℕ) (move : MoveState) → Has tells all.stores held → i ≡ from + 1 → slice_get all.stores.manifests from ≡ Some source → slice_get all.stores.manifests i ≡ Some dest → slice_get held.rows move.series ≡ Some row
+pub runs_begun : (i from : ℕ) (tells : Bool) (all : SeenAll) (held : Stores) (source dest : ManifestState) (row : Row) (n : ℕ) (move : Moving) → Has tells all.stores held → i ≡ from + 1 → slice_get all.stores.manifests from ≡ Some source → slice_get all.stores.manifests i ≡ Some dest → slice_get held.rows move.series ≡ Some row
     → HasBegun source dest move.series row.name n move → IsMove source.granularity move → StillLists move source → RunsBeside i tells all move [] held
 runs_begun i from tells all held source dest row n move has next here there stands begun running lists = record {
   from = from;
@@ -377,7 +377,7 @@ abbrev IsShort : List Filed → Filed → Type 0
 IsShort files h = (f : Filed) → Contains files f → filed_at h ≡ filed_at f → h.entry.len ≤ f.entry.len
 
 -- once its files are listed they are beside the stores as before
-pub runs_listed : (i : ℕ) (tells : Bool) (old new : SeenAll) (move : MoveState) (files : List Filed) (held : Stores) → granularities new.stores.manifests ≡ granularities old.stores.manifests → i < 3 → move.at ≡ length move.parts → LeavesNames (names_of (i + 1, held.rows) files) tells old new → RunsBeside i tells old move files held
+pub runs_listed : (i : ℕ) (tells : Bool) (old new : SeenAll) (move : Moving) (files : List Filed) (held : Stores) → granularities new.stores.manifests ≡ granularities old.stores.manifests → i < 3 → move.at ≡ length move.parts → LeavesNames (names_of (i + 1, held.rows) files) tells old new → RunsBeside i tells old move files held
     → RunsBeside i tells new move files (with_list i (put_all (list_at i held) files) held)
 runs_listed i tells old new move files held same low copied leaves runs =
     let still = runs_still i tells old new move files held held same (beside_itself i move.series held) leaves runs in
@@ -543,13 +543,13 @@ module _ (i : ℕ) (tells : Bool) (all : SeenAll) (held : Stores) (files : List 
 -- THE MOVE
 
 -- it runs to one of the three places
-pub place_low : (i : ℕ) (tells : Bool) (all : SeenAll) (move : MoveState) (files : List Filed) (held : Stores) → RunsBeside i tells all move files held → i < length all.stores.manifests
+pub place_low : (i : ℕ) (tells : Bool) (all : SeenAll) (move : Moving) (files : List Filed) (held : Stores) → RunsBeside i tells all move files held → i < length all.stores.manifests
 place_low i tells all move files held runs = let m = manifest_of all.stores.manifests i move.granularity runs.to_coarse in slice_get_within all.stores.manifests i m.0 m.1
 
-pub same_size : (i : ℕ) (tells : Bool) (all : SeenAll) (move : MoveState) (files : List Filed) (held : Stores) (m : ManifestState) → slice_get all.stores.manifests i ≡ Some m → RunsBeside i tells all move files held → m.granularity ≡ move.granularity
+pub same_size : (i : ℕ) (tells : Bool) (all : SeenAll) (move : Moving) (files : List Filed) (held : Stores) (m : ManifestState) → slice_get all.stores.manifests i ≡ Some m → RunsBeside i tells all move files held → m.granularity ≡ move.granularity
 same_size i tells all move files held m here runs = same_Some m.granularity move.granularity (sym (granularity_at all.stores.manifests i m here) ∙ runs.to_coarse)
 
-pub is_ahead : (i : ℕ) (tells : Bool) (all : SeenAll) (move : MoveState) (files : List Filed) (held : Stores) → RunsBeside i tells all move files held → IsAhead move (tier i held) (with_files (tier i held) files)
+pub is_ahead : (i : ℕ) (tells : Bool) (all : SeenAll) (move : Moving) (files : List Filed) (held : Stores) → RunsBeside i tells all move files held → IsAhead move (tier i held) (with_files (tier i held) files)
 is_ahead i tells all move files held runs = record { files = files; are = refl; pending = runs.pending }
 
 -- A publication where nothing stands in doubt, by what the move's commit says
@@ -564,18 +564,18 @@ next_by : (m made : ManifestState) (next : List Entry) (e : DiskErr) (b : Bool) 
 next_by m made next e true is knows = absurd (cc (is))
 next_by m made next e false is knows = knows.1
 
-unmade_by : (catalogue : JournalState) (made : ManifestState) (shelf : Shelf) (disk : Standing) (held next : Held) (e : DiskErr) (b : Bool) → b ≡ true → Stands catalogue made shelf disk held next (published (Err e) b) → IsStoredAs catalogue made shelf disk held
+unmade_by : (catalogue : JournalState) (made : ManifestState) (shelf : Shelf) (disk : DiskShown) (held next : Held) (e : DiskErr) (b : Bool) → b ≡ true → Stands catalogue made shelf disk held next (published (Err e) b) → IsStoredAs catalogue made shelf disk held
 unmade_by catalogue made shelf disk held next e true is stands = stands
 unmade_by catalogue made shelf disk held next e false is stands = absurd (cc (is))
 
-doubted_by : (catalogue : JournalState) (made : ManifestState) (shelf : Shelf) (disk : Standing) (held next : Held) (e : DiskErr) (b : Bool) → b ≡ false → Stands catalogue made shelf disk held next (published (Err e) b) → IsDoubtedAs catalogue made shelf disk held next
+doubted_by : (catalogue : JournalState) (made : ManifestState) (shelf : Shelf) (disk : DiskShown) (held next : Held) (e : DiskErr) (b : Bool) → b ≡ false → Stands catalogue made shelf disk held next (published (Err e) b) → IsDoubtedAs catalogue made shelf disk held next
 doubted_by catalogue made shelf disk held next e true is stands = absurd (cc (is))
 doubted_by catalogue made shelf disk held next e false is stands = stands
 
 -- THE CALL
 
-module _ {S : Type 0} (shows : S → Standing) (faults_of : S → ℕ) (tells : Bool) (c : CatalogueState) (ms : List ManifestState) (limbo : List Retired) (i : ℕ) (m made : ManifestState) (here : slice_get ms i ≡ Some m) (d after : S)
-    (seen_it : IsTrue tells → MayLeave (shows d).past (shows d).files) (move : MoveState) (fs : List Filed) where
+module _ {S : Type 0} (shows : S → DiskShown) (faults_of : S → ℕ) (tells : Bool) (c : CatalogueState) (ms : List ManifestState) (limbo : List Retired) (i : ℕ) (m made : ManifestState) (here : slice_get ms i ≡ Some m) (d after : S)
+    (seen_it : IsTrue tells → MayLeave (shows d).past (shows d).files) (move : Moving) (fs : List Filed) where
   abbrev before : Seen
   before = seen_on shows faults_of c ms d
 
@@ -647,7 +647,7 @@ heads_entries : (fs : List Filed) → map (λ (f : Filed). f.entry.head_len) fs 
 heads_entries [] = refl
 heads_entries (f ∷ fs) = ap (λ (l : List ℕ). f.entry.head_len ∷ l) (heads_entries fs)
 
-pub copies_begun : (from : ℕ) (tells : Bool) (all : SeenAll) (held : Stores) (source dest : ManifestState) (row : Row) (n : ℕ) (move : MoveState) → (IsTrue held.stands → IsTrue tells) → Has tells all.stores held → slice_get all.stores.manifests from ≡ Some source → slice_get all.stores.manifests (from + 1) ≡ Some dest → slice_get held.rows move.series ≡ Some row
+pub copies_begun : (from : ℕ) (tells : Bool) (all : SeenAll) (held : Stores) (source dest : ManifestState) (row : Row) (n : ℕ) (move : Moving) → (IsTrue held.stands → IsTrue tells) → Has tells all.stores held → slice_get all.stores.manifests from ≡ Some source → slice_get all.stores.manifests (from + 1) ≡ Some dest → slice_get held.rows move.series ≡ Some row
     → HasBegun source dest move.series row.name n move → IsMove source.granularity move → StillLists move source → 1 ≤ length move.parts → CopiesBeside from tells all move [] held
 copies_begun from tells all held source dest row n move told has here there stands begun running lists some = record {
   runs = runs_begun (from + 1) from tells all held source dest row n move has refl here there stands begun running lists;
@@ -681,7 +681,7 @@ rows_put row xs ys (f ∷ fs) own same =
     let one : of_row row (put filed_at f xs) ≡ of_row row (put filed_at f ys) = put_own row f xs own_f ∙ (ap (λ (l : List Filed). sooner f.entry.part.start l ++ (f ∷ later f.entry.part.start l)) same ∙ sym (put_own row f ys own_f)) in
     rows_put row (put filed_at f xs) (put filed_at f ys) fs (All-tail (λ (x : Filed). x.entry.series ≡ row) f fs own) one
 
-pub copies_still : (from : ℕ) (tells : Bool) (old new : SeenAll) (move : MoveState) (files : List Filed) (held made : Stores) → granularities new.stores.manifests ≡ granularities old.stores.manifests → GoesBeside (from + 1) move.series held made → LeavesNames (names_of ((from + 1) + 1, held.rows) files) tells old new → KnowsHeads from move made
+pub copies_still : (from : ℕ) (tells : Bool) (old new : SeenAll) (move : Moving) (files : List Filed) (held made : Stores) → granularities new.stores.manifests ≡ granularities old.stores.manifests → GoesBeside (from + 1) move.series held made → LeavesNames (names_of ((from + 1) + 1, held.rows) files) tells old new → KnowsHeads from move made
     → oldest from move.series move.at made ≡ oldest from move.series move.at held → CopiesBeside from tells old move files held → CopiesBeside from tells new move files made
 copies_still from tells old new move files held made same goes leaves heads firsts is = record {
   runs = runs_still (from + 1) tells old new move files held made same goes leaves is.runs;

@@ -7,7 +7,7 @@ use Rattle.disk_model.specs.Files.{Name, Files}
 use Rattle.pb_messages.specs.declared.about.About.{About}
 use Rattle.pb_messages.specs.declared.about.State.{State}
 use Rattle.gate_journal.specs.Generations.{IsOwn}
-use Rattle.gate_journal.specs.Standing.{Standing}
+use Rattle.gate_journal.specs.DiskShown.{DiskShown}
 use Rattle.gate_journal.proofs.Owning.{own_store}
 use Rattle.pv_catalog.specs.Catalogue.{CatalogueState, registered, renamed}
 use Rattle.pv_catalog.specs.Rows.{KeepsRows, switched}
@@ -22,7 +22,7 @@ use Rattle.durable_write.proofs.Places.{keeps_renamed, listed_at, is_place-same}
 use Rattle.durable_write.proofs.Staying.{file_grows, contains_map, same_cases, same_place}
 use Rattle.tier_store.specs.Stores.{Stores, list_at, tier, with_rows}
 use Rattle.tier_store.specs.Seen.{Seen, seen_on}
-use Rattle.tier_store.specs.Change.{IsKnown, Has, Doubts, IsOpen, HasEither, Call, EndsFrom, Changes, Registers, Renames, Switches, CanList}
+use Rattle.tier_store.specs.Change.{IsKnown, Has, Doubts, IsOpen, HasEither, StoreCall, EndsFrom, Changes, Registers, Renames, Switches, CanList}
 use Rattle.tier_store.specs.Pinned.{SeenAll, beside, listing_at, IsHeldTo, NoneShorter, IsNoShorter, IsRetiredTo, IsThereTo, KeepsShown, KeepsFronts}
 use Rattle.tier_store.specs.declared.limbo.Retired.{Retired}
 use Rattle.tier_store.proofs.Places.{within_three, one_manifest, tier_other, manifest_at, tier_set}
@@ -194,7 +194,7 @@ still_held tells old new before after name len (inr was) still h = go (still bef
 
 -- A CALL'S OWN CHANGE
 
-pub ends_held : {A E : Type 0} (tells : Bool) (call : Call A E) (old new : Seen) (held : Stores) (end : End A E) (name : Name) (len : ℕ) → Has tells old held → ((made : Stores) → call.by held made → GoesOn held made) → EndsFrom tells call new held end → IsHeldTo old name len → IsHeldTo new name len
+pub ends_held : {A E : Type 0} (tells : Bool) (call : StoreCall A E) (old new : Seen) (held : Stores) (end : End A E) (name : Name) (len : ℕ) → Has tells old held → ((made : Stores) → call.by held made → GoesOn held made) → EndsFrom tells call new held end → IsHeldTo old name len → IsHeldTo new name len
 ends_held {A} {E} tells call old new held end name len has goes ends h = go end ends
   where
     low : h.place < 3
@@ -301,7 +301,7 @@ still_spares tells old new before after name len (inr was) still short =
     elim (still before after (inr was)) [ inl now ↦ has_spares tells new before name len now spares | inr doubt ↦ doubts_spares tells new before after name len doubt spares (after_spares tells old before after name len was short) ]
 
 -- a call's own change that lists no such name shorter
-pub ends_spares : {A E : Type 0} (tells : Bool) (call : Call A E) (old new : Seen) (held : Stores) (end : End A E) (name : Name) (len : ℕ) → Has tells old held → ((made : Stores) → call.by held made → Spares held name len → Spares made name len) → EndsFrom tells call new held end → IsNoShorter old name len → IsNoShorter new name len
+pub ends_spares : {A E : Type 0} (tells : Bool) (call : StoreCall A E) (old new : Seen) (held : Stores) (end : End A E) (name : Name) (len : ℕ) → Has tells old held → ((made : Stores) → call.by held made → Spares held name len → Spares made name len) → EndsFrom tells call new held end → IsNoShorter old name len → IsNoShorter new name len
 ends_spares {A} {E} tells call old new held end name len has goes ends short = go end ends
   where
     spares : Spares held name len
@@ -359,10 +359,10 @@ pub fronts_beside : (old new : SeenAll) (journal : Name) → journal.0 ≡ 0 →
 fronts_beside old new journal zero_store same name len held front some within begins = subst (Begins front) (sym (same name (not_own old journal zero_store name len held))) begins
 
 -- the memory is the same
-pub held_same : {S : Type 0} (shows : S → Standing) (faults_of : S → ℕ) (c : CatalogueState) (ms : List ManifestState) (d after : S) (name : Name) (len : ℕ) → IsHeldTo (seen_on shows faults_of c ms d) name len → IsHeldTo (seen_on shows faults_of c ms after) name len
+pub held_same : {S : Type 0} (shows : S → DiskShown) (faults_of : S → ℕ) (c : CatalogueState) (ms : List ManifestState) (d after : S) (name : Name) (len : ℕ) → IsHeldTo (seen_on shows faults_of c ms d) name len → IsHeldTo (seen_on shows faults_of c ms after) name len
 held_same {S} shows faults_of c ms d after name len h = record { place = h.place; manifest = h.manifest; here = h.here; listed = h.listed; in_doubt = h.in_doubt; rows_in_doubt = h.rows_in_doubt }
 
-pub read_shown : {S : Type 0} (shows : S → Standing) (faults_of : S → ℕ) (tells : Bool) (c : CatalogueState) (ms : List ManifestState) (limbo : List Retired) (d after : S) → (IsTrue tells → (shows after).files ≡ (shows d).files)
+pub read_shown : {S : Type 0} (shows : S → DiskShown) (faults_of : S → ℕ) (tells : Bool) (c : CatalogueState) (ms : List ManifestState) (limbo : List Retired) (d after : S) → (IsTrue tells → (shows after).files ≡ (shows d).files)
     → KeepsShown tells (beside (seen_on shows faults_of c ms d) limbo) (beside (seen_on shows faults_of c ms after) limbo)
 read_shown {S} shows faults_of tells c ms limbo d after same = shown tells old new refl (λ name len h. held_same shows faults_of c ms d after name len h)
     (λ name len r. record { listed = r.no_shorter.listed; in_doubt = r.no_shorter.in_doubt; rows_in_doubt = r.no_shorter.rows_in_doubt })
@@ -377,7 +377,7 @@ read_shown {S} shows faults_of tells c ms limbo d after same = shown tells old n
 -- THE CALLS
 
 -- rows that a change leaves go on
-pub rows_keep : {A E : Type 0} (tells : Bool) (call : Call A E) (old new : Seen) (end : End A E) → (held : Stores) × Has tells old held → ((held made : Stores) → call.by held made → (made ≡ with_rows held made.rows) × KeepsRows held.rows made.rows) → Changes tells call old new end → KeepsRows old.catalogue.rows new.catalogue.rows
+pub rows_keep : {A E : Type 0} (tells : Bool) (call : StoreCall A E) (old new : Seen) (end : End A E) → (held : Stores) × Has tells old held → ((held made : Stores) → call.by held made → (made ≡ with_rows held made.rows) × KeepsRows held.rows made.rows) → Changes tells call old new end → KeepsRows old.catalogue.rows new.catalogue.rows
 rows_keep {A} {E} tells call old new end has goes change = go end (change.ends has.0 has.1)
   where
     same : (s : Stores) → new.catalogue.rows ≡ s.rows → KeepsRows has.0.rows s.rows → KeepsRows old.catalogue.rows new.catalogue.rows

@@ -10,7 +10,7 @@ use Rattle.disk_model.specs.Files.{Name, Content, Files, HasFile}
 use Rattle.disk_model.specs.Past.{MayLeave, Only}
 use Rattle.disk_model.specs.declared.disk.DiskErr.{DiskErr}
 use Rattle.gate_journal.specs.Generations.{IsOwn}
-use Rattle.gate_journal.specs.Standing.{Standing, ReadsDisk}
+use Rattle.gate_journal.specs.DiskShown.{DiskShown, ReadsDisk}
 use Rattle.gate_journal.proofs.Owning.{own_store}
 use Rattle.partition_names.specs.Part.{HoldsMoment, IsPart}
 use Rattle.partition_names.specs.Path.{path_of}
@@ -23,16 +23,16 @@ use Rattle.pv_catalog.specs.declared.row.Row.{Row}
 use Rattle.store_manifest.specs.Manifest.{ManifestState}
 use Rattle.store_manifest.specs.declared.entry.Entry.{Entry}
 use Rattle.etl_mover.specs.Copying.{SetsLast, last_of, starts}
-use Rattle.etl_mover.specs.Move.{MoveState, IsMove, part_file}
+use Rattle.etl_mover.specs.Move.{Moving, IsMove, part_file}
 use Rattle.etl_mover.specs.Step.{Advances, Copies, CopiesPart, GoesTo, IsPlacedOrNot, source_file, target_file}
 use Rattle.etl_mover.specs.Writing.{LeavesFile}
 use Rattle.durable_write.specs.Ends.{Done, End, end_of_disk}
 use Rattle.durable_write.specs.Flush.{MakesFiles, PlacesRise, put_all}
 use Rattle.durable_write.specs.Held.{Filed, Held, entry_of, file_of, name_of}
-use Rattle.durable_write.specs.declared.piece.Piece.{Piece}
+use Rattle.durable_write.specs.declared.file_write.FileWrite.{FileWrite}
 use Rattle.durable_write.proofs.Written.{contains_entry, put_all_new, nth_grows}
 use Rattle.durable_write.proofs.Staying.{contains_map, same_cases}
-use Rattle.tier_store.specs.Change.{Call, Has, EndsFrom}
+use Rattle.tier_store.specs.Change.{StoreCall, Has, EndsFrom}
 use Rattle.tier_store.specs.Limbo.{IsListedName, IsNeeded, IsSwept, IsUnneeded, AreFree, AreGone, LeavesKept}
 use Rattle.tier_store.specs.Moving.{LeavesNames, RunsBeside, publishing}
 use Rattle.tier_store.specs.Pinned.{SeenAll, IsHeldTo, IsRetiredTo, IsThereTo}
@@ -118,7 +118,7 @@ ok_always {A} {E} (Ok a) P is = is
 ok_always {A} {E} (Err e) P is = tt
 
 -- nothing stands in doubt then
-pub ok_settled : {A E F : Type 0} (tells : Bool) (call : Call A F) (new : Seen) (held : Stores) (end_by : Result A E → End A F) (r : Result A E) → ((a : A) → end_by (Ok a) ≡ Done a) → EndsFrom tells call new held (end_by r) → OnOk r (IsSettled new)
+pub ok_settled : {A E F : Type 0} (tells : Bool) (call : StoreCall A F) (new : Seen) (held : Stores) (end_by : Result A E → End A F) (r : Result A E) → ((a : A) → end_by (Ok a) ≡ Done a) → EndsFrom tells call new held (end_by r) → OnOk r (IsSettled new)
 ok_settled {A} {E} {F} tells call new held end_by (Err e) done ends = tt
 ok_settled {A} {E} {F} tells call new held end_by (Ok a) done ends = (subst (EndsFrom tells call new held) (done a) ends).3.settled
 
@@ -147,27 +147,27 @@ fronts_strays tells old new settled there same = known_strays tells old new [] [
 -- THE FLUSH
 
 -- each piece's entry is listed then
-piece_entry : (g : Granularity) (ahead : Held) (pieces : List Piece) (fs files : List Filed) → MakesFiles g ahead pieces fs → (k : ℕ) (d : Piece) → k < length pieces → Contains (map entry_of (put_all files fs)) (get_or pieces k d).entry
-piece_entry g ahead pieces fs files makes k d lt =
-    let p = get_or pieces k d in
-    let nth = nth_grows g ahead pieces fs k p makes.each lt (get_or_same pieces k d lt) in
+write_entry : (g : Granularity) (ahead : Held) (writes : List FileWrite) (fs files : List Filed) → MakesFiles g ahead writes fs → (k : ℕ) (d : FileWrite) → k < length writes → Contains (map entry_of (put_all files fs)) (get_or writes k d).entry
+write_entry g ahead writes fs files makes k d lt =
+    let p = get_or writes k d in
+    let nth = nth_grows g ahead writes fs k p makes.each lt (get_or_same writes k d lt) in
     let within : Contains fs nth.0 = (k, nth.1, nth.2) in
     subst (Contains (map entry_of (put_all files fs))) (sym nth.3.entry) (contains_entry (put_all files fs) nth.0 (put_all_new fs files nth.0 makes.apart within))
   where
-    get_or_same : (ps : List Piece) (k : ℕ) (d : Piece) → k < length ps → get_or ps k d ≡ get_or ps k (get_or ps k d)
+    get_or_same : (ps : List FileWrite) (k : ℕ) (d : FileWrite) → k < length ps → get_or ps k d ≡ get_or ps k (get_or ps k d)
     get_or_same [] k d lt = absurd (omega (arith, lt))
     get_or_same (p ∷ ps) zero d lt = refl
     get_or_same (p ∷ ps) (suc k) d lt = get_or_same ps k d (omega (arith, lt))
 
-pub piece_listed : (at : Seen) (rows : List Row) (m : ManifestState) (g : Granularity) (ahead : Held) (pieces : List Piece) (fs files : List Filed) → slice_get at.manifests 0 ≡ Some m → rows ≡ at.catalogue.rows → m.entries ≡ map entry_of (put_all files fs) → MakesFiles g ahead pieces fs → (n : Name) → (IsListedName at n → ⊥) → (k : ℕ) (d : Piece) → k < length pieces → n ≢ file_of (1, rows) (get_or pieces k d).entry
-piece_listed at rows m g ahead pieces fs files here same entries makes n unlisted k d lt is =
+pub write_listed : (at : Seen) (rows : List Row) (m : ManifestState) (g : Granularity) (ahead : Held) (writes : List FileWrite) (fs files : List Filed) → slice_get at.manifests 0 ≡ Some m → rows ≡ at.catalogue.rows → m.entries ≡ map entry_of (put_all files fs) → MakesFiles g ahead writes fs → (n : Name) → (IsListedName at n → ⊥) → (k : ℕ) (d : FileWrite) → k < length writes → n ≢ file_of (1, rows) (get_or writes k d).entry
+write_listed at rows m g ahead writes fs files here same entries makes n unlisted k d lt is =
     unlisted (record {
       place = 0;
       manifest = m;
       here = here;
-      entry = (get_or pieces k d).entry;
-      within = subst (λ (es : List Entry). Contains es (get_or pieces k d).entry) (sym entries) (piece_entry g ahead pieces fs files makes k d lt);
-      named = ap (λ (r : List Row). file_of (1, r) (get_or pieces k d).entry) (sym same) ∙ sym is;
+      entry = (get_or writes k d).entry;
+      within = subst (λ (es : List Entry). Contains es (get_or writes k d).entry) (sym entries) (write_entry g ahead writes fs files makes k d lt);
+      named = ap (λ (r : List Row). file_of (1, r) (get_or writes k d).entry) (sym same) ∙ sym is;
     })
 
 -- THE SWEEP
@@ -298,13 +298,13 @@ of_map f (x ∷ es) n (zero, lt, is) = (x, (zero, omega arith, refl), is)
 of_map f (x ∷ es) n (suc k, lt, is) = let rest = of_map f es n (k, omega (arith, lt), is) in (rest.0, (suc rest.1.0, omega (arith, rest.1.1), rest.1.2), rest.2)
 
 -- a file that the move is to list is one of its row in the store to which it moves
-pub target_name : (tells : Bool) (all : SeenAll) (i : ℕ) (move : MoveState) (files : List Filed) (held : Stores) → RunsBeside i tells all move files held → IsTrue tells → (e : Entry) → e.series ≡ move.series → file_of (i + 1, held.rows) e ≡ part_file move.destination move.name e
+pub target_name : (tells : Bool) (all : SeenAll) (i : ℕ) (move : Moving) (files : List Filed) (held : Stores) → RunsBeside i tells all move files held → IsTrue tells → (e : Entry) → e.series ≡ move.series → file_of (i + 1, held.rows) e ≡ part_file move.destination move.name e
 target_name tells all i move files held runs told e own =
     ap (λ (n : ℕ). (n, path_of (name_of (slice_get held.rows e.series)) e.part.name)) (sym (runs.numbers told).1)
     ∙ (ap (λ (n : ℕ). (move.destination, path_of (name_of (slice_get held.rows n)) e.part.name)) own
     ∙ (ap (λ o. (move.destination, path_of (name_of o) e.part.name)) runs.stands ∙ ap (λ (t : List ℕ). (move.destination, path_of t e.part.name)) runs.name))
 
-pub published_strays : (tells : Bool) (old new : SeenAll) (i : ℕ) (move : MoveState) (files : List Filed) (held : Stores) (r : Result (Unit {0}) DiskErr) → i < 3 → new.limbo ≡ old.limbo → Has tells old.stores held → RunsBeside i tells old move files held → ((n : Name) → IsHeldTo old.stores n 0 → IsHeldTo new.stores n 0)
+pub published_strays : (tells : Bool) (old new : SeenAll) (i : ℕ) (move : Moving) (files : List Filed) (held : Stores) (r : Result (Unit {0}) DiskErr) → i < 3 → new.limbo ≡ old.limbo → Has tells old.stores held → RunsBeside i tells old move files held → ((n : Name) → IsHeldTo old.stores n 0 → IsHeldTo new.stores n 0)
     → (IsTrue tells → (n : Name) → 1 ≤ n.0 → new.stores.files n ≡ old.stores.files n) → EndsFrom tells (publishing i files) new.stores held (end_of_disk r) → OnOk r (MakesNoStray tells old (targets move) new [])
 published_strays tells old new i move files held (Err e) low limbo has runs on same ends = tt
 published_strays tells old new i move files held (Ok a) low limbo has runs on same (made, by, says, now) = known_strays tells old new (targets move) [] unknown (λ told n stray. same told n stray.numbered)
@@ -330,7 +330,7 @@ published_strays tells old new i move files held (Ok a) low limbo has runs on sa
 
 -- COPYING
 
-pub copied_strays : (tells : Bool) (old new : SeenAll) (move moved : MoveState) (held : Stores) → new.limbo ≡ old.limbo → Has tells old.stores held → Has tells new.stores held → (IsTrue tells → WritesTargets move moved old.stores.files new.stores.files) → MakesNoStray tells old (targets move) new (targets moved)
+pub copied_strays : (tells : Bool) (old new : SeenAll) (move moved : Moving) (held : Stores) → new.limbo ≡ old.limbo → Has tells old.stores held → Has tells new.stores held → (IsTrue tells → WritesTargets move moved old.stores.files new.stores.files) → MakesNoStray tells old (targets move) new (targets moved)
 copied_strays tells old new move moved held limbo has now writes = known_strays tells old new (targets move) (targets moved) unknown (λ told n stray. (writes told).others n (λ t. stray.unknown (inr (inr t))))
   where
     unknown : IsTrue tells → (n : Name) → IsStray new (targets moved) n → IsKnownName old (targets move) n → ⊥
@@ -339,28 +339,28 @@ copied_strays tells old new move moved held limbo has now writes = known_strays 
     unknown told n stray (inr (inr t)) = stray.unknown (inr (inr ((writes told).still n t)))
 
 -- nothing was written
-pub targets_same : (move moved : MoveState) (files later : Files) → targets moved ≡ targets move → later ≡ files → WritesTargets move moved files later
+pub targets_same : (move moved : Moving) (files later : Files) → targets moved ≡ targets move → later ≡ files → WritesTargets move moved files later
 targets_same move moved files later same is = record {
   others = λ n not. ap (λ (f : Files). f n) is;
   still = λ n t. subst (λ (ns : List Name). Contains ns n) (sym same) t;
 }
 
 -- one step after another
-pub targets_then : (move mid moved : MoveState) (files then later : Files) → WritesTargets move mid files then → WritesTargets mid moved then later → WritesTargets move moved files later
+pub targets_then : (move mid moved : Moving) (files then later : Files) → WritesTargets move mid files then → WritesTargets mid moved then later → WritesTargets move moved files later
 targets_then move mid moved files then later first second = record {
   others = λ n not. second.others n not ∙ first.others n (λ t. not (second.still n t));
   still = λ n t. second.still n (first.still n t);
 }
 
-module _ (fine : Granularity) (move new : MoveState) (revived : Option Entry) (part : Entry) (from len : ℕ) (disk then : Standing) (running : IsMove fine move) (still_running : IsMove fine new) (advances : Advances move new revived len) where
+module _ (fine : Granularity) (move new : Moving) (revived : Option Entry) (part : Entry) (from len : ℕ) (disk then : DiskShown) (running : IsMove fine move) (still_running : IsMove fine new) (advances : Advances move new revived len) where
   same_to : new.destination ≡ move.destination
-  same_to = elim advances.is [ inl is ↦ ap (λ (m : MoveState). m.destination) is | inr (p, here, is) ↦ ap (λ (m : MoveState). m.destination) is ]
+  same_to = elim advances.is [ inl is ↦ ap (λ (m : Moving). m.destination) is | inr (p, here, is) ↦ ap (λ (m : Moving). m.destination) is ]
 
   same_name : new.name ≡ move.name
-  same_name = elim advances.is [ inl is ↦ ap (λ (m : MoveState). m.name) is | inr (p, here, is) ↦ ap (λ (m : MoveState). m.name) is ]
+  same_name = elim advances.is [ inl is ↦ ap (λ (m : Moving). m.name) is | inr (p, here, is) ↦ ap (λ (m : Moving). m.name) is ]
 
   same_g : new.granularity ≡ move.granularity
-  same_g = elim advances.is [ inl is ↦ ap (λ (m : MoveState). m.granularity) is | inr (p, here, is) ↦ ap (λ (m : MoveState). m.granularity) is ]
+  same_g = elim advances.is [ inl is ↦ ap (λ (m : Moving). m.granularity) is | inr (p, here, is) ↦ ap (λ (m : Moving). m.granularity) is ]
 
   named : (e : Entry) → part_file new.destination new.name e ≡ part_file move.destination move.name e
   named e = ap (λ (n : ℕ). part_file n new.name e) same_to ∙ ap (λ (t : List ℕ). part_file move.destination t e) same_name
@@ -425,7 +425,7 @@ module _ (fine : Granularity) (move new : MoveState) (revived : Option Entry) (p
   }
     where
       new_pending : new.pending ≡ advances.pending
-      new_pending = elim advances.is [ inl is ↦ ap (λ (m : MoveState). m.pending) is | inr (p, at, is) ↦ ap (λ (m : MoveState). m.pending) is ]
+      new_pending = elim advances.is [ inl is ↦ ap (λ (m : Moving). m.pending) is | inr (p, at, is) ↦ ap (λ (m : Moving). m.pending) is ]
 
       never : (p : Entry) (start : Start) → GoesTo move revived p start → ⊥
       never p start goes =
@@ -436,7 +436,7 @@ module _ (fine : Granularity) (move new : MoveState) (revived : Option Entry) (p
           absurd (cc (both))
 
 -- what a step's end makes of the move changes nothing of what it is to list
-pub targets_ended : (k : ℕ) (rest_covered : Bool) (mid final : MoveState) (r end : CopyEnd)
+pub targets_ended : (k : ℕ) (rest_covered : Bool) (mid final : Moving) (r end : CopyEnd)
     → (end ≡ copied.More → rest_covered ≡ true → k < mid.at → (r ≡ copied.Copied) × PassesRest mid final)
     → (end ≡ copied.More → (rest_covered ≡ true → k < mid.at → ⊥) → (r ≡ copied.More) × (final ≡ mid))
     → ((end ≡ copied.More → ⊥) → (r ≡ end) × (final ≡ mid))

@@ -1,7 +1,7 @@
 -- What a step of copying writes, as samples: those that follow of a part's file, in a file of the destination.
 use Rattle.std.specs.Prelude.{◌≡◌, ◌≢◌, ◌+◌, ℕ, List, [], ◌++◌, Option, None, Some, take}
 use Rattle.etl_mover.specs.Growing.{BecomesFile}
-use Rattle.etl_mover.specs.Move.{MoveState}
+use Rattle.etl_mover.specs.Move.{Moving}
 use Rattle.etl_mover.specs.Step.{written_at}
 use Rattle.pb_lines.specs.File.{lines_of}
 use Rattle.partition_names.specs.declared.granularity.Granularity.{Granularity}
@@ -26,7 +26,7 @@ abbrev pub samples_at : Place → List Filed → List Sample
 samples_at p files = listed_samples (file_at p files)
 
 -- the bytes begin with those of the file of a move's part
-pub record IsPartFile (fine : Granularity) (rows : List Row) (move : MoveState) (part : Entry) (bytes : List ℕ) (f : Filed) : Type 0 where
+pub record IsPartFile (fine : Granularity) (rows : List Row) (move : Moving) (part : Entry) (bytes : List ℕ) (f : Filed) : Type 0 where
   pub filed : IsFiled fine rows f
   pub series : f.entry.series ≡ move.series
   pub part_is : f.entry.part ≡ part.part

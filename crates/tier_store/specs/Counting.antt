@@ -2,7 +2,7 @@
 use Rattle.std.specs.Prelude.{◌≡◌, ◌-◌, ◌+◌, ℕ, ℤ, List, ◌++◌, length, take, drop, Option, None, Some, IsTrue}
 use Rattle.disk_model.specs.Files.{Name, Files, HasFile}
 use Rattle.disk_model.specs.declared.disk.Disk.{Ghosts}
-use Rattle.gate_journal.specs.Standing.{ReadsDisk, standing}
+use Rattle.gate_journal.specs.DiskShown.{ReadsDisk, shown_by}
 use Rattle.pb_wire.specs.declared.payload.PayloadType.{PayloadType}
 use Rattle.series_model.specs.declared.sample.Sample.{Sample}
 use Rattle.series_model.specs.Series.{since}
@@ -16,7 +16,7 @@ behind (Some t) = t + 1
 
 -- a disk that tells its files was only read
 abbrev pub OnlyReadsDisk : {D R : Type 0} → Ghosts D R → D → D → Type 0
-OnlyReadsDisk {D} {R} disk old new = IsTrue disk.tells → ReadsDisk (standing disk old) (standing disk new)
+OnlyReadsDisk {D} {R} disk old new = IsTrue disk.tells → ReadsDisk (shown_by disk old) (shown_by disk new)
 
 -- So many bytes are the lines of all samples that stand at the front one after another, and so many of these are not earlier than n.
 pub record CountsLines (ty : PayloadType) (year : ℤ) (bytes : List ℕ) (n len count : ℕ) : Type 0 where

@@ -5,7 +5,7 @@ use Rattle.std.specs.List.{AllPairs}
 use Rattle.std.specs.Prelude.{◌≡◌, ◌≢◌, ◌⊎◌, ◌≤◌, ◌+◌, ℕ, Bool, List, [], ◌∷◌, All, Contains, IsSome, IsTrue, length, map, None, Some, slice_get}
 use Rattle.disk_model.specs.Files.{Name, Files}
 use Rattle.disk_model.specs.Past.{Passes, Only}
-use Rattle.gate_journal.specs.Standing.{Standing}
+use Rattle.gate_journal.specs.DiskShown.{DiskShown}
 use Rattle.partition_names.specs.declared.granularity.Granularity.{Granularity}
 use Rattle.partition_names.specs.Part.{IsPart}
 use Rattle.pins.specs.Pieces.{PinOf}
@@ -14,7 +14,7 @@ use Rattle.pv_catalog.specs.declared.row.Row.{Row}
 use Rattle.store_manifest.specs.Manifest.{ManifestState}
 use Rattle.store_manifest.specs.declared.entry.Entry.{Entry}
 use Rattle.durable_write.specs.Held.{file_of}
-use Rattle.tier_store.specs.Change.{Call}
+use Rattle.tier_store.specs.Change.{StoreCall}
 use Rattle.tier_store.specs.Pinned.{SeenAll, Shows}
 use Rattle.tier_store.specs.Seen.{Seen, granularities}
 use Rattle.tier_store.specs.declared.limbo.Retired.{Retired}
@@ -141,7 +141,7 @@ abbrev pub Spares : FinMap nat_cmp PinOf → List Name → List Retired → File
 Spares pins copied limbo old new = (n : Name) → ((r : Retired) → Contains limbo r → r.name ≡ n → IsNeeded pins copied n) → new n ≡ old n
 
 -- Reads and a crash at any moment spare all others and those that are needed, and no name is opened further.
-pub record Removes (pins : FinMap nat_cmp PinOf) (copied : List Name) (limbo : List Retired) (old new : Standing) : Type 0 where
+pub record Removes (pins : FinMap nat_cmp PinOf) (copied : List Name) (limbo : List Retired) (old new : DiskShown) : Type 0 where
   pub any_moment : Passes (Spares pins copied limbo) old.past new.past
   pub spares : Spares pins copied limbo old.files new.files
   pub fewer : (n : Name) → new.opened n ≤ old.opened n
@@ -151,7 +151,7 @@ abbrev pub SparesNames : List Name → Files → Files → Type 0
 SparesNames names old new = (n : Name) → (Contains names n → ⊥) → new n ≡ old n
 
 -- Reads and a crash at any moment spare all but these names, and no name is opened further.
-pub record RemovesNames (names : List Name) (old new : Standing) : Type 0 where
+pub record RemovesNames (names : List Name) (old new : DiskShown) : Type 0 where
   pub any_moment : Passes (SparesNames names) old.past new.past
   pub spares : SparesNames names old.files new.files
   pub fewer : (n : Name) → new.opened n ≤ old.opened n
@@ -161,5 +161,5 @@ abbrev pub AreFree : FinMap nat_cmp PinOf → List Name → (Name → Type 0) �
 AreFree pins copied P limbo = All (λ (r : Retired). (IsNeeded pins copied r.name → ⊥) → P r.name) limbo
 
 -- the stores stay as they are
-abbrev pub staying : {A : Type 0} → Call A ⊥
+abbrev pub staying : {A : Type 0} → StoreCall A ⊥
 staying {A} = record { by = λ old new. new ≡ old; says = λ a old new. Unit {0}; refuses = λ e rows. ⊥ }

@@ -2,7 +2,7 @@
 use Rattle.std.specs.Prelude.{◌≡◌, ◌≢◌, ◌⊎◌, ◌≤◌, ◌+◌, ℕ, Bool, List, ◌++◌, All, Contains, IsTrue, length, map, None, Some, slice_get}
 use Rattle.disk_model.specs.Files.{Name}
 use Rattle.disk_model.specs.Past.{Passes}
-use Rattle.etl_mover.specs.Move.{MoveState, IsMove, StillLists}
+use Rattle.etl_mover.specs.Move.{Moving, IsMove, StillLists}
 use Rattle.partition_names.specs.declared.granularity.Granularity.{Granularity}
 use Rattle.partition_names.specs.declared.part.Part.{Part}
 use Rattle.pv_catalog.specs.Rows.{KeepsRows}
@@ -12,7 +12,7 @@ use Rattle.durable_write.specs.Flush.{PlacesRise, file_at, put_all}
 use Rattle.durable_write.specs.Held.{Filed, Held, Shelf, AreFiled, entry_of, file_of, filed_at}
 use Rattle.durable_write.specs.Plan.{IsLastOf, of_row}
 use Rattle.durable_write.specs.Stored.{AreSafe}
-use Rattle.tier_store.specs.Change.{Call, Has, Doubts}
+use Rattle.tier_store.specs.Change.{StoreCall, Has, Doubts}
 use Rattle.tier_store.specs.Pinned.{SeenAll}
 use Rattle.tier_store.specs.Seen.{Seen, granularities, on_disk}
 use Rattle.tier_store.specs.Stores.{Stores, list_at, with_list}
@@ -44,12 +44,12 @@ pub record MayBeListed (i : ℕ) (tells : Bool) (all : SeenAll) (held : Stores) 
 -- THE MOVE
 
 -- the files are those of a manifest that lists the parts still
-abbrev pub ListsParts : List Filed → MoveState → Type 0
+abbrev pub ListsParts : List Filed → Moving → Type 0
 ListsParts files move = (m : ManifestState) → m.entries ≡ map entry_of files → StillLists move m
 
 -- A move to the store at a place runs beside these stores. Its source, the store before that, lists the parts still, and the row has its name. While
 -- parts are left to copy it knows what the destination lists last of the row. What it is to list is that of these files.
-pub record RunsBeside (i : ℕ) (tells : Bool) (all : SeenAll) (move : MoveState) (files : List Filed) (held : Stores) : Type 0 where
+pub record RunsBeside (i : ℕ) (tells : Bool) (all : SeenAll) (move : Moving) (files : List Filed) (held : Stores) : Type 0 where
   pub from : ℕ
   pub next : i ≡ from + 1
   pub fine : Granularity
@@ -92,7 +92,7 @@ MayHold tells at held = Has tells at held ⊎ ((other : Stores) × (Doubts tells
 
 -- each move that ran beside what may be held does so still
 abbrev pub KeepsBeside : Bool → SeenAll → SeenAll → Type 0
-KeepsBeside tells old new = (held : Stores) → MayHold tells old.stores held → (i : ℕ) (move : MoveState) (files : List Filed) → RunsBeside i tells old move files held → RunsBeside i tells new move files held
+KeepsBeside tells old new = (held : Stores) → MayHold tells old.stores held → (i : ℕ) (move : Moving) (files : List Filed) → RunsBeside i tells old move files held → RunsBeside i tells new move files held
 
 -- the partitions that files are of
 abbrev pub parts_in : ℕ → List Filed → List Part
@@ -112,5 +112,5 @@ pub record GoesBeside (i row : ℕ) (held made : Stores) : Type 0 where
 abbrev pub ListsAlso : ℕ → List Filed → Stores → Stores → Type 0
 ListsAlso i files old new = new ≡ with_list i (put_all (list_at i old) files) old
 
-abbrev pub publishing : ℕ → List Filed → Call (Unit {0}) ⊥
+abbrev pub publishing : ℕ → List Filed → StoreCall (Unit {0}) ⊥
 publishing i files = record { by = ListsAlso i files; says = λ a old new. Unit {0}; refuses = λ e rows. ⊥ }

@@ -3,7 +3,7 @@ use Rattle.std.specs.List.{flat_map}
 use Rattle.std.specs.FinMap.{FinMap, get, insert}
 use Rattle.std.specs.Ordering.{nat_cmp}
 use Rattle.std.specs.Prelude.{◌≡◌, ◌<◌, ◌^◌, ◌+◌, ◌++◌, ℕ, List, [], ◌∷◌, length, map, filter, nat_eq, nat_lt, ◌&&◌, if◌then◌else◌, Bool, Option, None, Some, IsSome, IsTrue, slice_get}
-use Rattle.act_model.specs.Limbo.{FileState}
+use Rattle.act_model.specs.Limbo.{RowFile}
 use Rattle.act_model.specs.Pin.{over_pieces}
 use Rattle.act_model.specs.Rows.{Store, Short, Medium, Long}
 use Rattle.act_model.specs.Rule.{index_of}
@@ -54,7 +54,7 @@ abbrev pub listed_of : Placed → Listed
 listed_of p = record { store = index_of p.store + 1; entry = p.file.entry }
 
 -- the file as one of its own row
-abbrev pub state_of : Placed → FileState
+abbrev pub state_of : Placed → RowFile
 state_of p = record { row = p.file.entry.series; store = p.store; part = p.file.entry.part; head = p.file.head; samples = p.file.samples }
 
 -- what a manifest lists of a row

@@ -13,7 +13,7 @@ use Rattle.store_manifest.specs.Manifest.{ManifestState}
 use Rattle.durable_write.specs.Ahead.{without_all}
 use Rattle.durable_write.specs.Held.{Filed, Shelf, entry_of, file_of}
 use Rattle.durable_write.specs.Plan.{of_row}
-use Rattle.tier_store.specs.Change.{Call, Doubts, Has}
+use Rattle.tier_store.specs.Change.{StoreCall, Doubts, Has}
 use Rattle.tier_store.specs.Limbo.{Stay, LeaveListed, IsListedName, IsPinnedFile, IsKeptName, AreFree}
 use Rattle.tier_store.specs.Pinned.{SeenAll, Shows}
 use Rattle.tier_store.specs.Seen.{Seen}
@@ -135,7 +135,7 @@ SaysRetired i row published Limbo (ends.Retired removed) old new = Leave i row p
 SaysRetired i row published Limbo (ends.Again len copied) old new = (new ≡ old) × HasGrown published (map entry_of (oldest i row (length published) old)) len copied
 
 -- The oldest files of a row leave a list, or all is as it was.
-abbrev pub retiring : ℕ → ℕ → List ℕ → (Result (Unit {0}) DiskErr → List Retired → Type 0) → Call RetireEnd ⊥
+abbrev pub retiring : ℕ → ℕ → List ℕ → (Result (Unit {0}) DiskErr → List Retired → Type 0) → StoreCall RetireEnd ⊥
 retiring i row published Limbo = record { by = λ old new. (new ≡ old) ⊎ Retires i row published old new; says = SaysRetired i row published Limbo; refuses = λ e rows. ⊥ }
 
 -- After a fault all is as it was, or it isn't known whether the files are listed still.
@@ -143,5 +143,5 @@ abbrev pub FailsRetired : ℕ → ℕ → List ℕ → Bool → Seen → Stores 
 FailsRetired i row published tells new held = Has tells new held ⊎ ((made : Stores) × Retires i row published held made × Doubts tells new held made)
 
 -- the commit alone
-abbrev pub dropping : {A : Type 0} → ℕ → ℕ → ℕ → Call A ⊥
+abbrev pub dropping : {A : Type 0} → ℕ → ℕ → ℕ → StoreCall A ⊥
 dropping {A} i row n = record { by = λ old new. new ≡ without_oldest i row n old; says = λ a old new. Unit {0}; refuses = λ e rows. ⊥ }

@@ -10,7 +10,7 @@ use Rattle.durable_write.specs.Held.{Filed, Held, AreFiled, count_of, entry_of}
 use Rattle.durable_write.specs.Revival.{AreUnlisted}
 use Rattle.durable_write.specs.Revival as one_store
 use Rattle.durable_write.specs.Stored.{AreSafe}
-use Rattle.tier_store.specs.Change.{Call}
+use Rattle.tier_store.specs.Change.{StoreCall}
 use Rattle.tier_store.specs.Limbo.{ListsPlace}
 use Rattle.tier_store.specs.Pinned.{SeenAll, IsHeldTo}
 use Rattle.tier_store.specs.Seen.{Seen, on_disk}
@@ -88,7 +88,7 @@ pub record CountsOver (limbo : List Retired) (files : List Filed) (batch : List 
   pub over : FlushesOver limbo files batch old new
   pub count : count_of (put_all (put_all old.short over.back) over.flushed.written) ≡ count_of (put_all old.short over.back) + n
 
-abbrev pub flushing_over : List Retired → List Filed → List RowSamples → Call ℕ ⊥
+abbrev pub flushing_over : List Retired → List Filed → List RowSamples → StoreCall ℕ ⊥
 flushing_over limbo files batch = record {
   by = FlushesOver limbo files batch;
   says = λ n old new. IsTrue old.stands → CountsOver limbo files batch n old new;

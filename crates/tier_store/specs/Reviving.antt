@@ -2,7 +2,7 @@
 -- with them.
 use Rattle.std.specs.Prelude.{◌≡◌, ◌≢◌, ◌⊎◌, ◌<◌, ◌≤◌, ◌+◌, ℕ, Bool, List, [], ◌∷◌, ◌++◌, map, length, filter, nat_le, true, false, All, Contains, IfSome, Option, None, Some, slice_get}
 use Rattle.etl_mover.specs.Copying.{last_of}
-use Rattle.etl_mover.specs.Move.{MoveState}
+use Rattle.etl_mover.specs.Move.{Moving}
 use Rattle.partition_names.specs.Part.{HoldsMoment}
 use Rattle.series_model.specs.Series.{end_of}
 use Rattle.series_model.specs.declared.sample.Sample.{Sample}
@@ -62,14 +62,14 @@ abbrev pub IsUncovered : List Retired → ℕ → ℕ → Option Entry → Entry
 IsUncovered limbo store row last part = SaysBehind limbo store row last part.part.start None ⊎ ((e : Entry) × SaysBehind limbo store row last part.part.start (Some e) × (e.last < part.last))
 
 -- Of a move's parts, which are listed by these entries, files in limbo have those from one on up to the n-th, and not that one.
-pub record AreCovered (limbo : List Retired) (store : ℕ) (move : MoveState) (entries : List Entry) (first n : ℕ) : Type 0 where
+pub record AreCovered (limbo : List Retired) (store : ℕ) (move : Moving) (entries : List Entry) (first n : ℕ) : Type 0 where
   pub low : first ≤ n
   pub high : n ≤ length move.files
   pub each : (k : ℕ) (e : Entry) → first ≤ k → k < n → slice_get entries k ≡ Some e → IsCovered limbo store move.series (last_of move.pending move.listed) e
   pub next : (e : Entry) → n < length move.files → slice_get entries n ≡ Some e → IsUncovered limbo store move.series (last_of move.pending move.listed) e
 
 -- lines of the next part go on in this file in limbo, or there is none in which they would
-abbrev pub GoesBehind : List Retired → ℕ → MoveState → Option Entry → Type 0
+abbrev pub GoesBehind : List Retired → ℕ → Moving → Option Entry → Type 0
 GoesBehind limbo store move revived = (part : Entry) → slice_get move.parts move.at ≡ Some part → SaysBehind limbo store move.series (last_of move.pending move.listed) part.part.start revived
 
 -- what is to be listed, with a file in limbo
@@ -78,7 +78,7 @@ pending_with pending None = pending
 pending_with pending (Some e) = pending ++ e ∷ []
 
 -- the move as it is where a file in limbo is to be listed already
-abbrev pub reviving : MoveState → Option Entry → MoveState
+abbrev pub reviving : Moving → Option Entry → Moving
 reviving move revived = record move { pending = pending_with move.pending revived }
 
 -- the last entry is of the partition of the revived file

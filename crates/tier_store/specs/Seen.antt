@@ -3,7 +3,7 @@ use Rattle.std.specs.Prelude.{◌≡◌, ℕ, List, Some, slice_get, true, map}
 use Rattle.disk_model.specs.Files.{Name, Files}
 use Rattle.disk_model.specs.Past.{Past}
 use Rattle.disk_model.specs.declared.disk.Disk.{Ghosts}
-use Rattle.gate_journal.specs.Standing.{Standing, standing}
+use Rattle.gate_journal.specs.DiskShown.{DiskShown, shown_by}
 use Rattle.partition_names.specs.declared.granularity.Granularity.{Granularity}
 use Rattle.pv_catalog.specs.Catalogue.{CatalogueState}
 use Rattle.store_manifest.specs.Manifest.{ManifestState}
@@ -19,16 +19,16 @@ pub record Seen : Type 1 where
   pub faults : ℕ
 
 -- what the disk shows of it
-abbrev pub on_disk : Seen → Standing
+abbrev pub on_disk : Seen → DiskShown
 on_disk at = record { files = at.files; opened = at.opened; past = at.past }
 
 -- the memory beside a disk, by what a disk tells
-abbrev pub seen_on : {D : Type 0} → (D → Standing) → (D → ℕ) → CatalogueState → List ManifestState → D → Seen
+abbrev pub seen_on : {D : Type 0} → (D → DiskShown) → (D → ℕ) → CatalogueState → List ManifestState → D → Seen
 seen_on {D} shows faults catalogue manifests d = record { catalogue = catalogue; manifests = manifests; files = (shows d).files; opened = (shows d).opened; past = (shows d).past; faults = faults d }
 
 -- the same by the members of the disk's type
 abbrev pub seen_by : {D R : Type 0} → Ghosts D R → CatalogueState → List ManifestState → D → Seen
-seen_by {D} {R} disk = seen_on (standing disk) disk.faults
+seen_by {D} {R} disk = seen_on (shown_by disk) disk.faults
 
 -- stores
 abbrev pub seen : {D R : Type 0} → Ghosts D R → TierStore D R → Seen

@@ -1,7 +1,7 @@
 -- Strays: files of stores 1 to 3 that no list, no limbo and no running move knows.
 use Rattle.std.specs.Prelude.{◌≡◌, ◌⊎◌, ◌≤◌, Bool, List, Contains, IsSome, IsTrue, Ok, [], map}
 use Rattle.disk_model.specs.Files.{Name, Files}
-use Rattle.etl_mover.specs.Move.{MoveState, part_file}
+use Rattle.etl_mover.specs.Move.{Moving, part_file}
 use Rattle.tier_store.specs.Limbo.{IsListedName}
 use Rattle.tier_store.specs.Pinned.{SeenAll}
 use Rattle.tier_store.specs.Retiring.{names_in}
@@ -34,11 +34,11 @@ LeavesTidy tells old new = IsSettled new.stores × LeavesNoStray tells old new
 -- MOVES
 
 -- the files that a move is to list in the store to which it copies
-abbrev pub targets : MoveState → List Name
+abbrev pub targets : Moving → List Name
 targets move = map (part_file move.destination move.name) move.pending
 
 -- A step of copying writes none but files that the move is to list then, and what it was to list it is so still.
-pub record WritesTargets (old new : MoveState) (files later : Files) : Type 0 where
+pub record WritesTargets (old new : Moving) (files later : Files) : Type 0 where
   pub others : (n : Name) → (Contains (targets new) n → ⊥) → later n ≡ files n
   pub still : (n : Name) → Contains (targets old) n → Contains (targets new) n
 

@@ -4,7 +4,7 @@ ghost use Rattle.std.specs.Prelude.{None, Some, true, false, All, Contains, IsTr
 ghost use Rattle.disk_model.specs.Files.{Files, Name};
 ghost use Rattle.disk_model.specs.Past.{MayLeave, Passes};
 ghost use Rattle.etl_mover.specs.Copying.{last_of};
-ghost use Rattle.etl_mover.specs.Move.{HasBegun, IsMove, MoveState, StillLists};
+ghost use Rattle.etl_mover.specs.Move.{HasBegun, IsMove, Moving, StillLists};
 ghost use Rattle.etl_mover.specs.Step.{GoesTo, Takes, between};
 ghost use Rattle.partition_names.specs.declared.granularity.Granularity.{Granularity};
 ghost use Rattle.pv_catalog.specs.Catalogue.{CatalogueState};
@@ -167,7 +167,7 @@ pub fn limbo_stands<D: Disk>()
 /// leaves names leaves fewer of them too.
 pub fn a_move_runs_beside<D: Disk>()
     ensures begun { (disk : D) (catalogue : CatalogueState) (ms : List ManifestState) (limbo : List Retired)
-        (held : Stores) (i from : ℕ) (source dest : ManifestState) (row : Row) (n : ℕ) (move : MoveState)
+        (held : Stores) (i from : ℕ) (source dest : ManifestState) (row : Row) (n : ℕ) (move : Moving)
         → Has D.tells (seen_by D.Disk catalogue ms disk) held → i ≡ from + 1 → slice_get ms from ≡ Some source
         → slice_get ms i ≡ Some dest → slice_get held.rows move.series ≡ Some row
         → HasBegun source dest move.series row.name n move → IsMove source.granularity move → StillLists move source
@@ -177,14 +177,14 @@ pub fn a_move_runs_beside<D: Disk>()
         → LeavesNames more D.tells (seen_all_by D.Disk catalogue ms limbo old) (seen_all_by D.Disk later ns left new)
         → LeavesNames names D.tells (seen_all_by D.Disk catalogue ms limbo old) (seen_all_by D.Disk later ns left new) }
     ensures stays { (old new : D) (catalogue later : CatalogueState) (ms ns : List ManifestState)
-        (limbo left : List Retired) (i : ℕ) (move : MoveState) (files : List Filed) (held made : Stores)
+        (limbo left : List Retired) (i : ℕ) (move : Moving) (files : List Filed) (held made : Stores)
         → granularities ns ≡ granularities ms → GoesBeside i move.series held made
         → LeavesNames (names_of (i + 1, held.rows) files) D.tells (seen_all_by D.Disk catalogue ms limbo old)
         (seen_all_by D.Disk later ns left new)
         → RunsBeside i D.tells (seen_all_by D.Disk catalogue ms limbo old) move files held
         → RunsBeside i D.tells (seen_all_by D.Disk later ns left new) move files made }
     ensures listed { (old new : D) (catalogue later : CatalogueState) (ms ns : List ManifestState)
-        (limbo left : List Retired) (i : ℕ) (move : MoveState) (files : List Filed) (held : Stores)
+        (limbo left : List Retired) (i : ℕ) (move : Moving) (files : List Filed) (held : Stores)
         → granularities ns ≡ granularities ms → i < 3 → move.at ≡ length move.parts
         → LeavesNames (names_of (i + 1, held.rows) files) D.tells (seen_all_by D.Disk catalogue ms limbo old)
         (seen_all_by D.Disk later ns left new)
@@ -197,7 +197,7 @@ pub fn a_move_runs_beside<D: Disk>()
 /// all that is listed of the row and is to be. Behind the samples of the last file of the row, or in one that is made
 /// anew where no file was in limbo, they make a file of the row, where the files that are ahead stand.
 pub fn a_copy_writes_the_next_samples()
-    ensures { (fine : Granularity) (move : MoveState) (base : Held) (part : Entry) (start : _) (file : Filed)
+    ensures { (fine : Granularity) (move : Moving) (base : Held) (part : Entry) (start : _) (file : Filed)
         (bytes lines : List ℕ) (from most : ℕ) (entry : Entry) → GoesTo move None part start → IsMove fine move
         → AreHeld move.granularity base → IsTrue base.stands
         → IsLastOf (map entry_of base.files) move.series (last_of move.pending move.listed)
@@ -213,14 +213,14 @@ pub fn a_copy_writes_the_next_samples()
 /// the parts that are copied.
 pub fn a_move_copies_beside<D: Disk>()
     ensures begun { (disk : D) (catalogue : CatalogueState) (ms : List ManifestState) (limbo : List Retired)
-        (held : Stores) (from : ℕ) (source dest : ManifestState) (row : Row) (n : ℕ) (move : MoveState)
+        (held : Stores) (from : ℕ) (source dest : ManifestState) (row : Row) (n : ℕ) (move : Moving)
         → (IsTrue held.stands → IsTrue D.tells) → Has D.tells (seen_by D.Disk catalogue ms disk) held
         → slice_get ms from ≡ Some source → slice_get ms (from + 1) ≡ Some dest
         → slice_get held.rows move.series ≡ Some row → HasBegun source dest move.series row.name n move
         → IsMove source.granularity move → StillLists move source → 1 ≤ length move.parts
         → CopiesBeside from D.tells (seen_all_by D.Disk catalogue ms limbo disk) move [] held }
     ensures stays { (old new : D) (catalogue later : CatalogueState) (ms ns : List ManifestState)
-        (limbo left : List Retired) (from : ℕ) (move : MoveState) (files : List Filed) (held made : Stores)
+        (limbo left : List Retired) (from : ℕ) (move : Moving) (files : List Filed) (held made : Stores)
         → granularities ns ≡ granularities ms → GoesBeside (from + 1) move.series held made
         → LeavesNames (names_of (from + 1 + 1, held.rows) files) D.tells (seen_all_by D.Disk catalogue ms limbo old)
         (seen_all_by D.Disk later ns left new) → KnowsHeads from move made

@@ -20,7 +20,7 @@ use store_manifest::Manifest;
 
 /// How one is answered who asks for a move.
 #[derive(Drop)]
-pub enum MoveBegun {
+pub enum StoreMove {
     /// This move begins, of so many of the oldest files of a row: the least row that has a move
     /// to make and none running.
     Begun { row: u32, parts: u64, moving: Move },
@@ -38,7 +38,7 @@ fn begin_chosen(
     destination: &Manifest,
     rule: &MoveRule,
     running: &BTreeMap<u32, u32>,
-) -> Result<MoveBegun, AllocError>
+) -> Result<StoreMove, AllocError>
     requires { length rows.now ≤ most_rows }
     ensures { IfOk result (IsBegun rule.now (get nat_cmp running.now) rows.now source.now destination.now) }
 {
@@ -48,14 +48,14 @@ fn begin_chosen(
         ToMove::Begin { series, parts } => {
             let row = &rows[series as usize];
             let moving = Move::begin(alloc, source, destination, series, &row.name, parts)?;
-            Ok(MoveBegun::Begun {
+            Ok(StoreMove::Begun {
                 row: series,
                 parts: parts as u64,
                 moving,
             })
         }
-        ToMove::Running { number } => Ok(MoveBegun::Running { number }),
-        ToMove::Nothing => Ok(MoveBegun::Nothing),
+        ToMove::Running { number } => Ok(StoreMove::Running { number }),
+        ToMove::Nothing => Ok(StoreMove::Nothing),
     }
 }
 
@@ -72,7 +72,7 @@ impl<D: Disk> TierStore<D> {
         place: usize,
         rule: &MoveRule,
         running: &BTreeMap<u32, u32>,
-    ) -> Result<MoveBegun, DiskErr>
+    ) -> Result<StoreMove, DiskErr>
         requires within { place < 2 }
         requires nested { AreNested place (granularities self.now.manifests.items) }
         requires has { (held : Stores) × Has D.tells (seen D.Disk self.now) held }

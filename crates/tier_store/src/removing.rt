@@ -9,7 +9,7 @@ ghost use Rattle.std.specs.Prelude.{IsTrue, IsSome, length};
 ghost use Rattle.disk_model.specs.Files.{Name, Rose};
 ghost use Rattle.disk_model.specs.Past.{Passes, Only};
 ghost use Rattle.disk_model.specs.Record.{is_same};
-ghost use Rattle.gate_journal.specs.Standing.{standing};
+ghost use Rattle.gate_journal.specs.DiskShown.{shown_by};
 ghost use Rattle.std.specs.List.{list_any, AllPairs};
 ghost use Rattle.store_manifest.specs.Entries.{InOrder};
 ghost use Rattle.tier_store.specs.Counting.{OnlyReadsDisk};
@@ -25,7 +25,7 @@ use store_manifest::Manifest;
 
 /// What a sweep has done.
 #[derive(Clone, Copy, Debug, PartialEq, Eq)]
-pub struct Swept {
+pub struct StoreSwept {
     /// How many files have left limbo since nothing needs them.
     pub files: u64,
     /// Whether these are removed from the disk for good: else `Fault`, and some may be there still.
@@ -97,12 +97,12 @@ pub(crate) fn clear_limbo<D: Disk>(
     removable: &[FileName],
     pinned: &PinnedPieces,
     copied: &[FileName],
-) -> Swept
+) -> StoreSwept
     requires { IsTrue D.tells
         → AreRemovable (IsUseless pinned.now copied.now) limbo.old.items (D.files disk.old) removable.now }
 
     ensures removes { IsTrue D.tells
-        → Removes pinned.now copied.now limbo.old.items (standing D.Disk disk.old) (standing D.Disk disk.new) }
+        → Removes pinned.now copied.now limbo.old.items (shown_by D.Disk disk.old) (shown_by D.Disk disk.new) }
     ensures gone { IsTrue D.tells
         → OnOk result.removed (AreFree pinned.now copied.now (λ n. Only (D.past disk.new) n None) limbo.old.items) }
     ensures needed { StayNeeded pinned.now copied.now limbo.old.items limbo.new.items }
@@ -112,7 +112,7 @@ pub(crate) fn clear_limbo<D: Disk>(
 {
     let removed = remove_for_good(disk, limbo.as_slice(), removable, pinned, copied);
     let files = keep_needed(limbo, pinned, copied);
-    Swept { files, removed }
+    StoreSwept { files, removed }
 }
 
 // Removes those of the files that nothing needs, so that no crash brings them back. Just these names have a file.
@@ -127,7 +127,7 @@ pub(crate) fn remove_for_good<D: Disk>(
         → AreRemovable (IsUseless pinned.now copied.now) files.now (D.files disk.old) removable.now }
 
     ensures removes { IsTrue D.tells
-        → Removes pinned.now copied.now files.now (standing D.Disk disk.old) (standing D.Disk disk.new) }
+        → Removes pinned.now copied.now files.now (shown_by D.Disk disk.old) (shown_by D.Disk disk.new) }
     ensures gone { IsTrue D.tells
         → OnOk result (AreFree pinned.now copied.now (λ n. Only (D.past disk.new) n None) files.now) }
     ensures faults { D.faults disk.old ≤ D.faults disk.new }
@@ -168,7 +168,7 @@ fn remove_all<D: Disk>(disk: &mut D, names: &[FileName]) -> Result<(), DiskErr>
     requires { IsTrue D.tells
         → AllPairs (λ (a b : Name). a ≢ b) names.now × All (λ (n : Name). IsSome (D.files disk.old n)) names.now }
 
-    ensures removes { IsTrue D.tells → RemovesNames names.now (standing D.Disk disk.old) (standing D.Disk disk.new) }
+    ensures removes { IsTrue D.tells → RemovesNames names.now (shown_by D.Disk disk.old) (shown_by D.Disk disk.new) }
     ensures gone { IsTrue D.tells → OnOk result (All (λ (n : Name). D.files disk.new n ≡ None) names.now) }
     ensures faults { D.faults disk.old ≤ D.faults disk.new }
     ensures cause { IsErr result → Rose (D.faults disk.old) (D.faults disk.new) }

@@ -14,12 +14,12 @@ ghost use Rattle.tier_store.specs.Strays.{LeavesNoStray};
 
 use crate::TierStore;
 use crate::limbo::leave_listed;
-use crate::removing::{Swept, clear_limbo, find_removable};
+use crate::removing::{StoreSwept, clear_limbo, find_removable};
 use disk_model::{Disk, DiskErr, FileName};
 
 impl<D: Disk> TierStore<D> {
     // Sweeps where no change stands in doubt and just these of the names that are to go have a file.
-    fn sweep_names(&mut self, copied: &[FileName], removable: &[FileName]) -> Swept
+    fn sweep_names(&mut self, copied: &[FileName], removable: &[FileName]) -> StoreSwept
         requires has { (held : Stores) × Has D.tells (seen D.Disk self.old) held }
         requires stands { LimboStands (seen D.Disk self.old) self.old.limbo.items }
         requires removable { IsTrue D.tells
@@ -82,7 +82,7 @@ impl<D: Disk> TierStore<D> {
     /// A removal that fails is no failure of the sweep: such a file leaves limbo too, and it is told, as `Fault` alone.
     /// Which files are there is asked before any leaves limbo: `Fault`, which comes only where the disk's count of
     /// faults rose in the call, and `Memory` come from that alone, and limbo is as it was then.
-    pub fn sweep(&mut self, copied: &[FileName]) -> Result<Swept, DiskErr>
+    pub fn sweep(&mut self, copied: &[FileName]) -> Result<StoreSwept, DiskErr>
         requires has { (held : Stores) × Has D.tells (seen D.Disk self.old) held }
         requires stands { LimboStands (seen D.Disk self.old) self.old.limbo.items }
 

@@ -7,9 +7,9 @@ use lib.ListN.{get_elem?}
 use prog.Atomic.{either}
 use Rattle.atomic_table.specs.Table.{State, Me, step, Act, keeps, takes, gives, Valid, carried_after, stepped, Allows}
 use Rattle.atomic_table.proofs.Lists.{set_here, at_map, set_again, exchanged}
-use Rattle.turn_rooms.specs.declared.room.Entry.{Entry}
-use Rattle.turn_rooms.specs.declared.view.Seen.{Seen}
-use Rattle.turn_rooms.specs.declared.view.Standing.{Standing}
+use Rattle.turn_rooms.specs.declared.room.RoomEntry.{RoomEntry}
+use Rattle.turn_rooms.specs.declared.view.RoomSeen.{RoomSeen}
+use Rattle.turn_rooms.specs.declared.view.SeatNumbers.{SeatNumbers}
 use Rattle.turn_rooms.specs.Histories.{most_acts, end_of, Legal}
 use Rattle.turn_rooms.specs.Views.{full_word, sees, looked, learned, took, missed, entry_in, given, settled}
 use Rattle.turn_rooms.specs.Numbers.{StandsForMany}
@@ -20,37 +20,37 @@ use Rattle.turn_rooms.proofs.Numbering as numbering
 use Rattle.turn_rooms.proofs.Recording as recording
 
 module _ {S A B : Type 0} where
-  looked_is : (v : Seen S A B) (h : List (Entry S A B)) (word : ℕ) (b : Bool)
+  looked_is : (v : RoomSeen S A B) (h : List (RoomEntry S A B)) (word : ℕ) (b : Bool)
       → (reads : Option ℕ) × (taken : List ℕ) × ((if b then sees v h (if word == full_word then None else Some word) false v.taken else sees v h None false (v.taken ++ word ∷ [])) ≡ sees v h reads false taken)
   looked_is v h word true = ((if word == full_word then None else Some word), v.taken, refl)
   looked_is v h word false = (None, v.taken ++ word ∷ [], refl)
 
 -- a seat of the sights is one of the standings
-pub standing_at : {X W : Type 0} (sight : W → X) (standing : W → Standing) (vs : List W) (seat : ℕ) (u : X × Standing) → get_elem? (map (λ w. (sight w, standing w)) vs) seat ≡ some u → get_elem? (map standing vs) seat ≡ some u.1
+pub standing_at : {X W : Type 0} (sight : W → X) (standing : W → SeatNumbers) (vs : List W) (seat : ℕ) (u : X × SeatNumbers) → get_elem? (map (λ w. (sight w, standing w)) vs) seat ≡ some u → get_elem? (map standing vs) seat ≡ some u.1
 standing_at sight standing [] seat u e = absurd (some-ne-none u (sym e))
-standing_at {X} sight standing (v ∷ vs) zero u e = ap (λ (x : X × Standing). some x.1) (some-injective (sight v, standing v) u e)
+standing_at {X} sight standing (v ∷ vs) zero u e = ap (λ (x : X × SeatNumbers). some x.1) (some-injective (sight v, standing v) u e)
 standing_at sight standing (v ∷ vs) (suc i) u e = standing_at sight standing vs i u e
 
-module _ {S A B K W : Type 0} (steps : S → ℕ → ℕ → A → B → S → Type 0) (begun : S) (sight : W → Seen S A B) (standing : W → Standing) (with_sight : W → Seen S A B → W) (wrap : Option S → K) (i j : ℕ)
-    (R : State K W → Type 0) (Knows : W → List (Entry S A B) → Type 0) (May : W → Entry S A B → Type 0)
+module _ {S A B K W : Type 0} (steps : S → ℕ → ℕ → A → B → S → Type 0) (begun : S) (sight : W → RoomSeen S A B) (standing : W → SeatNumbers) (with_sight : W → RoomSeen S A B → W) (wrap : Option S → K) (i j : ℕ)
+    (R : State K W → Type 0) (Knows : W → List (RoomEntry S A B) → Type 0) (May : W → RoomEntry S A B → Type 0)
     (lane : (s : State K W) → R s → Lane steps begun sight standing wrap i j s)
     (knows : (s : State K W) (r : R s) (id : ℕ) (w : W) → get_elem? s.views id ≡ some w → Knows w (lane s r).history)
-    (put : (s : State K W) (r : R s) (id : ℕ) (w : W) (x : Seen S A B) (new : ℕ) (home : maybe.Option (Option S)) (hs : List (maybe.Option K)) (h : List (Entry S A B)) → get_elem? s.views id ≡ some w → hs ≡ set s.homes j (lifted wrap home)
+    (put : (s : State K W) (r : R s) (id : ℕ) (w : W) (x : RoomSeen S A B) (new : ℕ) (home : maybe.Option (Option S)) (hs : List (maybe.Option K)) (h : List (RoomEntry S A B)) → get_elem? s.views id ≡ some w → hs ≡ set s.homes j (lifted wrap home)
     → Grows May w (lane s r).history h → Recorded steps begun h (lane s r).drawn new home (set (map (λ u. (sight u, standing u)) s.views) id (x, standing w))
     → R record { words = set s.words i new; homes = hs; views = set s.views id (with_sight w x) }) where
   abbrev Sight : Type 0
-  Sight = Seen S A B
+  Sight = RoomSeen S A B
 
   abbrev St : Type 0
   St = State K W
 
   abbrev H : Type 0
-  H = List (Entry S A B)
+  H = List (RoomEntry S A B)
 
   abbrev M : Type 0
   M = Me K W
 
-  abbrev sights : List W → List (Sight × Standing)
+  abbrev sights : List W → List (Sight × SeatNumbers)
   sights vs = map (λ w. (sight w, standing w)) vs
 
   at_sights : (vs : List W) (id : ℕ) (w : W) → get_elem? vs id ≡ some w → get_elem? (sights vs) id ≡ some (sight w, standing w)
@@ -105,7 +105,7 @@ module _ {S A B K W : Type 0} (steps : S → ℕ → ℕ → A → B → S → T
   all_of : (s : St) (r : R s) (id : ℕ) (w : W) → get_elem? s.views id ≡ some w → Contains ((standing w).stands ++ (standing w).joins) 0
       → ((q : ℕ) → Contains (standing w).gave q → Contains ((standing w).stands ++ (standing w).joins) q) → (q : ℕ) → q < (lane s r).drawn → Contains ((standing w).stands ++ (standing w).joins) q
   all_of s r id w at zeroth taken_back q less =
-      let l = lane s r in let n : Standing = standing w in let ns : List Standing = map standing s.views in let at' = at_standings s.views id w at in
+      let l = lane s r in let n : SeatNumbers = standing w in let ns : List SeatNumbers = map standing s.views in let at' = at_standings s.views id w at in
       let set_ns = numbering.settles l.drawn ns l.numbers id n at' in
       numbering.all_numbers l.drawn (set ns id (settled n)) set_ns id (settled n) (set_here ns id (settled n) (at_low ns id n at')) refl zeroth taken_back (q + 1) q (omega arith) less
 
@@ -165,7 +165,7 @@ module _ {S A B K W : Type 0} (steps : S → ℕ → ℕ → A → B → S → T
       ))
 
   -- the room comes home, and the history has one entry more
-  pub give_allows : (unwrap : K → Option S) (said : W → Option (A × B)) (n id : ℕ) (v : W) (b : S) (k : Option S) (e : Entry S A B) (new : ℕ) → (sight v).holding ≡ true → (standing v).joins ≡ [] → (sight v).begun ≡ Some b
+  pub give_allows : (unwrap : K → Option S) (said : W → Option (A × B)) (n id : ℕ) (v : W) (b : S) (k : Option S) (e : RoomEntry S A B) (new : ℕ) → (sight v).holding ≡ true → (standing v).joins ≡ [] → (sight v).begun ≡ Some b
       → Contains (standing v).stands (standing v).number → e.who ≡ (standing v).number → entry_in (said v) (standing v).number (unwrap (wrap k)) ≡ e ∷ [] → k ≡ Some e.after
       → steps (end_of b (sight v).known) (standing v).number (length (sight v).known) e.act e.answer e.after → new ≡ 2 * length (sight v).known + 2 → May v e
       → Allows R n id (v, (j, wrap k) ∷ []) i (λ _. new) (λ _. lane_gives steps sight standing with_sight unwrap said (step n i new 0 none) (v, (j, wrap k) ∷ []) new)
@@ -175,7 +175,7 @@ module _ {S A B K W : Type 0} (steps : S → ℕ → ℕ → A → B → S → T
       let num : ℕ = (standing v).number in
       let same : b ≡ begun = subst (λ (x : Option S). IfSome x (λ z. z ≡ begun)) begins (l.room.each id (sight v, standing v) at').begins in
       let mine = (l.numbers.each id (standing v) (at_standings s.views id v at)).mine num (inl live) in
-      let apart : (seat : ℕ) (u : Sight × Standing) → seat ≢ id → get_elem? (sights s.views) seat ≡ some u → ¬ (Contains u.1.stands num) × ¬ (Contains u.1.joins num)
+      let apart : (seat : ℕ) (u : Sight × SeatNumbers) → seat ≢ id → get_elem? (sights s.views) seat ≡ some u → ¬ (Contains u.1.stands num) × ¬ (Contains u.1.joins num)
       = λ seat u ne g. let o = (l.numbers.each seat u.1 (standing_at sight standing s.views seat u g)).mine num in
       ((λ c. ne (sym (o (inl c)).1 ∙ mine.1)), (λ c. ne (sym (o (inr c)).1 ∙ mine.1))) in
       let st = subst (λ (z : S). steps (end_of z (sight v).known) num (length (sight v).known) e.act e.answer e.after) same stepping in

@@ -3,15 +3,15 @@ use Rattle.std.proofs.Common.{◌≡◌, ℕ, List, ◌++◌, ap, sym, ◌∙◌
 use Rattle.std.specs.Prelude.{Contains}
 use Rattle.std.proofs.lemmas.List.Elements.{Contains-append_left, Contains-append_right}
 use mathlib.Core.Logic.{◌↔◌}
-use Rattle.turn_rooms.specs.declared.beside.Asked.{Asked}
+use Rattle.turn_rooms.specs.declared.beside.ActBeside.{ActBeside}
 use Rattle.turn_rooms.specs.declared.rooms.Tried.{Tried}
 use Rattle.turn_rooms.specs.declared.rooms.Tried.TheVariants as tried
 use Rattle.turn_rooms.specs.declared.rooms.Turned.{Turned}
 use Rattle.turn_rooms.specs.declared.rooms.Turned.TheVariants as turned
 use Rattle.turn_rooms.specs.declared.twins.Twin.{Twin}
 use Rattle.turn_rooms.specs.declared.twins.TwinPass.{TwinPass}
-use Rattle.turn_rooms.specs.declared.view.Seen.{Seen}
-use Rattle.turn_rooms.specs.declared.view.Standing.{Standing}
+use Rattle.turn_rooms.specs.declared.view.RoomSeen.{RoomSeen}
+use Rattle.turn_rooms.specs.declared.view.SeatNumbers.{SeatNumbers}
 use Rattle.turn_rooms.specs.Histories.{by}
 use Rattle.turn_rooms.specs.LaneTurns.{LaneTries, LaneTurns}
 use Rattle.turn_rooms.specs.Passes.{IsSpentTry, IsSpentTurn}
@@ -55,17 +55,17 @@ module _ {S T A B C D : Type 0} (steps : S → ℕ → ℕ → A → B → S →
 
   pub ended_store : (old new ended : P) → TwinKnowsAllOf ended old → StoreGoes steps steps' together r old new → TwinKnowsAllOf ended new
   ended_store old new ended knows goes = record {
-    stands_for = λ q c. has q (stands new) (stands old) (ap (λ (n : Standing). n.stands) goes.same_standing) (knows.stands_for q c);
+    stands_for = λ q c. has q (stands new) (stands old) (ap (λ (n : SeatNumbers). n.stands) goes.same_standing) (knows.stands_for q c);
     apart = λ q c same. knows.apart q c (same ∙ goes.same_number);
     store_acts = λ q c. goes.goes.others q (knows.stands_for q c) (knows.apart q c) ∙ knows.store_acts q c;
-    intake_acts = λ q c. ap (λ (x : Seen T (Asked C) D). by q x.known) goes.same_intake ∙ knows.intake_acts q c;
+    intake_acts = λ q c. ap (λ (x : RoomSeen T (ActBeside C) D). by q x.known) goes.same_intake ∙ knows.intake_acts q c;
   }
 
   pub ended_intake : (old new ended : P) → TwinKnowsAllOf ended old → IntakeGoes steps steps' together r old new → TwinKnowsAllOf ended new
   ended_intake old new ended knows goes = record {
-    stands_for = λ q c. has q (stands new) (stands old) (ap (λ (n : Standing). n.stands) goes.same_standing) (knows.stands_for q c);
+    stands_for = λ q c. has q (stands new) (stands old) (ap (λ (n : SeatNumbers). n.stands) goes.same_standing) (knows.stands_for q c);
     apart = λ q c same. knows.apart q c (same ∙ goes.same_number);
-    store_acts = λ q c. ap (λ (x : Seen S (Asked A) B). by q x.known) goes.same_store ∙ knows.store_acts q c;
+    store_acts = λ q c. ap (λ (x : RoomSeen S (ActBeside A) B). by q x.known) goes.same_store ∙ knows.store_acts q c;
     intake_acts = λ q c. goes.goes.others q (knows.stands_for q c) (knows.apart q c) ∙ knows.intake_acts q c;
   }
 
@@ -73,16 +73,16 @@ module _ {S T A B C D : Type 0} (steps : S → ℕ → ℕ → A → B → S →
   ended_parts old new ended note knows made = record {
     stands_for = λ q c. has q (stands new) (stands old) made.same_stands (knows.stands_for q c);
     apart = λ q c same. knows.apart q c (same ∙ made.same_number);
-    store_acts = λ q c. ap (λ (x : Seen S (Asked A) B). by q x.known) made.same_store ∙ knows.store_acts q c;
-    intake_acts = λ q c. ap (λ (x : Seen T (Asked C) D). by q x.known) made.same_intake ∙ knows.intake_acts q c;
+    store_acts = λ q c. ap (λ (x : RoomSeen S (ActBeside A) B). by q x.known) made.same_store ∙ knows.store_acts q c;
+    intake_acts = λ q c. ap (λ (x : RoomSeen T (ActBeside C) D). by q x.known) made.same_intake ∙ knows.intake_acts q c;
   }
 
 module _ {S A B : Type 0} where
-  pub spent_try : (number other loaded : ℕ) (x y : Seen S (Asked A) B) (act : A) (answer : Tried S A B) → LaneTries number other x y act loaded answer → IsSpentTry answer ↔ (loaded ≡ full_word)
+  pub spent_try : (number other loaded : ℕ) (x y : RoomSeen S (ActBeside A) B) (act : A) (answer : Tried S A B) → LaneTries number other x y act loaded answer → IsSpentTry answer ↔ (loaded ≡ full_word)
   spent_try number other loaded x y act (tried.Done answer) t = let few = t.1.few in ((λ e. absurd e), (λ e. absurd (omega arith)))
   spent_try number other loaded x y act (tried.Spent back) t = ((λ _. t.2.is_full), (λ _. tt))
   spent_try number other loaded x y act (tried.Busy word back) t = let few = t.1.few in ((λ e. absurd e), (λ e. absurd (omega arith)))
 
-  pub spent_turn : (number other loaded : ℕ) (x y : Seen S (Asked A) B) (act : A) (answer : Turned S A B) → LaneTurns number other x y act loaded answer → IsSpentTurn answer ↔ (loaded ≡ full_word)
+  pub spent_turn : (number other loaded : ℕ) (x y : RoomSeen S (ActBeside A) B) (act : A) (answer : Turned S A B) → LaneTurns number other x y act loaded answer → IsSpentTurn answer ↔ (loaded ≡ full_word)
   spent_turn number other loaded x y act (turned.Done answer) t = let few = t.few in ((λ e. absurd e), (λ e. absurd (omega arith)))
   spent_turn number other loaded x y act (turned.Spent back) t = ((λ _. t.1.is_full), (λ _. tt))

@@ -4,10 +4,10 @@ use Rattle.std.specs.Prelude.{Contains}
 use Rattle.std.proofs.lemmas.List.Elements.{Contains-append_left, Contains-append_right, Contains-append_cases}
 use Rattle.std.proofs.lemmas.Bool.Decides.{nat_tests}
 use mathlib.Core.List.{IsPrefix}
-use Rattle.turn_rooms.specs.declared.room.Entry.{Entry}
-use Rattle.turn_rooms.specs.declared.beside.Asked.{Asked}
-use Rattle.turn_rooms.specs.declared.view.Seen.{Seen}
-use Rattle.turn_rooms.specs.declared.view.Standing.{Standing}
+use Rattle.turn_rooms.specs.declared.room.RoomEntry.{RoomEntry}
+use Rattle.turn_rooms.specs.declared.beside.ActBeside.{ActBeside}
+use Rattle.turn_rooms.specs.declared.view.RoomSeen.{RoomSeen}
+use Rattle.turn_rooms.specs.declared.view.SeatNumbers.{SeatNumbers}
 use Rattle.turn_rooms.specs.declared.twin_view.TwinView.{TwinView}
 use Rattle.turn_rooms.specs.declared.twins.Twin.{Twin}
 use Rattle.turn_rooms.specs.declared.twins.TwinPass.{TwinPass}
@@ -24,20 +24,20 @@ use Rattle.turn_rooms.proofs.Lists.{no_element, has_first, cons_cases}
 
 module _ {S A B : Type 0} (steps : S → ℕ → ℕ → A → B → S → Type 0) (b : S) where
   -- what was seen at a join and the load after it
-  join_sees : (n m : Standing) (x y z : Seen S A B) (h : List (Entry S A B)) → LaneRests steps b x → z ≡ learned (both_seen x y) h → IsPrefix x.known h → IsPrefix y.known h
+  join_sees : (n m : SeatNumbers) (x y z : RoomSeen S A B) (h : List (RoomEntry S A B)) → LaneRests steps b x → z ≡ learned (both_seen x y) h → IsPrefix x.known h → IsPrefix y.known h
       → ((q : ℕ) → Contains n.stands q → by q h ≡ by q x.known) → ((q : ℕ) → Contains m.stands q → by q h ≡ by q y.known) → Legal steps b h → LaneSees n x z × LaneSees m y z × LaneRests steps b z
   join_sees n m x y z h is z_is left right mine theirs legal =
-      let known_is : z.known ≡ h = ap (λ (s : Seen S A B). s.known) z_is in (
-        record { goes_on = subst (λ (k : List (Entry S A B)). IsPrefix x.known k) (sym known_is) left; numbers = λ q c. ap (by q) known_is ∙ mine q c },
-        record { goes_on = subst (λ (k : List (Entry S A B)). IsPrefix y.known k) (sym known_is) right; numbers = λ q c. ap (by q) known_is ∙ theirs q c },
+      let known_is : z.known ≡ h = ap (λ (s : RoomSeen S A B). s.known) z_is in (
+        record { goes_on = subst (λ (k : List (RoomEntry S A B)). IsPrefix x.known k) (sym known_is) left; numbers = λ q c. ap (by q) known_is ∙ mine q c },
+        record { goes_on = subst (λ (k : List (RoomEntry S A B)). IsPrefix y.known k) (sym known_is) right; numbers = λ q c. ap (by q) known_is ∙ theirs q c },
         record {
-          began = record { begun = ap (λ (s : Seen S A B). s.begun) z_is ∙ is.began.begun; legal = subst (λ (k : List (Entry S A B)). Legal steps b k) (sym known_is) legal };
-          idle = ap (λ (s : Seen S A B). s.holding) z_is;
-          reads = ap (λ (s : Seen S A B). s.reads) z_is;
+          began = record { begun = ap (λ (s : RoomSeen S A B). s.begun) z_is ∙ is.began.begun; legal = subst (λ (k : List (RoomEntry S A B)). Legal steps b k) (sym known_is) legal };
+          idle = ap (λ (s : RoomSeen S A B). s.holding) z_is;
+          reads = ap (λ (s : RoomSeen S A B). s.reads) z_is;
         },
       )
 
-module _ {S T A B C D : Type 0} (steps : S → ℕ → ℕ → A → B → S → Type 0) (steps' : T → ℕ → ℕ → C → D → T → Type 0) (together : S → T → Type 0) (allows : List (Entry T (Asked C) D) → A → Type 0) (allows' : List (Entry S (Asked A) B) → C → Type 0) (r : Twin S T A B C D) where
+module _ {S T A B C D : Type 0} (steps : S → ℕ → ℕ → A → B → S → Type 0) (steps' : T → ℕ → ℕ → C → D → T → Type 0) (together : S → T → Type 0) (allows : List (RoomEntry T (ActBeside C) D) → A → Type 0) (allows' : List (RoomEntry S (ActBeside A) B) → C → Type 0) (r : Twin S T A B C D) where
   abbrev P : Type 0
   P = TwinPass S T A B C D
 
@@ -73,8 +73,8 @@ module _ {S T A B C D : Type 0} (steps : S → ℕ → ℕ → A → B → S →
     same_stands = y.same_stands ∙ x.same_stands;
     same_drained = y.same_drained ∙ same;
     gives = y.gives ∙ ap (λ (xs : List ℕ). note.number ∷ xs) x.same_gave;
-    note_knows_store = y.note_knows_store ∙ ap (λ (s : Seen S (Asked A) B). s.known) x.same_store;
-    note_knows_intake = y.note_knows_intake ∙ ap (λ (s : Seen T (Asked C) D). s.known) x.same_intake;
+    note_knows_store = y.note_knows_store ∙ ap (λ (s : RoomSeen S (ActBeside A) B). s.known) x.same_store;
+    note_knows_intake = y.note_knows_intake ∙ ap (λ (s : RoomSeen T (ActBeside C) D). s.known) x.same_intake;
     note_store_acts = y.note_store_acts;
     note_intake_acts = y.note_intake_acts;
     note_store_taken = y.note_store_taken;
@@ -89,7 +89,7 @@ module _ {S T A B C D : Type 0} (steps : S → ℕ → ℕ → A → B → S →
   }
 
   -- a pass at rest whose seat saw the same, and stands for the same numbers
-  pub rests_still : (old new : P) (n : Standing) → Is old → new.seat.me ≡ (with_standing old.seat.me.0 n, old.seat.me.1) → n.number ≡ (pass_standing old).number → n.stands ≡ (pass_standing old).stands → n.joins ≡ (pass_standing old).joins
+  pub rests_still : (old new : P) (n : SeatNumbers) → Is old → new.seat.me ≡ (with_standing old.seat.me.0 n, old.seat.me.1) → n.number ≡ (pass_standing old).number → n.stands ≡ (pass_standing old).stands → n.joins ≡ (pass_standing old).joins
       → new.seat.table_id ≡ old.seat.table_id → new.number ≡ old.number → Is new
   rests_still old new n is me_is same_number same_stands same_joins table number =
       let b = is.belongs in
@@ -99,13 +99,13 @@ module _ {S T A B C D : Type 0} (steps : S → ℕ → ℕ → A → B → S →
         belongs = record {
           halves = b.halves;
           table = table ∙ b.table;
-          number = ap (λ (z : Standing). z.number) stand ∙ (same_number ∙ (b.number ∙ sym number));
-          live = subst (λ (x : List ℕ × ℕ). Contains x.0 x.1) (λ i. (sym (ap (λ (z : Standing). z.stands) stand ∙ same_stands) i, sym number i)) b.live;
-          joins = ap (λ (z : Standing). z.joins) stand ∙ (same_joins ∙ b.joins);
+          number = ap (λ (z : SeatNumbers). z.number) stand ∙ (same_number ∙ (b.number ∙ sym number));
+          live = subst (λ (x : List ℕ × ℕ). Contains x.0 x.1) (λ i. (sym (ap (λ (z : SeatNumbers). z.stands) stand ∙ same_stands) i, sym number i)) b.live;
+          joins = ap (λ (z : SeatNumbers). z.joins) stand ∙ (same_joins ∙ b.joins);
         };
         hands = ap (λ (m : M). m.1) me_is ∙ is.hands;
-        store = subst (λ (x : Seen S (Asked A) B). LaneRests (knowing steps) (store_opened r) x) (sym (ap (λ (x : V). x.store) view_is)) is.store;
-        intake = subst (λ (x : Seen T (Asked C) D). LaneRests (knowing steps') (intake_opened r) x) (sym (ap (λ (x : V). x.intake) view_is)) is.intake;
+        store = subst (λ (x : RoomSeen S (ActBeside A) B). LaneRests (knowing steps) (store_opened r) x) (sym (ap (λ (x : V). x.store) view_is)) is.store;
+        intake = subst (λ (x : RoomSeen T (ActBeside C) D). LaneRests (knowing steps') (intake_opened r) x) (sym (ap (λ (x : V). x.intake) view_is)) is.intake;
       }
 
   pub counts_done : (old new : P) (word : ℕ) → Is old → new.seat.me ≡ (with_standing old.seat.me.0 (counted (pass_standing old) word), old.seat.me.1) → new.seat.table_id ≡ old.seat.table_id → new.number ≡ old.number
@@ -163,12 +163,12 @@ module _ {S T A B C D : Type 0} (steps : S → ℕ → ℕ → A → B → S →
           };
           hands = ap (λ (m : M). m.1) note_me;
           store = record {
-            began = record { begun = ap (λ (x : V). x.store.begun) note_view ∙ is.store.began.begun; legal = subst (λ (x : List (Entry S (Asked A) B)). Legal (knowing steps) (store_opened r) x) (sym note_store) is.store.began.legal };
+            began = record { begun = ap (λ (x : V). x.store.begun) note_view ∙ is.store.began.begun; legal = subst (λ (x : List (RoomEntry S (ActBeside A) B)). Legal (knowing steps) (store_opened r) x) (sym note_store) is.store.began.legal };
             idle = ap (λ (x : V). x.store.holding) note_view;
             reads = ap (λ (x : V). x.store.reads) note_view;
           };
           intake = record {
-            began = record { begun = ap (λ (x : V). x.intake.begun) note_view ∙ is.intake.began.begun; legal = subst (λ (x : List (Entry T (Asked C) D)). Legal (knowing steps') (intake_opened r) x) (sym note_intake) is.intake.began.legal };
+            began = record { begun = ap (λ (x : V). x.intake.begun) note_view ∙ is.intake.began.begun; legal = subst (λ (x : List (RoomEntry T (ActBeside C) D)). Legal (knowing steps') (intake_opened r) x) (sym note_intake) is.intake.began.legal };
             idle = ap (λ (x : V). x.intake.holding) note_view;
             reads = ap (λ (x : V). x.intake.reads) note_view;
           };
@@ -193,12 +193,12 @@ module _ {S T A B C D : Type 0} (steps : S → ℕ → ℕ → A → B → S →
       }
 
   -- after the join, the load of the store's word, and that of the intake's
-  pub meets_done : (old new note : P) (join load : M) (h : List (Entry S (Asked A) B)) (g : List (Entry T (Asked C) D)) → Is old → Is note → join ≡ (joined_twin old.seat.me.0 note.seat.me.0, old.seat.me.1)
+  pub meets_done : (old new note : P) (join load : M) (h : List (RoomEntry S (ActBeside A) B)) (g : List (RoomEntry T (ActBeside C) D)) → Is old → Is note → join ≡ (joined_twin old.seat.me.0 note.seat.me.0, old.seat.me.1)
       → Told (knowing steps) (view_of join.0.store join.0.standing) h → Whole (knowing steps) join.0.standing h → load ≡ (with_store join.0 (learned join.0.store h), join.1)
       → Told (knowing steps') (view_of load.0.intake load.0.standing) g → AreApart load.0.standing → Whole (knowing steps') load.0.standing g → new.seat.me ≡ (twin_view load.0.store (learned load.0.intake g) (settled load.0.standing), load.1)
       → (0 < load.0.standing.drained → StandsForMany most_numbers load.0.standing) → new.seat.table_id ≡ old.seat.table_id → new.number ≡ old.number → TwinMeets steps steps' together r old new note
   meets_done old new note join load h g is note_is join_is told_join whole_join load_is told_load apart_load whole_load new_is many_load table number =
-      let v : V = joined_twin old.seat.me.0 note.seat.me.0 in let n : Standing = v.standing in let b = is.belongs in
+      let v : V = joined_twin old.seat.me.0 note.seat.me.0 in let n : SeatNumbers = v.standing in let b = is.belongs in
       let told : Told (knowing steps) (view_of v.store n) h = subst (λ (m : M). Told (knowing steps) (view_of m.0.store m.0.standing) h) join_is told_join in
       let whole : Whole (knowing steps) n h = subst (λ (m : M). Whole (knowing steps) m.0.standing h) join_is whole_join in
       let load_is' : load ≡ (with_store v (learned v.store h), old.seat.me.1) = load_is ∙ ap (λ (m : M). (with_store m.0 (learned m.0.store h), m.1)) join_is in
@@ -261,18 +261,18 @@ module _ {S T A B C D : Type 0} (steps : S → ℕ → ℕ → A → B → S →
           belongs = record {
             halves = subst (λ (x : S × T). together x.0 x.1) (sym both) halves;
             table = table;
-            number = ap (λ (n : Standing). n.number) stand ∙ sym number;
-            live = subst (λ (x : List ℕ × ℕ). Contains x.0 x.1) (λ i. (sym (ap (λ (n : Standing). n.stands) stand) i, sym number i)) (has_first 0 []);
-            joins = ap (λ (n : Standing). n.joins) stand;
+            number = ap (λ (n : SeatNumbers). n.number) stand ∙ sym number;
+            live = subst (λ (x : List ℕ × ℕ). Contains x.0 x.1) (λ i. (sym (ap (λ (n : SeatNumbers). n.stands) stand) i, sym number i)) (has_first 0 []);
+            joins = ap (λ (n : SeatNumbers). n.joins) stand;
           };
           hands = ap (λ (m : M). m.1) me_is;
           store = record {
-            began = record { begun = ap (λ (x : V). x.store.begun) view_is ∙ ap (λ (x : S × T). Some x.0) (sym is_key); legal = subst (λ (h : List (Entry S (Asked A) B)). Legal (knowing steps) (store_opened r) h) (sym no_store) tt };
+            began = record { begun = ap (λ (x : V). x.store.begun) view_is ∙ ap (λ (x : S × T). Some x.0) (sym is_key); legal = subst (λ (h : List (RoomEntry S (ActBeside A) B)). Legal (knowing steps) (store_opened r) h) (sym no_store) tt };
             idle = ap (λ (x : V). x.store.holding) view_is;
             reads = ap (λ (x : V). x.store.reads) view_is;
           };
           intake = record {
-            began = record { begun = ap (λ (x : V). x.intake.begun) view_is ∙ ap (λ (x : S × T). Some x.1) (sym is_key); legal = subst (λ (g : List (Entry T (Asked C) D)). Legal (knowing steps') (intake_opened r) g) (sym no_intake) tt };
+            began = record { begun = ap (λ (x : V). x.intake.begun) view_is ∙ ap (λ (x : S × T). Some x.1) (sym is_key); legal = subst (λ (g : List (RoomEntry T (ActBeside C) D)). Legal (knowing steps') (intake_opened r) g) (sym no_intake) tt };
             idle = ap (λ (x : V). x.intake.holding) view_is;
             reads = ap (λ (x : V). x.intake.reads) view_is;
           };
@@ -317,15 +317,15 @@ module _ {S T A B C D : Type 0} (steps : S → ℕ → ℕ → A → B → S →
   -- the first pass is the last where it took back all that it gave out
   pub last_back : (store : S) (intake : T) (first last : P) → TwinOpens steps steps' together r store intake first → TwinTakesBack first last → IsLastTwin last
   last_back store intake first last opens back = record {
-    first = back.still 0 (subst (λ (n : Standing). Contains n.stands 0) (sym opens.standing) (has_first 0 []));
-    given = λ q c. ⊎_elim {C = Contains (pass_standing last).stands q} (λ t. absurd (no_element q (subst (λ (n : Standing). Contains n.gave q) opens.standing t))) (λ t. t) (back.given q c);
+    first = back.still 0 (subst (λ (n : SeatNumbers). Contains n.stands 0) (sym opens.standing) (has_first 0 []));
+    given = λ q c. ⊎_elim {C = Contains (pass_standing last).stands q} (λ t. absurd (no_element q (subst (λ (n : SeatNumbers). Contains n.gave q) opens.standing t))) (λ t. t) (back.given q c);
   }
 
 -- a pass that stands for what it stood for, as after turns
 pub same_back : {S T A B C D : Type 0} (old new : TwinPass S T A B C D) → pass_standing new ≡ pass_standing old → TwinTakesBack old new
 same_back old new same = record {
-  still = λ q c. subst (λ (n : Standing). Contains n.stands q) (sym same) c;
-  given = λ q c. inl (subst (λ (n : Standing). Contains n.gave q) same c);
+  still = λ q c. subst (λ (n : SeatNumbers). Contains n.stands q) (sym same) c;
+  given = λ q c. inl (subst (λ (n : SeatNumbers). Contains n.gave q) same c);
 }
 
 -- both slots were emptied

@@ -9,10 +9,10 @@ use lib.ListN.{get_elem?}
 use prog.Atomic.{either}
 use Rattle.atomic_table.specs.Table.{State, step, Act, keeps, Valid, carried_after, stepped, Allows, Splits, Joins, opening, Final, Seen as SeenAt}
 use Rattle.atomic_table.proofs.Lists.{at_map, set_again, set_else, exchanged}
-use Rattle.turn_rooms.specs.declared.room.Entry.{Entry}
-use Rattle.turn_rooms.specs.declared.beside.Asked.{Asked}
-use Rattle.turn_rooms.specs.declared.view.Seen.{Seen}
-use Rattle.turn_rooms.specs.declared.view.Standing.{Standing}
+use Rattle.turn_rooms.specs.declared.room.RoomEntry.{RoomEntry}
+use Rattle.turn_rooms.specs.declared.beside.ActBeside.{ActBeside}
+use Rattle.turn_rooms.specs.declared.view.RoomSeen.{RoomSeen}
+use Rattle.turn_rooms.specs.declared.view.SeatNumbers.{SeatNumbers}
 use Rattle.turn_rooms.specs.declared.twin_view.TwinView.{TwinView}
 use Rattle.turn_rooms.specs.Histories.{most_acts, most_numbers, by, end_of, Legal}
 use Rattle.turn_rooms.specs.Views.{entry_in, learned, counted, drew, settled}
@@ -28,7 +28,7 @@ use Rattle.turn_rooms.proofs.Numbering as numbering
 use Rattle.turn_rooms.proofs.Recording as recording
 use Rattle.turn_rooms.proofs.Laning as laning
 
-module _ {S A B T C D : Type 0} (steps : S → ℕ → ℕ → A → B → S → Type 0) (steps' : T → ℕ → ℕ → C → D → T → Type 0) (allows : List (Entry T (Asked C) D) → A → Type 0) (allows' : List (Entry S (Asked A) B) → C → Type 0) (begun : S) (begun' : T) where
+module _ {S A B T C D : Type 0} (steps : S → ℕ → ℕ → A → B → S → Type 0) (steps' : T → ℕ → ℕ → C → D → T → Type 0) (allows : List (RoomEntry T (ActBeside C) D) → A → Type 0) (allows' : List (RoomEntry S (ActBeside A) B) → C → Type 0) (begun : S) (begun' : T) where
   abbrev V : Type 0
   V = TwinView S A B T C D
 
@@ -39,16 +39,16 @@ module _ {S A B T C D : Type 0} (steps : S → ℕ → ℕ → A → B → S →
   St = State K V
 
   abbrev H : Type 0
-  H = List (Entry S (Asked A) B)
+  H = List (RoomEntry S (ActBeside A) B)
 
   abbrev G : Type 0
-  G = List (Entry T (Asked C) D)
+  G = List (RoomEntry T (ActBeside C) D)
 
   abbrev Sight : Type 0
-  Sight = Seen S (Asked A) B
+  Sight = RoomSeen S (ActBeside A) B
 
   abbrev Sight' : Type 0
-  Sight' = Seen T (Asked C) D
+  Sight' = RoomSeen T (ActBeside C) D
 
   abbrev Home : Type 0
   Home = maybe.Option K
@@ -82,21 +82,21 @@ module _ {S A B T C D : Type 0} (steps : S → ℕ → ℕ → A → B → S →
     intake_home = q;
     words = words;
     homes = homes;
-    numbers = subst (λ (xs : List Standing). Numbered d xs) (sym (map-set (λ (x : V). x.standing) vs id w)) numbers;
-    store = subst (λ (xs : List (Sight × Standing)). Recorded (knowing steps) begun h d a p xs) (sym (map-set (λ (x : V). (x.store, x.standing)) vs id w)) store;
-    intake = subst (λ (xs : List (Sight' × Standing)). Recorded (knowing steps') begun' g d b q xs) (sym (map-set (λ (x : V). (x.intake, x.standing)) vs id w)) intake;
+    numbers = subst (λ (xs : List SeatNumbers). Numbered d xs) (sym (map-set (λ (x : V). x.standing) vs id w)) numbers;
+    store = subst (λ (xs : List (Sight × SeatNumbers)). Recorded (knowing steps) begun h d a p xs) (sym (map-set (λ (x : V). (x.store, x.standing)) vs id w)) store;
+    intake = subst (λ (xs : List (Sight' × SeatNumbers)). Recorded (knowing steps') begun' g d b q xs) (sym (map-set (λ (x : V). (x.intake, x.standing)) vs id w)) intake;
     tied = tied;
   }
 
   same_numbers : (vs : List V) (id : ℕ) (v : V) (d : ℕ) → get_elem? vs id ≡ some v → Numbered d (twin_standings vs) → Numbered d (set (twin_standings vs) id v.standing)
-  same_numbers vs id v d at r = subst (λ (xs : List Standing). Numbered d xs) (sym (set_again (twin_standings vs) id v.standing (at_standing vs id v at))) r
+  same_numbers vs id v d at r = subst (λ (xs : List SeatNumbers). Numbered d xs) (sym (set_again (twin_standings vs) id v.standing (at_standing vs id v at))) r
 
   same_store : (h : H) (d a : ℕ) (p : maybe.Option (Option S)) (vs : List V) (id : ℕ) (v : V) → get_elem? vs id ≡ some v → Recorded (knowing steps) begun h d a p (store_sights vs) → Recorded (knowing steps) begun h d a p (set (store_sights vs) id (v.store, v.standing))
-  same_store h d a p vs id v at r = subst (λ (xs : List (Sight × Standing)). Recorded (knowing steps) begun h d a p xs) (sym (set_again (store_sights vs) id (v.store, v.standing) (at_store vs id v at))) r
+  same_store h d a p vs id v at r = subst (λ (xs : List (Sight × SeatNumbers)). Recorded (knowing steps) begun h d a p xs) (sym (set_again (store_sights vs) id (v.store, v.standing) (at_store vs id v at))) r
 
   same_intake : (g : G) (d b : ℕ) (q : maybe.Option (Option T)) (vs : List V) (id : ℕ) (v : V) → get_elem? vs id ≡ some v → Recorded (knowing steps') begun' g d b q (intake_sights vs)
       → Recorded (knowing steps') begun' g d b q (set (intake_sights vs) id (v.intake, v.standing))
-  same_intake g d b q vs id v at r = subst (λ (xs : List (Sight' × Standing)). Recorded (knowing steps') begun' g d b q xs) (sym (set_again (intake_sights vs) id (v.intake, v.standing) (at_intake vs id v at))) r
+  same_intake g d b q vs id v at r = subst (λ (xs : List (Sight' × SeatNumbers)). Recorded (knowing steps') begun' g d b q xs) (sym (set_again (intake_sights vs) id (v.intake, v.standing) (at_intake vs id v at))) r
 
   -- The two lanes
 
@@ -183,14 +183,14 @@ module _ {S A B T C D : Type 0} (steps : S → ℕ → ℕ → A → B → S →
       → Allows Rule n id me 1 (λ x. either (eqb x old) new x) (intake_takes steps steps' allows allows' (step n 1 old new none) me)
   intake_take_allows = laning.take_allows (knowing steps') begun' (λ (v : V). v.intake) (λ (v : V). v.standing) with_intake in_intake 1 1 Rule (BesideIntake steps steps' allows allows') (MayIntake steps steps' allows allows') intake_lane intake_knows intake_put
 
-  pub store_give_allows : (said : Option (A × B)) (n id : ℕ) (v : V) (b : S) (k : Option S) (e : Entry S (Asked A) B) (new : ℕ) → v.store.holding ≡ true → v.standing.joins ≡ [] → v.store.begun ≡ Some b
+  pub store_give_allows : (said : Option (A × B)) (n id : ℕ) (v : V) (b : S) (k : Option S) (e : RoomEntry S (ActBeside A) B) (new : ℕ) → v.store.holding ≡ true → v.standing.joins ≡ [] → v.store.begun ≡ Some b
       → Contains v.standing.stands v.standing.number → e.who ≡ v.standing.number → entry_in (saying (length v.intake.known) said) v.standing.number k ≡ e ∷ [] → k ≡ Some e.after
       → steps (end_of b v.store.known) v.standing.number (length v.store.known) e.act.act e.answer e.after → new ≡ 2 * length v.store.known + 2 → MayStore steps steps' allows allows' v e
       → Allows Rule n id (v, (0, (in_store k)) ∷ []) 0 (λ _. new) (λ _. store_gives steps steps' allows allows' said (step n 0 new 0 none) (v, (0, (in_store k)) ∷ []) new)
   store_give_allows said = laning.give_allows (knowing steps) begun (λ (v : V). v.store) (λ (v : V). v.standing) with_store in_store 0 0 Rule (BesideStore steps steps' allows allows') (MayStore steps steps' allows allows') store_lane store_knows store_put out_store
       (λ (v : V). saying (length v.intake.known) said)
 
-  pub intake_give_allows : (said : Option (C × D)) (n id : ℕ) (v : V) (b : T) (k : Option T) (e : Entry T (Asked C) D) (new : ℕ) → v.intake.holding ≡ true → v.standing.joins ≡ [] → v.intake.begun ≡ Some b
+  pub intake_give_allows : (said : Option (C × D)) (n id : ℕ) (v : V) (b : T) (k : Option T) (e : RoomEntry T (ActBeside C) D) (new : ℕ) → v.intake.holding ≡ true → v.standing.joins ≡ [] → v.intake.begun ≡ Some b
       → Contains v.standing.stands v.standing.number → e.who ≡ v.standing.number → entry_in (saying (length v.store.known) said) v.standing.number k ≡ e ∷ [] → k ≡ Some e.after
       → steps' (end_of b v.intake.known) v.standing.number (length v.intake.known) e.act.act e.answer e.after → new ≡ 2 * length v.intake.known + 2 → MayIntake steps steps' allows allows' v e
       → Allows Rule n id (v, (1, (in_intake k)) ∷ []) 1 (λ _. new) (λ _. intake_gives steps steps' allows allows' said (step n 1 new 0 none) (v, (1, (in_intake k)) ∷ []) new)
@@ -206,7 +206,7 @@ module _ {S A B T C D : Type 0} (steps : S → ℕ → ℕ → A → B → S →
   drawn_at s r = ap (λ (ws : List ℕ). slice_index ws 2) r.words
 
   -- the numbers' seat knows as much of a half as before
-  still : {X Y Z : Type 0} (first : X) (h : List (Entry X Y Z)) (holder : Option ℕ) (id : ℕ) (v : Seen X Y Z) (n m : Standing) → Follows first h holder id v n → m.stands ≡ n.stands → m.joins ≡ n.joins → m.number ≡ n.number → Follows first h holder id v m
+  still : {X Y Z : Type 0} (first : X) (h : List (RoomEntry X Y Z)) (holder : Option ℕ) (id : ℕ) (v : RoomSeen X Y Z) (n m : SeatNumbers) → Follows first h holder id v n → m.stands ≡ n.stands → m.joins ≡ n.joins → m.number ≡ n.number → Follows first h holder id v m
   still first h holder id v n m f stands joins number = record {
     begins = f.begins;
     known = f.known;
@@ -222,7 +222,7 @@ module _ {S A B T C D : Type 0} (steps : S → ℕ → ℕ → A → B → S →
 
   pub count_allows : (n id : ℕ) (me : Sat) → Allows Rule n id me 2 (λ x. x) (twin_counts steps steps' allows allows' (step n 2 0 0 none) me)
   count_allows n id me s r wide at low =
-      let v : V = me.0 in let d : ℕ = slice_index s.words 2 in let c : Standing = counted v.standing d in let w : V = with_standing v c in
+      let v : V = me.0 in let d : ℕ = slice_index s.words 2 in let c : SeatNumbers = counted v.standing d in let w : V = with_standing v c in
       let a = at_store s.views id v at in let b = at_intake s.views id v at in
       let h : H = r.store_history in let g : G = r.intake_history in (
         w,
@@ -283,7 +283,7 @@ module _ {S A B T C D : Type 0} (steps : S → ℕ → ℕ → A → B → S →
 
   -- The second load after a join. What the first saw of the store holds the other's part too
 
-  settled_follows : {X Y Z : Type 0} (first : X) (h : List (Entry X Y Z)) (holder : Option ℕ) (id : ℕ) (v : Seen X Y Z) (n : Standing) → Follows first h holder id v n → v.also ≡ v.known → Follows first h holder id v (settled n)
+  settled_follows : {X Y Z : Type 0} (first : X) (h : List (RoomEntry X Y Z)) (holder : Option ℕ) (id : ℕ) (v : RoomSeen X Y Z) (n : SeatNumbers) → Follows first h holder id v n → v.also ≡ v.known → Follows first h holder id v (settled n)
   settled_follows first h holder id v n f same = record {
     begins = f.begins;
     known = f.known;
@@ -296,7 +296,7 @@ module _ {S A B T C D : Type 0} (steps : S → ℕ → ℕ → A → B → S →
   pub settle_allows : (n id : ℕ) (me : Sat) → me.0.intake.holding ≡ false → me.0.store.also ≡ me.0.store.known → Allows Rule n id me 1 (λ x. x) (twin_settles steps steps' allows allows' (step n 1 0 0 none) me)
   settle_allows n id me idle whole s r wide at low =
       let v : V = me.0 in let h : H = r.store_history in let g : G = r.intake_history in
-      let m : Standing = settled v.standing in let y : Sight' = learned v.intake g in let w : V = twin_view v.store y m in
+      let m : SeatNumbers = settled v.standing in let y : Sight' = learned v.intake g in let w : V = twin_view v.store y m in
       let a = at_store s.views id v at in let b = at_intake s.views id v at in let at_number = at_standing s.views id v at in (
         w,
         keeps,
@@ -320,7 +320,7 @@ module _ {S A B T C D : Type 0} (steps : S → ℕ → ℕ → A → B → S →
 
   -- Splits and joins
 
-  pub split_allows : (id : ℕ) (x : Sight) (y : Sight') (n : Standing) (p : ℕ) → n.joins ≡ [] → Contains n.stands n.number → ((q : ℕ) → Contains n.stands q → q < p)
+  pub split_allows : (id : ℕ) (x : Sight) (y : Sight') (n : SeatNumbers) (p : ℕ) → n.joins ≡ [] → Contains n.stands n.number → ((q : ℕ) → Contains n.stands q → q < p)
       → Splits Rule id (twin_view x y (drew n p)) (left_twin (twin_view x y (drew n p))) (right_twin (twin_view x y (drew n p)))
   split_allows id x y n p empty live less_all s r at =
       let vs : List V = s.views in
@@ -338,12 +338,12 @@ module _ {S A B T C D : Type 0} (steps : S → ℕ → ℕ → A → B → S →
         intake_home = r.intake_home;
         words = r.words;
         homes = r.homes;
-        numbers = subst (λ (xs : List Standing). Numbered r.drawn xs)
-            (ap (λ (xs : List Standing). xs ++ b.standing ∷ []) (sym (map-set (λ (u : V). u.standing) vs id a)) ∙ sym (map-append (λ (u : V). u.standing) (set vs id a) (b ∷ []))) numbers;
-        store = subst (λ (xs : List (Sight × Standing)). Recorded (knowing steps) begun r.store_history r.drawn r.store_word r.store_home xs)
-            (ap (λ (xs : List (Sight × Standing)). xs ++ (b.store, b.standing) ∷ []) (sym (map-set (λ (u : V). (u.store, u.standing)) vs id a)) ∙ sym (map-append (λ (u : V). (u.store, u.standing)) (set vs id a) (b ∷ []))) store;
-        intake = subst (λ (xs : List (Sight' × Standing)). Recorded (knowing steps') begun' r.intake_history r.drawn r.intake_word r.intake_home xs)
-            (ap (λ (xs : List (Sight' × Standing)). xs ++ (b.intake, b.standing) ∷ []) (sym (map-set (λ (u : V). (u.intake, u.standing)) vs id a)) ∙ sym (map-append (λ (u : V). (u.intake, u.standing)) (set vs id a) (b ∷ []))) intake;
+        numbers = subst (λ (xs : List SeatNumbers). Numbered r.drawn xs)
+            (ap (λ (xs : List SeatNumbers). xs ++ b.standing ∷ []) (sym (map-set (λ (u : V). u.standing) vs id a)) ∙ sym (map-append (λ (u : V). u.standing) (set vs id a) (b ∷ []))) numbers;
+        store = subst (λ (xs : List (Sight × SeatNumbers)). Recorded (knowing steps) begun r.store_history r.drawn r.store_word r.store_home xs)
+            (ap (λ (xs : List (Sight × SeatNumbers)). xs ++ (b.store, b.standing) ∷ []) (sym (map-set (λ (u : V). (u.store, u.standing)) vs id a)) ∙ sym (map-append (λ (u : V). (u.store, u.standing)) (set vs id a) (b ∷ []))) store;
+        intake = subst (λ (xs : List (Sight' × SeatNumbers)). Recorded (knowing steps') begun' r.intake_history r.drawn r.intake_word r.intake_home xs)
+            (ap (λ (xs : List (Sight' × SeatNumbers)). xs ++ (b.intake, b.standing) ∷ []) (sym (map-set (λ (u : V). (u.intake, u.standing)) vs id a)) ∙ sym (map-append (λ (u : V). (u.intake, u.standing)) (set vs id a) (b ∷ []))) intake;
         tied = r.tied;
       }
 
@@ -355,9 +355,9 @@ module _ {S A B T C D : Type 0} (steps : S → ℕ → ℕ → A → B → S →
       let store = recording.joins (knowing steps) begun r.store_history r.drawn r.store_word r.store_home (store_sights vs) r.store id other v.store w.store v.standing w.standing apart (at_store vs id v at) (at_store vs other w at_other) idle in
       let intake = recording.joins (knowing steps') begun' r.intake_history r.drawn r.intake_word r.intake_home (intake_sights vs) r.intake id other v.intake w.intake v.standing w.standing apart (at_intake vs id v at) (at_intake vs other w at_other) idle' in
       twin_ruled r.store_history r.intake_history (set vs id x) other z s.words s.homes r.store_word r.intake_word r.drawn r.store_home r.intake_home r.words r.homes
-      (subst (λ (xs : List Standing). Numbered r.drawn (set xs other z.standing)) (sym (map-set (λ (u : V). u.standing) vs id x)) numbers)
-      (subst (λ (xs : List (Sight × Standing)). Recorded (knowing steps) begun r.store_history r.drawn r.store_word r.store_home (set xs other (z.store, z.standing))) (sym (map-set (λ (u : V). (u.store, u.standing)) vs id x)) store)
-      (subst (λ (xs : List (Sight' × Standing)). Recorded (knowing steps') begun' r.intake_history r.drawn r.intake_word r.intake_home (set xs other (z.intake, z.standing))) (sym (map-set (λ (u : V). (u.intake, u.standing)) vs id x)) intake)
+      (subst (λ (xs : List SeatNumbers). Numbered r.drawn (set xs other z.standing)) (sym (map-set (λ (u : V). u.standing) vs id x)) numbers)
+      (subst (λ (xs : List (Sight × SeatNumbers)). Recorded (knowing steps) begun r.store_history r.drawn r.store_word r.store_home (set xs other (z.store, z.standing))) (sym (map-set (λ (u : V). (u.store, u.standing)) vs id x)) store)
+      (subst (λ (xs : List (Sight' × SeatNumbers)). Recorded (knowing steps') begun' r.intake_history r.drawn r.intake_word r.intake_home (set xs other (z.intake, z.standing))) (sym (map-set (λ (u : V). (u.intake, u.standing)) vs id x)) intake)
       r.tied
 
   -- The rule at the start, and what it says at the end
@@ -388,7 +388,7 @@ module _ {S A B T C D : Type 0} (steps : S → ℕ → ℕ → A → B → S →
       let at_number = at_standing s.views id v at in
       let all : (q : ℕ) → q < r.drawn → Contains v.standing.stands q = λ q less. numbering.all_numbers r.drawn (twin_standings s.views) r.numbers id v.standing at_number empty first given (suc q) q (omega arith) less in
       let mine = (r.numbers.each id v.standing at_number).mine in
-      let alone : (seat : ℕ) (n : Standing) → seat ≢ id → get_elem? (twin_standings s.views) seat ≡ some n → ¬ (Contains n.stands n.number)
+      let alone : (seat : ℕ) (n : SeatNumbers) → seat ≢ id → get_elem? (twin_standings s.views) seat ≡ some n → ¬ (Contains n.stands n.number)
       = λ seat n ne f c. let o = (r.numbers.each seat n f).mine n.number (inl c) in ne (sym o.1 ∙ (mine n.number (inl (all n.number o.0))).1) in
       let store = recording.closes (knowing steps) begun r.store_history r.drawn r.store_word r.store_home (store_sights s.views) r.store id v.store v.standing (at_store s.views id v at) idle all
       (λ seat u ne f. alone seat u.1 ne (laning.standing_at (λ (y : V). y.store) (λ (y : V). y.standing) s.views seat u f)) in

@@ -3,8 +3,8 @@ use Rattle.std.proofs.Common.{◌≡◌, ℕ, ◌≤◌, List, [], ◌∷◌, �
 use mathlib.Core.List.{IsPrefix}
 use Rattle.closed_pairs.specs.Pairs.{none}
 use Rattle.closed_pairs.proofs.Interleaved.{joint_is_closed, closed_more, legal_more, each_none}
-use Rattle.turn_rooms.specs.declared.room.Entry.{Entry}
-use Rattle.turn_rooms.specs.declared.beside.Asked.{Asked}
+use Rattle.turn_rooms.specs.declared.room.RoomEntry.{RoomEntry}
+use Rattle.turn_rooms.specs.declared.beside.ActBeside.{ActBeside}
 use Rattle.turn_rooms.specs.Ties.{HalfHistory, knew, Allowed, Tied}
 use Rattle.turn_rooms.proofs.Lists.{prefix_length}
 
@@ -19,7 +19,7 @@ module _ {S A B T C D : Type 0} where
   tied_back a b h g t = record { closed = record { one = t.closed.other; other = t.closed.one }; first = t.second; second = t.first }
 
   -- a give: the entry has the length that its seat knew of the other history
-  pub give_tied : (allows : HalfHistory T C D → A → Type 0) (back : HalfHistory S A B → C → Type 0) (h : HalfHistory S A B) (g : HalfHistory T C D) (e : Entry S (Asked A) B) (known : HalfHistory T C D)
+  pub give_tied : (allows : HalfHistory T C D → A → Type 0) (back : HalfHistory S A B → C → Type 0) (h : HalfHistory S A B) (g : HalfHistory T C D) (e : RoomEntry S (ActBeside A) B) (known : HalfHistory T C D)
       → Tied allows back h g → IsPrefix known g → e.act.other ≡ length known → allows known e.act.act → Tied allows back (h ++ e ∷ []) g
   give_tied allows back h g e known t pre is may =
       let le : length known ≤ length g = prefix_length known g pre in
@@ -32,6 +32,6 @@ module _ {S A B T C D : Type 0} where
   pub first_tied : (allows : HalfHistory T C D → A → Type 0) (back : HalfHistory S A B → C → Type 0) → Tied {S = S} {A = A} {B = B} {T = T} {C = C} {D = D} allows back [] []
   first_tied allows back = record {
     closed = joint_is_closed (knew {S = S} {A = A} {B = B}) (knew {S = T} {A = C} {B = D}) none;
-    first = each_none (λ (front : HalfHistory S A B) (e : Entry S (Asked A) B). allows (take e.act.other []) e.act.act);
-    second = each_none (λ (front : HalfHistory T C D) (e : Entry T (Asked C) D). back (take e.act.other []) e.act.act);
+    first = each_none (λ (front : HalfHistory S A B) (e : RoomEntry S (ActBeside A) B). allows (take e.act.other []) e.act.act);
+    second = each_none (λ (front : HalfHistory T C D) (e : RoomEntry T (ActBeside C) D). back (take e.act.other []) e.act.act);
   }

@@ -5,9 +5,9 @@ use mathlib.Core.Option.{some, none}
 use mathlib.Core.Option as maybe
 use lib.ListN.{get_elem?}
 use Rattle.atomic_table.specs.Table.{State, Me, Step, rest}
-use Rattle.turn_rooms.specs.declared.room.Entry.{Entry}
-use Rattle.turn_rooms.specs.declared.view.Seen.{Seen}
-use Rattle.turn_rooms.specs.declared.view.Standing.{Standing}
+use Rattle.turn_rooms.specs.declared.room.RoomEntry.{RoomEntry}
+use Rattle.turn_rooms.specs.declared.view.RoomSeen.{RoomSeen}
+use Rattle.turn_rooms.specs.declared.view.SeatNumbers.{SeatNumbers}
 use Rattle.turn_rooms.specs.declared.view.View.{View}
 use Rattle.turn_rooms.specs.Views.{view_of, looked, learned, took, missed, entries_in, given}
 use Rattle.turn_rooms.specs.Numbers.{Numbered}
@@ -19,9 +19,9 @@ lifted wrap none = none
 lifted wrap (some k) = some (wrap k)
 
 -- What a table's rule says of its lane with the word i and the slot j
-pub record Lane {S A B K W : Type 0} (steps : S → ℕ → ℕ → A → B → S → Type 0) (begun : S) (sight : W → Seen S A B)
-    (standing : W → Standing) (wrap : Option S → K) (i j : ℕ) (s : State K W) : Type 0 where
-  pub history : List (Entry S A B)
+pub record Lane {S A B K W : Type 0} (steps : S → ℕ → ℕ → A → B → S → Type 0) (begun : S) (sight : W → RoomSeen S A B)
+    (standing : W → SeatNumbers) (wrap : Option S → K) (i j : ℕ) (s : State K W) : Type 0 where
+  pub history : List (RoomEntry S A B)
   pub drawn : ℕ
   pub word : ℕ
   pub home : maybe.Option (Option S)
@@ -31,34 +31,34 @@ pub record Lane {S A B K W : Type 0} (steps : S → ℕ → ℕ → A → B → 
   pub room : Recorded steps begun history drawn word home (map (λ w. (sight w, standing w)) s.views)
 
 -- the history stays, or gets an entry that the seat may add
-abbrev pub Grows : {S A B W : Type 0} → (W → Entry S A B → Type 0) → W → List (Entry S A B) → List (Entry S A B) → Type 0
-Grows {S} {A} {B} {W} May w h h' = (h' ≡ h) ⊎ ((e : Entry S A B) × (h' ≡ h ++ e ∷ []) × May w e)
+abbrev pub Grows : {S A B W : Type 0} → (W → RoomEntry S A B → Type 0) → W → List (RoomEntry S A B) → List (RoomEntry S A B) → Type 0
+Grows {S} {A} {B} {W} May w h h' = (h' ≡ h) ⊎ ((e : RoomEntry S A B) × (h' ≡ h ++ e ∷ []) × May w e)
 
-abbrev pub lane_view : {S A B W : Type 0} → (W → Seen S A B) → (W → Standing) → W → View S A B
+abbrev pub lane_view : {S A B W : Type 0} → (W → RoomSeen S A B) → (W → SeatNumbers) → W → View S A B
 lane_view sight standing w = view_of (sight w) (standing w)
 
 -- What the steps tell
-module _ {S A B K W : Type 0} (steps : S → ℕ → ℕ → A → B → S → Type 0) (sight : W → Seen S A B) (standing : W → Standing)
-    (with_sight : W → Seen S A B → W) where
+module _ {S A B K W : Type 0} (steps : S → ℕ → ℕ → A → B → S → Type 0) (sight : W → RoomSeen S A B) (standing : W → SeatNumbers)
+    (with_sight : W → RoomSeen S A B → W) where
   abbrev pub lane_looks : Step K → Me K W → ℕ → Me K W → Type 0
   lane_looks st m found m' =
-      (h : List (Entry S A B)) × Told steps (lane_view sight standing m.0) h × Finds found h
+      (h : List (RoomEntry S A B)) × Told steps (lane_view sight standing m.0) h × Finds found h
       × (m' ≡ (with_sight m.0 (looked (sight m.0) h found), m.1))
 
   abbrev pub lane_learns : Step K → Me K W → ℕ → Me K W → Type 0
   lane_learns st m found m' =
-      (h : List (Entry S A B)) × Told steps (lane_view sight standing m.0) h × Whole steps (standing m.0) h
+      (h : List (RoomEntry S A B)) × Told steps (lane_view sight standing m.0) h × Whole steps (standing m.0) h
       × (m' ≡ (with_sight m.0 (learned (sight m.0) h), m.1))
 
   -- Knows is what the seat learns of the rest of the table, where it takes the slot
-  abbrev pub lane_takes : (Option S → K) → ℕ → (W → List (Entry S A B) → Type 0) → Step K → Me K W → ℕ → Me K W → Type 0
+  abbrev pub lane_takes : (Option S → K) → ℕ → (W → List (RoomEntry S A B) → Type 0) → Step K → Me K W → ℕ → Me K W → Type 0
   lane_takes wrap j Knows st m found m' =
-      (h : List (Entry S A B)) × Told steps (lane_view sight standing m.0) h
+      (h : List (RoomEntry S A B)) × Told steps (lane_view sight standing m.0) h
       × (found ≡ st.first → (found ≡ 2 * length h) × (m' ≡ (with_sight m.0 (took (sight m.0) h), (j, wrap (left_by (sight m.0).begun h)) ∷ m.1)) × Knows m.0 h)
       × (found ≢ st.first → Finds found h × (m' ≡ (with_sight m.0 (missed (sight m.0) h found), m.1)))
 
   -- the entries that a store adds with what the seat carries
-  abbrev pub lane_entries : (K → Option S) → (W → Option (A × B)) → Me K W → List (Entry S A B)
+  abbrev pub lane_entries : (K → Option S) → (W → Option (A × B)) → Me K W → List (RoomEntry S A B)
   lane_entries unwrap said m = entries_in (said m.0) (standing m.0).number (map (λ (x : ℕ × K). (x.0, unwrap x.1)) m.1)
 
   abbrev pub lane_gives : (K → Option S) → (W → Option (A × B)) → Step K → Me K W → ℕ → Me K W → Type 0

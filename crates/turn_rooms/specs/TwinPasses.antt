@@ -1,8 +1,8 @@
 -- What clauses say of twins and their passes.
 use Rattle.std.specs.Prelude.{◌≡◌, ◌≢◌, ℕ, ◌+◌, ◌<◌, ◌≤◌, [], ◌∷◌, ◌++◌, length, Contains, ◌⊎◌}
-use Rattle.turn_rooms.specs.declared.beside.Asked.{Asked}
-use Rattle.turn_rooms.specs.declared.view.Seen.{Seen}
-use Rattle.turn_rooms.specs.declared.view.Standing.{Standing}
+use Rattle.turn_rooms.specs.declared.beside.ActBeside.{ActBeside}
+use Rattle.turn_rooms.specs.declared.view.RoomSeen.{RoomSeen}
+use Rattle.turn_rooms.specs.declared.view.SeatNumbers.{SeatNumbers}
 use Rattle.turn_rooms.specs.declared.twins.Twin.{Twin}
 use Rattle.turn_rooms.specs.declared.twins.TwinPass.{TwinPass}
 use Rattle.turn_rooms.specs.Histories.{most_numbers, by}
@@ -19,13 +19,13 @@ module _ {S T A B C D : Type 0} where
   intake_opened r = r.table.shared.key.value.1
 
   -- what the pass saw of either half
-  abbrev pub store_seen : TwinPass S T A B C D → Seen S (Asked A) B
+  abbrev pub store_seen : TwinPass S T A B C D → RoomSeen S (ActBeside A) B
   store_seen p = p.seat.me.0.store
 
-  abbrev pub intake_seen : TwinPass S T A B C D → Seen T (Asked C) D
+  abbrev pub intake_seen : TwinPass S T A B C D → RoomSeen T (ActBeside C) D
   intake_seen p = p.seat.me.0.intake
 
-  abbrev pub pass_standing : TwinPass S T A B C D → Standing
+  abbrev pub pass_standing : TwinPass S T A B C D → SeatNumbers
   pass_standing p = p.seat.me.0.standing
 
   -- the histories that it knows

@@ -3,10 +3,10 @@ use Rattle.std.specs.Prelude.{◌≡◌, ◌≢◌, ℕ, ◌<◌, List, [], ◌�
 use mathlib.Core.Option as maybe
 use mathlib.Core.List.{IsPrefix}
 use Rattle.atomic_table.specs.Table.{State, Me, Step}
-use Rattle.turn_rooms.specs.declared.room.Entry.{Entry}
-use Rattle.turn_rooms.specs.declared.beside.Asked.{Asked}
-use Rattle.turn_rooms.specs.declared.view.Seen.{Seen}
-use Rattle.turn_rooms.specs.declared.view.Standing.{Standing}
+use Rattle.turn_rooms.specs.declared.room.RoomEntry.{RoomEntry}
+use Rattle.turn_rooms.specs.declared.beside.ActBeside.{ActBeside}
+use Rattle.turn_rooms.specs.declared.view.RoomSeen.{RoomSeen}
+use Rattle.turn_rooms.specs.declared.view.SeatNumbers.{SeatNumbers}
 use Rattle.turn_rooms.specs.declared.twin_view.TwinView.{TwinView}
 use Rattle.turn_rooms.specs.Histories.{most_numbers, by, Legal}
 use Rattle.turn_rooms.specs.Views.{learned, counted, drew, settled}
@@ -17,13 +17,13 @@ use Rattle.turn_rooms.specs.Ties.{knowing, HalfHistory, Tied}
 use Rattle.turn_rooms.specs.TwinViews.{in_store, in_intake, out_store, out_intake, saying, twin_view, with_store, with_intake, with_standing}
 
 module _ {S A B T C D : Type 0} where
-  abbrev pub twin_standings : List (TwinView S A B T C D) → List Standing
+  abbrev pub twin_standings : List (TwinView S A B T C D) → List SeatNumbers
   twin_standings vs = map (λ v. v.standing) vs
 
-  abbrev pub store_sights : List (TwinView S A B T C D) → List (Seen S (Asked A) B × Standing)
+  abbrev pub store_sights : List (TwinView S A B T C D) → List (RoomSeen S (ActBeside A) B × SeatNumbers)
   store_sights vs = map (λ v. (v.store, v.standing)) vs
 
-  abbrev pub intake_sights : List (TwinView S A B T C D) → List (Seen T (Asked C) D × Standing)
+  abbrev pub intake_sights : List (TwinView S A B T C D) → List (RoomSeen T (ActBeside C) D × SeatNumbers)
   intake_sights vs = map (λ v. (v.intake, v.standing)) vs
 
 -- Words 0 and 1 and the two slots are the halves', word 2 counts the numbers, and the two histories are tied
@@ -61,10 +61,10 @@ module _ {S A B T C D : Type 0} (steps : S → ℕ → ℕ → A → B → S →
   BesideIntake v g = (h : HalfHistory S A B) × IfSome v.store.begun (λ z. Legal (knowing steps) z h) × Tied allows allows' h g × IsPrefix v.store.known h
 
   -- what an entry needs: it names what its seat knows of the other half, and that allows it
-  abbrev pub MayStore : TwinView S A B T C D → Entry S (Asked A) B → Type 0
+  abbrev pub MayStore : TwinView S A B T C D → RoomEntry S (ActBeside A) B → Type 0
   MayStore v e = (e.act.other ≡ length v.intake.known) × allows v.intake.known e.act.act
 
-  abbrev pub MayIntake : TwinView S A B T C D → Entry T (Asked C) D → Type 0
+  abbrev pub MayIntake : TwinView S A B T C D → RoomEntry T (ActBeside C) D → Type 0
   MayIntake v e = (e.act.other ≡ length v.store.known) × allows' v.store.known e.act.act
 
   abbrev pub store_looks : TwinStep → TwinSeated → ℕ → TwinSeated → Type 0

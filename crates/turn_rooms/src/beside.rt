@@ -7,7 +7,7 @@ ghost use Rattle.turn_rooms.specs.Ties.{HalfHistory, Tied, knowing};
 use crate::room::Room;
 
 /// An act beside the length of the other half's history that its pass knew. No value of it is made.
-pub struct Asked<A> {
+pub struct ActBeside<A> {
     pub other: u64,
     pub act: A,
 }

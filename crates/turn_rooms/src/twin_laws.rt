@@ -1,6 +1,6 @@
 //! What follows from what calls on twins promise, for all passes.
 ghost use Rattle.std.specs.Prelude.{◌≡◌, ◌↔◌, ℕ};
-ghost use Rattle.turn_rooms.specs.declared.view.Seen.{Seen};
+ghost use Rattle.turn_rooms.specs.declared.view.RoomSeen.{RoomSeen};
 ghost use Rattle.turn_rooms.specs.Views.{full_word};
 ghost use Rattle.turn_rooms.specs.Passes.{IsSpentTry, IsSpentTurn};
 ghost use Rattle.turn_rooms.specs.LaneTurns.{LaneTries, LaneTurns};
@@ -8,18 +8,18 @@ ghost use Rattle.turn_rooms.specs.TwinPasses.{IsTwinPassOf, StoreGoes, IntakeGoe
 ghost use Rattle.turn_rooms.specs.TwinPasses.{TwinTakesBack};
 ghost use Rattle.turn_rooms.specs.TwinPasses.{TwinKnowsAllOf, IsLastTwin, pass_standing};
 
-use crate::beside::{Asked, Beside};
+use crate::beside::{ActBeside, Beside};
 use crate::room::Room;
 use crate::rooms::{Tried, Turned};
 use crate::twins::{Twin, TwinPass};
 
 /// A turn on a half is spent exactly where its last load read the word of a half that has had all its acts.
 pub fn a_half_is_spent_exactly_after_all_its_acts<R: Room>()
-    ensures tries { (number other loaded : ℕ) (old new : Seen R (Asked R.Act) R.Answer) (act : R.Act)
+    ensures tries { (number other loaded : ℕ) (old new : RoomSeen R (ActBeside R.Act) R.Answer) (act : R.Act)
         (answer : Tried R R.Act R.Answer)
         → LaneTries number other old new act loaded answer
         → IsSpentTry answer ↔ (loaded ≡ full_word) }
-    ensures turns { (number other loaded : ℕ) (old new : Seen R (Asked R.Act) R.Answer) (act : R.Act)
+    ensures turns { (number other loaded : ℕ) (old new : RoomSeen R (ActBeside R.Act) R.Answer) (act : R.Act)
         (answer : Turned R R.Act R.Answer)
         → LaneTurns number other old new act loaded answer
         → IsSpentTurn answer ↔ (loaded ≡ full_word) }

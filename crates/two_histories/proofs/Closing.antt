@@ -5,7 +5,7 @@ use Rattle.std.proofs.lemmas.Option.{same_Some}
 use Rattle.series_model.specs.declared.sample.Sample.{Sample}
 use Rattle.pb_messages.specs.declared.about.State.TheVariants.{Retired}
 use Rattle.act_model.specs.Changes.{changed, changed_rows, published, retired, without_held, Settles, no_doubt, as_not_made, as_made}
-use Rattle.act_model.specs.Limbo.{FileState, files_of}
+use Rattle.act_model.specs.Limbo.{RowFile, files_of}
 use Rattle.act_model.specs.Machine.{Machine, Change, AddsRow, SetsState, Renames, Appends, Publishes, Unlists}
 use Rattle.act_model.specs.Rows.{RowState, Store, Short, Medium, Long, next_store, with_tier}
 use Rattle.act_model.proofs.ChangeLaws.{at_row}
@@ -31,7 +31,7 @@ tier_base row Short xs = refl
 tier_base row Medium xs = refl
 tier_base row Long xs = refl
 
-published_base : (told : Bool) (limbo : List FileState) (store : Store) (xs : List Sample) (row : RowState) → (published told limbo store xs row).base ≡ row.base
+published_base : (told : Bool) (limbo : List RowFile) (store : Store) (xs : List Sample) (row : RowState) → (published told limbo store xs row).base ≡ row.base
 published_base true limbo store xs row = tier_base row store _
 published_base false limbo store xs row = refl
 
@@ -39,7 +39,7 @@ retired_base : (told : Bool) (store : Store) (to : ℕ) (row : RowState) → (re
 retired_base true store to row = tier_base row store _
 retired_base false store to row = refl
 
-changed_base : (told : Bool) (limbo : List FileState) (change : Change) (i : ℕ) (row : RowState) → (changed told limbo change i row).base ≡ row.base
+changed_base : (told : Bool) (limbo : List RowFile) (change : Change) (i : ℕ) (row : RowState) → (changed told limbo change i row).base ≡ row.base
 changed_base told limbo (AddsRow name about) i row = refl
 changed_base told limbo (SetsState k state) i row = at_row k i (without_held state) row (λ r. r.base ≡ row.base) refl (λ is. refl)
 changed_base told limbo (Renames k name) i row = at_row k i (without_held Retired) row (λ r. r.base ≡ row.base) refl (λ is. refl)
@@ -55,7 +55,7 @@ pub record MakesBase (change : Change) (rows : List RowState) (i : ℕ) : Type 0
   pub is : change ≡ Renames i name
 
 -- a base was one, or the change has made it one
-pub made_base : (told : Bool) (limbo : List FileState) (change : Change) (rows : List RowState) (i : ℕ) → IsBase (changed_rows told limbo change rows) i → IsBase rows i ⊎ MakesBase change rows i
+pub made_base : (told : Bool) (limbo : List RowFile) (change : Change) (rows : List RowState) (i : ℕ) → IsBase (changed_rows told limbo change rows) i → IsBase rows i ⊎ MakesBase change rows i
 made_base told limbo change rows i b = by_came (came told limbo change rows b.at b.row b.here)
   where
     by_fresh : IsFresh change rows b.row → IsBase rows i ⊎ MakesBase change rows i
@@ -67,7 +67,7 @@ made_base told limbo change rows i b = by_came (came told limbo change rows b.at
     by_came (from_row row here is) = inl (record { at = b.at; row = row; here = here; base = sym (changed_base told limbo change b.at row) ∙ (ap (λ (r : RowState). r.base) (sym is) ∙ b.base) })
     by_came (is_new j past there) = by_fresh (added_fresh change rows j b.row there).0
 
-pub made_bases : (told : Bool) (limbo : List FileState) (change : Change) (rows : List RowState) → RenamesNone change → (i : ℕ) → IsBase (changed_rows told limbo change rows) i → IsBase rows i
+pub made_bases : (told : Bool) (limbo : List RowFile) (change : Change) (rows : List RowState) → RenamesNone change → (i : ℕ) → IsBase (changed_rows told limbo change rows) i → IsBase rows i
 made_bases told limbo change rows none i b = by_kind (made_base told limbo change rows i b)
   where
     by_kind : IsBase rows i ⊎ MakesBase change rows i → IsBase rows i

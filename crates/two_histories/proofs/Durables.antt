@@ -4,7 +4,7 @@ use Rattle.std.specs.Prelude.{slice_get, ◌⊎◌}
 use Rattle.series_model.specs.declared.sample.Sample.{Sample}
 use Rattle.series_model.specs.Series.{over, since, end_of, RisesFrom}
 use Rattle.act_model.specs.Changes.{changed, changed_rows, added, each, made, of_row}
-use Rattle.act_model.specs.Limbo.{FileState}
+use Rattle.act_model.specs.Limbo.{RowFile}
 use Rattle.act_model.specs.Machine.{Machine, Change, AddsRow, SetsState, Renames, Appends, Publishes, Unlists}
 use Rattle.act_model.specs.Rows.{RowState, durable, accepted}
 use Rattle.act_model.specs.Sound.{MayMake, RowSound, IsSound}
@@ -46,7 +46,7 @@ in_left_rows n olds j (row ∷ rows) (suc i) = in_left_rows n olds (j + 1) rows 
 pub durable_is : (rows : List RowState) (i : ℕ) (row : RowState) → slice_get rows i ≡ Some row → durable_in rows i ≡ durable row
 durable_is rows i row here = rw here refl
 
-by_tail : (told : Bool) (limbo : List FileState) (change : Change) (i : ℕ) (row : RowState) → row.tail ≡ [] → RowGoes told row (changed told limbo change i row) → (changed told limbo change i row).tail ≡ []
+by_tail : (told : Bool) (limbo : List RowFile) (change : Change) (i : ℕ) (row : RowState) → row.tail ≡ [] → RowGoes told row (changed told limbo change i row) → (changed told limbo change i row).tail ≡ []
 by_tail told limbo change i row none g = by_kind g.tail
   where
     by_kind : ((changed told limbo change i row).tail ≡ row.tail) ⊎ ((n : ℕ) × ((changed told limbo change i row).tail ≡ since n row.tail)) → (changed told limbo change i row).tail ≡ []
@@ -54,7 +54,7 @@ by_tail told limbo change i row none g = by_kind g.tail
     by_kind (inr less) = less.1 ∙ ap (λ w. since less.0 w) none
 
 -- nothing is left of a tail that a change appends whole
-emptied : (told : Bool) (limbo : List FileState) (change : Change) (i : ℕ) (row : RowState) → RowSound told row → row.tail ≡ appended change i → RowGoes told row (changed told limbo change i row) → (changed told limbo change i row).tail ≡ []
+emptied : (told : Bool) (limbo : List RowFile) (change : Change) (i : ℕ) (row : RowState) → RowSound told row → row.tail ≡ appended change i → RowGoes told row (changed told limbo change i row) → (changed told limbo change i row).tail ≡ []
 emptied told limbo (Appends batch) i row s is g =
     let xs = of_row i batch in
     let whole : row.tail ≡ xs ++ [] = is ∙ sym (append-nil xs) in
@@ -67,7 +67,7 @@ emptied told limbo (Publishes k store copied) i row s is g = by_tail told limbo 
 emptied told limbo (Unlists k store to) i row s is g = by_tail told limbo (Unlists k store to) i row is g
 
 -- once a change is made, a row whose tail is just what the change appends has all of it durable
-pub made_durable : (m : Machine) (into : List FileState) (change : Change) → IsSound m → m.told ≡ true → MayMake m.rule m.told m.rows m.limbo change
+pub made_durable : (m : Machine) (into : List RowFile) (change : Change) → IsSound m → m.told ≡ true → MayMake m.rule m.told m.rows m.limbo change
     → (i : ℕ) (row : RowState) → slice_get m.rows i ≡ Some row → row.tail ≡ appended change i → durable_in (made into change m).rows i ≡ over (durable row) (appended change i)
 made_durable m into change s t may i row here tail =
     let new = changed m.told m.limbo change i row in

@@ -15,7 +15,7 @@ use Rattle.act_model.specs.MoveStep.{GoesOn, copies, has_copied, publishes, reti
 use Rattle.act_model.specs.OpenPiece.{Opens, refused_open, no_piece, opens, faults_opening, wants_memory_opening}
 use Rattle.act_model.specs.Outcome.{Acts, all_go}
 use Rattle.act_model.specs.Pause.{state_refused, Sets, sets_of, not_running}
-use Rattle.act_model.specs.Pin.{Pins, pins}
+use Rattle.act_model.specs.Pin.{MakesPin, pins}
 use Rattle.act_model.specs.Register.{register_refused, Registers}
 use Rattle.act_model.specs.Reply.{Reply}
 use Rattle.act_model.specs.Resume.{not_paused}
@@ -167,12 +167,12 @@ does_went who DoorDone old new reply is s t tails step = absurd is
 
 -- PARTS OVER A TAIL
 
-pinned_doubt : {who : ℕ} {name : List ℕ} {query : Query} {mid end : Machine} {reply : Reply} → Pins who name query mid reply end → end.doubt ≡ mid.doubt
+pinned_doubt : {who : ℕ} {name : List ℕ} {query : Query} {mid end : Machine} {reply : Reply} → MakesPin who name query mid reply end → end.doubt ≡ mid.doubt
 pinned_doubt (pins i row pin pieces a b c d e order f few same) = ap (λ (m : Machine). m.doubt) same
 
-pub pins_went : (who : ℕ) (query : Query) (look : RowLook) (old new : Machine) (reply : Reply) → IsSound old → old.told ≡ true → HasDoubtedTails old → Acts (details_refused look.name) (OverTail look (Pins who look.name query)) (λ m. None) all_go old reply new → Rests old new
+pub pins_went : (who : ℕ) (query : Query) (look : RowLook) (old new : Machine) (reply : Reply) → IsSound old → old.told ≡ true → HasDoubtedTails old → Acts (details_refused look.name) (OverTail look (MakesPin who look.name query)) (λ m. None) all_go old reply new → Rests old new
 pins_went who query look old new reply s t tails step =
-    none_closes (acts_went (details_refused look.name) (OverTail look (Pins who look.name query)) (λ m. None) all_go (λ m i. ⊥)
+    none_closes (acts_went (details_refused look.name) (OverTail look (MakesPin who look.name query)) (λ m. None) all_go (λ m i. ⊥)
     (λ mid answer new s t p. same_kept mid new (ap (λ (m : Machine). m.rows) p.2) (ap (λ (m : Machine). m.doubt) p.2 ∙ pinned_doubt p.1)) none_none s t tails step)
 
 pub describes_went : (look : RowLook) (old new : Machine) (reply : Reply) → IsSound old → old.told ≡ true → HasDoubtedTails old → Acts (details_refused look.name) (OverTail look (Describes look.name)) (λ m. None) all_go old reply new → Rests old new

@@ -15,7 +15,7 @@ use Rattle.act_model.specs.Step.{Step, MayAsk}
 use Rattle.two_histories.specs.Store.{Lists}
 use Rattle.two_histories.specs.ArchiveIntake.{IntakeRow, IntakeHalf, known_at, tail_at, as_row, machine_of, kept_row, kept_rows, intake_of, trimmed, with_rows, taken}
 use Rattle.two_histories.specs.IntakeStep.{IntakePart, Offers, Ticks, LooksForDoors, LooksForBatch, LooksAt, Takes, TakesFlush, IntakeAnswer, IsOfIntake, IntakeStep, offers, ticks, no_row, sees_doors, sees_batch, sees_row, takes, takes_flush}
-use Rattle.two_histories.specs.ArchiveStore.{Registered}
+use Rattle.two_histories.specs.ArchiveStore.{RegisteredRow}
 use Rattle.two_histories.specs.ArchiveHistories.{added}
 use Rattle.two_histories.proofs.Gaining.{same_row, one_more, Gains, Fits, gains_none, offered_gains, ticked_gains}
 use Rattle.two_histories.proofs.KnownRows.{Ascends, HasEvents, AreKept, are_kept, KeptAt, not_known, is_known, kept_at, kept_ascends, kept_lines, kept_bytes, held_fits, TrimmedAt, trims_none, trims_one, trimmed_at, trimmed_ascends, trimmed_lines, trimmed_bytes, was_known, is_told, TookAt, takes_none, takes_one, took, took_was}
@@ -35,11 +35,11 @@ pub data RowDid (n : ℕ) (accepted tail more left : List Sample) : Type 0 where
   did_trim : more ≡ accepted → left ≡ since n tail → RowDid n accepted tail more left
 
 -- where the name and the type of a row that is known come from
-pub data AboutFrom (regs : List Registered) (ks : List IntakeRow) (r : ℕ) (new : IntakeRow) : Type 0 where
+pub data AboutFrom (regs : List RegisteredRow) (ks : List IntakeRow) (r : ℕ) (new : IntakeRow) : Type 0 where
   about_was : (k : IntakeRow) → known_at ks r ≡ Some k → new.about ≡ k.about → new.name ≡ k.name → AboutFrom regs ks r new
-  about_told : (reg : Registered) (front back : List Registered) → regs ≡ front ++ reg ∷ back → reg.row ≡ r → new.about ≡ reg.about → new.name ≡ reg.name → AboutFrom regs ks r new
+  about_told : (reg : RegisteredRow) (front back : List RegisteredRow) → regs ≡ front ++ reg ∷ back → reg.row ≡ r → new.about ≡ reg.about → new.name ≡ reg.name → AboutFrom regs ks r new
 
-abbrev pub regs_of : IntakePart → List Registered
+abbrev pub regs_of : IntakePart → List RegisteredRow
 regs_of (Offers act) = []
 regs_of (Ticks row now) = []
 regs_of LooksForDoors = []
@@ -58,12 +58,12 @@ trims (Takes ends rows) r = ends r
 trims (TakesFlush len ends rows) r = ends r
 
 -- the state of a row, with its change number, was known or is told
-pub data StateFrom (regs : List Registered) (ks : List IntakeRow) (r changed : ℕ) (state : State) : Type 0 where
+pub data StateFrom (regs : List RegisteredRow) (ks : List IntakeRow) (r changed : ℕ) (state : State) : Type 0 where
   state_was : (k : IntakeRow) → known_at ks r ≡ Some k → k.changed ≡ changed → k.state ≡ state → StateFrom regs ks r changed state
-  state_told : (reg : Registered) (front back : List Registered) → regs ≡ front ++ reg ∷ back → reg.row ≡ r → reg.changed ≡ changed → reg.state ≡ state → StateFrom regs ks r changed state
+  state_told : (reg : RegisteredRow) (front back : List RegisteredRow) → regs ≡ front ++ reg ∷ back → reg.row ≡ r → reg.changed ≡ changed → reg.state ≡ state → StateFrom regs ks r changed state
 
 -- What a step did. No change of a row is forgotten, and a row that doesn't run gains nothing.
-pub record IntakeDid (regs : List Registered) (n : ℕ → ℕ) (old new : IntakeHalf) (accepted more : Lists) : Type 0 where
+pub record IntakeDid (regs : List RegisteredRow) (n : ℕ → ℕ) (old new : IntakeHalf) (accepted more : Lists) : Type 0 where
   pub sound : IntakeSound new more
   pub did : (r : ℕ) → RowDid (n r) (accepted r) (tail_at old.rows r) (more r) (tail_at new.rows r)
   pub abouts : (r : ℕ) (k : IntakeRow) → known_at new.rows r ≡ Some k → AboutFrom regs old.rows r k
@@ -205,7 +205,7 @@ nothing_did old accepted s =
 
 -- A TAKE
 
-module _ (old : IntakeHalf) (ends : ℕ → ℕ) (regs : List Registered) (accepted : Lists) (s : IntakeSound old accepted) where
+module _ (old : IntakeHalf) (ends : ℕ → ℕ) (regs : List RegisteredRow) (accepted : Lists) (s : IntakeSound old accepted) where
   abbrev cut : List IntakeRow
   cut = map (trimmed ends) old.rows
 

@@ -13,7 +13,7 @@ use Rattle.two_histories.proofs.Halves.{left_by_more, WasAccepted}
 use Rattle.two_histories.proofs.Lists.{IsTail, prefix_same, prefix_of, prefix_through, prefix_rises, prefix_end, tail_trimmed, tail_more}
 use Rattle.two_histories.specs.ArchiveIntake.{IntakeHalf, IntakeRow, known_at, tail_at}
 use Rattle.two_histories.specs.IntakeStep.{IntakePart, Offers, Ticks, LooksForDoors, LooksForBatch, LooksAt, Takes, TakesFlush, IntakeEntry}
-use Rattle.two_histories.specs.ArchiveStore.{StoreHalf, StoreRow, Registered, registered, durable_at, doubted}
+use Rattle.two_histories.specs.ArchiveStore.{StoreHalf, StoreRow, RegisteredRow, registered, durable_at, doubted}
 use Rattle.two_histories.specs.StoreStep.{StoreEntry}
 use Rattle.two_histories.specs.ArchiveHistories.{IntakeAllowed, Once, WasRegistered, IntakeFits, intake_knows, added, first_accepted}
 use Rattle.two_histories.proofs.IntakeLaws.{IntakeSound, RowDid, did_stay, did_gain, did_trim, AboutFrom, about_was, about_told, StateFrom, state_was, state_told, regs_of, trims, IntakeDid, intake_did}
@@ -66,34 +66,34 @@ module _ (s0 : StoreHalf) (i0 : IntakeHalf) where
       end_was s (has.front ++ has.entry ∷ []) i r (ends r) j (has.back ++ drop n s, cut ∙ sym (append_assoc has.front (has.entry ∷ []) (has.back ++ drop n s))) (told.0 r ∙ ap (λ (m : StoreHalf). end_of (durable_at m.rows r)) after)
 
   -- a row that a Take names is one of the store, and was so once
-  record ToldRow (s : List StoreEntry) (reg : Registered) : Type 0 where
+  record ToldRow (s : List StoreEntry) (reg : RegisteredRow) : Type 0 where
     row : StoreRow
     here : slice_get (left_by s0 s).rows reg.row ≡ Some row
     same : (row.about ≡ reg.about) × (row.name ≡ reg.name)
     was : WasAt s0 i0 s reg.row reg.changed reg.state
 
-  was_there : (s front : List StoreEntry) (i : List IntakeEntry) (reg : Registered) → IsJoined s0 i0 s i → IsPrefix front s → WasRegistered reg (left_by s0 front) → ToldRow s reg
+  was_there : (s front : List StoreEntry) (i : List IntakeEntry) (reg : RegisteredRow) → IsJoined s0 i0 s i → IsPrefix front s → WasRegistered reg (left_by s0 front) → ToldRow s reg
   was_there s front i reg j p was =
       let now = j.grown.rows front p reg.row was.0 was.1 in
       record {
         row = now.0;
         here = now.1;
-        same = (now.2.about ∙ ap (λ (x : Registered). x.about) was.2, now.2.name ∙ ap (λ (x : Registered). x.name) was.2);
-        was = record { front = front; before = p; row = was.0; here = was.1; number = ap (λ (x : Registered). x.changed) was.2; state_is = ap (λ (x : Registered). x.state) was.2 };
+        same = (now.2.about ∙ ap (λ (x : RegisteredRow). x.about) was.2, now.2.name ∙ ap (λ (x : RegisteredRow). x.name) was.2);
+        was = record { front = front; before = p; row = was.0; here = was.1; number = ap (λ (x : RegisteredRow). x.changed) was.2; state_is = ap (λ (x : RegisteredRow). x.state) was.2 };
       }
 
-  all_at : (P : Registered → Type 0) (front back : List Registered) (reg : Registered) (rows : List Registered) → rows ≡ front ++ reg ∷ back → AllByRecursion P rows → P reg
+  all_at : (P : RegisteredRow → Type 0) (front back : List RegisteredRow) (reg : RegisteredRow) (rows : List RegisteredRow) → rows ≡ front ++ reg ∷ back → AllByRecursion P rows → P reg
   all_at P front back reg rows is all = at_front front (subst (λ w. AllByRecursion P w) is all)
     where
-      at_front : (front : List Registered) → AllByRecursion P (front ++ reg ∷ back) → P reg
+      at_front : (front : List RegisteredRow) → AllByRecursion P (front ++ reg ∷ back) → P reg
       at_front [] all = all.0
       at_front (x ∷ front) all = at_front front all.1
 
-  none_there : (reg : Registered) (front back : List Registered) → [] ≡ front ++ reg ∷ back → ⊥
+  none_there : (reg : RegisteredRow) (front back : List RegisteredRow) → [] ≡ front ++ reg ∷ back → ⊥
   none_there reg [] back is = cc
   none_there reg (x ∷ front) back is = cc
 
-  told_of : (s : List StoreEntry) (i : List IntakeEntry) (n : ℕ) (part : IntakePart) → Legal s0 i0 s i → IsJoined s0 i0 s i → IntakeAllowed s0 part (take n s) → (reg : Registered) (front back : List Registered) → regs_of part ≡ front ++ reg ∷ back → ToldRow s reg
+  told_of : (s : List StoreEntry) (i : List IntakeEntry) (n : ℕ) (part : IntakePart) → Legal s0 i0 s i → IsJoined s0 i0 s i → IntakeAllowed s0 part (take n s) → (reg : RegisteredRow) (front back : List RegisteredRow) → regs_of part ≡ front ++ reg ∷ back → ToldRow s reg
   told_of s i n (Offers act) l j allowed reg front back is = absurd (none_there reg front back is)
   told_of s i n (Ticks row now) l j allowed reg front back is = absurd (none_there reg front back is)
   told_of s i n LooksForDoors l j allowed reg front back is = absurd (none_there reg front back is)
@@ -110,10 +110,10 @@ module _ (s0 : StoreHalf) (i0 : IntakeHalf) where
       let row = told_row told.1.0 0 has.entry.after.rows front back reg (sym told.1.1 ∙ is) in
       let plain : 0 + row.0 ≡ row.0 = omega arith in
       let own : registered row.0 row.1 ≡ reg = ap (λ k. registered k row.1) (sym plain) ∙ row.3 in
-      let at : slice_get has.entry.after.rows reg.row ≡ Some row.1 = ap (λ (x : Registered). slice_get has.entry.after.rows x.row) (sym own) ∙ row.2 in
+      let at : slice_get has.entry.after.rows reg.row ≡ Some row.1 = ap (λ (x : RegisteredRow). slice_get has.entry.after.rows x.row) (sym own) ∙ row.2 in
       let after : has.entry.after ≡ left_by s0 (has.front ++ has.entry ∷ []) = sym (left_by_more s0 has.front has.entry) in
       let there : slice_get (left_by s0 (has.front ++ has.entry ∷ [])).rows reg.row ≡ Some row.1 = ap (λ (m : StoreHalf). slice_get m.rows reg.row) (sym after) ∙ at in
-      let again : registered reg.row row.1 ≡ reg = ap (λ k. registered k row.1) (ap (λ (x : Registered). x.row) (sym own)) ∙ own in
+      let again : registered reg.row row.1 ≡ reg = ap (λ k. registered k row.1) (ap (λ (x : RegisteredRow). x.row) (sym own)) ∙ own in
       was_there s (has.front ++ has.entry ∷ []) i reg j (has.back ++ drop n s, cut ∙ sym (append_assoc has.front (has.entry ∷ []) (has.back ++ drop n s))) (row.1, there, again)
 
   module _ (s : List StoreEntry) (i : List IntakeEntry) (f : IntakeEntry) (l : Legal s0 i0 s i) (j : IsJoined s0 i0 s i) (low : intake_knows f ≤ length s) (fit : IntakeFits s0 i0 i f (take (intake_knows f) s)) where
@@ -143,7 +143,7 @@ module _ (s0 : StoreHalf) (i0 : IntakeHalf) where
         let own = did.sound in
         record { up = own.up; next = λ r k here. let low = own.next r k here in let same = ap end_of (more_is r) in omega arith; unknown = λ r none. more_is r ∙ own.unknown r none; lines = own.lines; bytes = own.bytes }
 
-    told_row_of : (reg : Registered) (front back : List Registered) → regs_of f.part ≡ front ++ reg ∷ back → ToldRow s reg
+    told_row_of : (reg : RegisteredRow) (front back : List RegisteredRow) → regs_of f.part ≡ front ++ reg ∷ back → ToldRow s reg
     told_row_of = told_of s i f.other f.part l j fit.1
 
     knows_now : KnowsRows s0 i0 (left_by s0 s) f.after

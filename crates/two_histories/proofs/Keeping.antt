@@ -7,7 +7,7 @@ use Rattle.pb_messages.specs.declared.about.State.{State}
 use Rattle.pb_messages.specs.declared.about.State.TheVariants.{Retired}
 use Rattle.act_model.specs.Changes.{changed, changed_rows, added, each, at, without_held}
 use Rattle.act_model.specs.Growth.{RowsLike}
-use Rattle.act_model.specs.Limbo.{FileState}
+use Rattle.act_model.specs.Limbo.{RowFile}
 use Rattle.act_model.specs.Machine.{Machine, Change, AddsRow, SetsState, Renames, Publishes, Unlists}
 use Rattle.act_model.specs.MoveStep.{GoesOn, copies, has_copied, publishes, retires, again, damaged}
 use Rattle.act_model.specs.Reply.{Reply}
@@ -42,7 +42,7 @@ keep_like rows news like same i = by_row (slice_get rows i) refl (slice_get news
     by_row None none (Some new) there = absurd (let low = slice_get_within news i new there in there_is_row rows i (omega arith) none)
 
 -- a row that a change adds has no samples
-pub past_durable : (told : Bool) (limbo : List FileState) (change : Change) (rows : List RowState) (i : ℕ) → slice_get rows i ≡ None → durable_in (changed_rows told limbo change rows) i ≡ []
+pub past_durable : (told : Bool) (limbo : List RowFile) (change : Change) (rows : List RowState) (i : ℕ) → slice_get rows i ≡ None → durable_in (changed_rows told limbo change rows) i ≡ []
 past_durable told limbo change rows i none = by_new (slice_get (changed_rows told limbo change rows) i) refl
   where
     fresh_durable : (row : RowState) → IsFresh change rows row → durable row ≡ []
@@ -58,7 +58,7 @@ past_durable told limbo change rows i none = by_new (slice_get (changed_rows tol
     by_new (Some new) there = durable_is (changed_rows told limbo change rows) i new there ∙ by_came new (came told limbo change rows i new there)
 
 -- a change that leaves each row's durable samples
-made_keeps : (told : Bool) (limbo : List FileState) (change : Change) (rows : List RowState) → ((i : ℕ) (row : RowState) → slice_get rows i ≡ Some row → durable (changed told limbo change i row) ≡ durable row)
+made_keeps : (told : Bool) (limbo : List RowFile) (change : Change) (rows : List RowState) → ((i : ℕ) (row : RowState) → slice_get rows i ≡ Some row → durable (changed told limbo change i row) ≡ durable row)
     → KeepsDurable rows (changed_rows told limbo change rows)
 made_keeps told limbo change rows same i = by_row (slice_get rows i) refl
   where
@@ -69,13 +69,13 @@ made_keeps told limbo change rows same i = by_row (slice_get rows i) refl
         durable_is (changed_rows told limbo change rows) i (changed told limbo change i row) (append_forward (each (changed told limbo change) 0 rows) (added change rows) i (changed told limbo change i row) on) ∙ (same i row here ∙ sym (durable_is rows i row here))
     by_row None none = past_durable told limbo change rows i none ∙ sym (none_durable rows i none)
 
-pub adds_keeps : (told : Bool) (limbo : List FileState) (name : List ℕ) (about : About) (rows : List RowState) → KeepsDurable rows (changed_rows told limbo (AddsRow name about) rows)
+pub adds_keeps : (told : Bool) (limbo : List RowFile) (name : List ℕ) (about : About) (rows : List RowState) → KeepsDurable rows (changed_rows told limbo (AddsRow name about) rows)
 adds_keeps told limbo name about rows = made_keeps told limbo (AddsRow name about) rows (λ i row here. refl)
 
-pub sets_keeps : (told : Bool) (limbo : List FileState) (k : ℕ) (state : State) (rows : List RowState) → KeepsDurable rows (changed_rows told limbo (SetsState k state) rows)
+pub sets_keeps : (told : Bool) (limbo : List RowFile) (k : ℕ) (state : State) (rows : List RowState) → KeepsDurable rows (changed_rows told limbo (SetsState k state) rows)
 sets_keeps told limbo k state rows = made_keeps told limbo (SetsState k state) rows (λ i row here. at_row k i (without_held state) row (λ r. durable r ≡ durable row) refl (λ is. refl))
 
-pub renames_keeps : (told : Bool) (limbo : List FileState) (k : ℕ) (name : List ℕ) (rows : List RowState) → KeepsDurable rows (changed_rows told limbo (Renames k name) rows)
+pub renames_keeps : (told : Bool) (limbo : List RowFile) (k : ℕ) (name : List ℕ) (rows : List RowState) → KeepsDurable rows (changed_rows told limbo (Renames k name) rows)
 renames_keeps told limbo k name rows = made_keeps told limbo (Renames k name) rows (λ i row here. at_row k i (without_held Retired) row (λ r. durable r ≡ durable row) refl (λ is. refl))
 
 -- a step of a move

@@ -9,7 +9,7 @@ use Rattle.act_model.specs.Machine.{held_bytes}
 use Rattle.act_model.specs.Rows.{RowState, size_of}
 use Rattle.act_model.specs.Sound.{IsHeld}
 use Rattle.two_histories.specs.ArchiveIntake.{IntakeRow, known_at, as_row, kept_row, kept_rows, trimmed, first_known, taken_over, with_row, with_rows}
-use Rattle.two_histories.specs.ArchiveStore.{Registered}
+use Rattle.two_histories.specs.ArchiveStore.{RegisteredRow}
 use Rattle.series_model.specs.Sampling.{first_cell}
 use Rattle.two_histories.proofs.Gaining.{RowGains, same_row, one_more}
 use Rattle.act_model.proofs.MadeLaws.{since_lines, since_size}
@@ -139,26 +139,26 @@ known_trans : (a b c : IntakeRow) → SameKnown a b → SameKnown b c → SameKn
 known_trans a b c p q =
     record { about = q.about ∙ p.about; name = q.name ∙ p.name; tail = q.tail ∙ p.tail; next = q.next ∙ p.next; up = (let one : a.changed ≤ b.changed = p.up in let two : b.changed ≤ c.changed = q.up in omega arith) }
 
-over_same : (reg : Registered) (k : IntakeRow) → SameKnown k (taken_over reg k)
+over_same : (reg : RegisteredRow) (k : IntakeRow) → SameKnown k (taken_over reg k)
 over_same reg k = record { about = refl; name = refl; tail = refl; next = refl; up = omega arith }
 
 -- where a row that is known afterwards comes from
-pub data FromTake (regs : List Registered) (ks : List IntakeRow) (r : ℕ) (new : IntakeRow) : Type 0 where
+pub data FromTake (regs : List RegisteredRow) (ks : List IntakeRow) (r : ℕ) (new : IntakeRow) : Type 0 where
   was_known : (k : IntakeRow) → known_at ks r ≡ Some k → SameKnown k new → FromTake regs ks r new
-  is_told : (reg : Registered) (front back : List Registered) → regs ≡ front ++ reg ∷ back → reg.row ≡ r → known_at ks r ≡ None → new.about ≡ reg.about → new.name ≡ reg.name → new.tail ≡ [] → FromTake regs ks r new
+  is_told : (reg : RegisteredRow) (front back : List RegisteredRow) → regs ≡ front ++ reg ∷ back → reg.row ≡ r → known_at ks r ≡ None → new.about ≡ reg.about → new.name ≡ reg.name → new.tail ≡ [] → FromTake regs ks r new
 
 -- the rows known afterwards, by number
-pub data TookAt (regs : List Registered) (ks news : List IntakeRow) (r : ℕ) : Type 0 where
+pub data TookAt (regs : List RegisteredRow) (ks news : List IntakeRow) (r : ℕ) : Type 0 where
   takes_none : known_at ks r ≡ None → known_at news r ≡ None → TookAt regs ks news r
   takes_one : (new : IntakeRow) → known_at news r ≡ Some new → FromTake regs ks r new → TookAt regs ks news r
 
 -- one row that is told
-pub data OneTook (all : List IntakeRow) (reg : Registered) (ks news : List IntakeRow) (r : ℕ) : Type 0 where
+pub data OneTook (all : List IntakeRow) (reg : RegisteredRow) (ks news : List IntakeRow) (r : ℕ) : Type 0 where
   same_as : known_at news r ≡ known_at ks r → OneTook all reg ks news r
   took_over : (k : IntakeRow) → reg.row ≡ r → known_at ks r ≡ Some k → known_at news r ≡ Some (taken_over reg k) → OneTook all reg ks news r
   came_new : reg.row ≡ r → known_at ks r ≡ None → known_at news r ≡ Some (first_known all reg) → OneTook all reg ks news r
 
-one_took : (all : List IntakeRow) (n : ℕ) (reg : Registered) (ks : List IntakeRow) (r : ℕ) → Ascends n ks → OneTook all reg ks (with_row reg (first_known all reg) ks) r
+one_took : (all : List IntakeRow) (n : ℕ) (reg : RegisteredRow) (ks : List IntakeRow) (r : ℕ) → Ascends n ks → OneTook all reg ks (with_row reg (first_known all reg) ks) r
 one_took all n reg [] r up = by_own (reg.row == r) refl
   where
     by_own : (b : Bool) → (reg.row == r) ≡ b → OneTook all reg [] (first_known all reg ∷ []) r
@@ -188,7 +188,7 @@ one_took all n reg (k ∷ ks) r up = by_same (one_took all (k.row + 1) reg ks r 
     by_same rest true is = rw is (over_head is (k.row == r) refl)
     by_same rest false is = by_order rest (nat_lt reg.row k.row) refl is
 
-with_ascends : (all : List IntakeRow) (n : ℕ) (reg : Registered) (ks : List IntakeRow) → n ≤ reg.row → Ascends n ks → Ascends n (with_row reg (first_known all reg) ks)
+with_ascends : (all : List IntakeRow) (n : ℕ) (reg : RegisteredRow) (ks : List IntakeRow) → n ≤ reg.row → Ascends n ks → Ascends n (with_row reg (first_known all reg) ks)
 with_ascends all n reg [] low up = (low, tt)
 with_ascends all n reg (k ∷ ks) low up = by_same (λ past. with_ascends all (k.row + 1) reg ks past up.1) (k.row == reg.row) refl
   where
@@ -200,14 +200,14 @@ with_ascends all n reg (k ∷ ks) low up = by_same (λ past. with_ascends all (k
     by_same rest true is = rw is (up.0, up.1)
     by_same rest false is = by_order rest (nat_lt reg.row k.row) refl is
 
-over_events : (reg : Registered) (k : IntakeRow) → HasEvents k → HasEvents (taken_over reg k)
+over_events : (reg : RegisteredRow) (k : IntakeRow) → HasEvents k → HasEvents (taken_over reg k)
 over_events reg k has = (has.0, by_test (nat_lt k.changed reg.changed))
   where
     by_test : (b : Bool) → IsHeld k.about.ty (cond b first_cell k.cell).held
     by_test true = tt
     by_test false = has.1
 
-with_lines : (all : List IntakeRow) (reg : Registered) (ks : List IntakeRow) → AllByRecursion HasEvents ks → AllByRecursion HasEvents (with_row reg (first_known all reg) ks)
+with_lines : (all : List IntakeRow) (reg : RegisteredRow) (ks : List IntakeRow) → AllByRecursion HasEvents ks → AllByRecursion HasEvents (with_row reg (first_known all reg) ks)
 with_lines all reg [] lines = ((tt, tt), tt)
 with_lines all reg (k ∷ ks) lines = by_tests (k.row == reg.row) (nat_lt reg.row k.row) (with_lines all reg ks lines.1)
   where
@@ -216,7 +216,7 @@ with_lines all reg (k ∷ ks) lines = by_tests (k.row == reg.row) (nat_lt reg.ro
     by_tests false true more = ((tt, tt), lines)
     by_tests false false more = (lines.0, more)
 
-with_bytes : (all : List IntakeRow) (reg : Registered) (ks : List IntakeRow) → held_bytes (map as_row (with_row reg (first_known all reg) ks)) ≡ held_bytes (map as_row ks)
+with_bytes : (all : List IntakeRow) (reg : RegisteredRow) (ks : List IntakeRow) → held_bytes (map as_row (with_row reg (first_known all reg) ks)) ≡ held_bytes (map as_row ks)
 with_bytes all reg [] = refl
 with_bytes all reg (k ∷ ks) = by_tests (k.row == reg.row) (nat_lt reg.row k.row) (with_bytes all reg ks)
   where
@@ -226,7 +226,7 @@ with_bytes all reg (k ∷ ks) = by_tests (k.row == reg.row) (nat_lt reg.row k.ro
     by_tests false false more = ap (λ n. size_of k.tail + n) more
 
 -- all that are told
-pub record Took (regs : List Registered) (ks news : List IntakeRow) : Type 0 where
+pub record Took (regs : List RegisteredRow) (ks news : List IntakeRow) : Type 0 where
   pub ascends : Ascends 0 news
   pub lines : AllByRecursion HasEvents news
   pub bytes : held_bytes (map as_row news) ≡ held_bytes (map as_row ks)
@@ -235,7 +235,7 @@ pub record Took (regs : List Registered) (ks news : List IntakeRow) : Type 0 whe
 some_same : {a b : IntakeRow} → Some a ≡ Some b → a ≡ b
 some_same is = cc
 
-pub took : (regs : List Registered) (ks : List IntakeRow) → Ascends 0 ks → AllByRecursion HasEvents ks → Took regs ks (with_rows regs ks)
+pub took : (regs : List RegisteredRow) (ks : List IntakeRow) → Ascends 0 ks → AllByRecursion HasEvents ks → Took regs ks (with_rows regs ks)
 took [] ks up lines = record { ascends = up; lines = lines; bytes = refl; at = λ r. by_known r (known_at ks r) refl }
   where
     by_known : (r : ℕ) (o : Option IntakeRow) → known_at ks r ≡ o → TookAt [] ks ks r
@@ -268,7 +268,7 @@ took (reg ∷ regs) ks up lines =
 
 -- WHERE A STATE COMES FROM
 
-over_was : (P : ℕ → State → Type 0) (reg : Registered) (k : IntakeRow) → P reg.changed reg.state → P k.changed k.state → P (taken_over reg k).changed (taken_over reg k).state
+over_was : (P : ℕ → State → Type 0) (reg : RegisteredRow) (k : IntakeRow) → P reg.changed reg.state → P k.changed k.state → P (taken_over reg k).changed (taken_over reg k).state
 over_was P reg k told was = by_test (nat_lt k.changed reg.changed) refl
   where
     by_test : (b : Bool) → nat_lt k.changed reg.changed ≡ b → P (max k.changed reg.changed) (cond b reg.state k.state)
@@ -276,7 +276,7 @@ over_was P reg k told was = by_test (nat_lt k.changed reg.changed) refl
     by_test false is = let low : reg.changed ≤ k.changed = grind (arith, nat_tests) in let same : max k.changed reg.changed ≡ k.changed = omega arith in subst (λ n. P n k.state) (sym same) was
 
 -- what holds of each state that was known or is told, with its change number, holds of each that is known afterwards
-pub took_was : (P : ℕ → ℕ → State → Type 0) (regs : List Registered) (ks : List IntakeRow) → Ascends 0 ks → ((reg : Registered) (front back : List Registered) → regs ≡ front ++ reg ∷ back → P reg.row reg.changed reg.state)
+pub took_was : (P : ℕ → ℕ → State → Type 0) (regs : List RegisteredRow) (ks : List IntakeRow) → Ascends 0 ks → ((reg : RegisteredRow) (front back : List RegisteredRow) → regs ≡ front ++ reg ∷ back → P reg.row reg.changed reg.state)
     → ((r : ℕ) (k : IntakeRow) → known_at ks r ≡ Some k → P r k.changed k.state) → (r : ℕ) (k : IntakeRow) → known_at (with_rows regs ks) r ≡ Some k → P r k.changed k.state
 took_was P [] ks up told was r k here = was r k here
 took_was P (reg ∷ regs) ks up told was r k here =

@@ -7,10 +7,10 @@ use Rattle.series_model.specs.declared.sample.Query.{Query}
 use Rattle.series_model.specs.declared.sample.Sample.{Sample}
 use Rattle.act_model.specs.Changes.{each, at}
 use Rattle.act_model.specs.Details.{details_refused, Describes}
-use Rattle.act_model.specs.Limbo.{FileState}
+use Rattle.act_model.specs.Limbo.{RowFile}
 use Rattle.act_model.specs.Machine.{Machine, PinState, Change, find_row}
 use Rattle.act_model.specs.Outcome.{Acts, all_go}
-use Rattle.act_model.specs.Pin.{Pins, pins, IsListedPiece, IsPieceOf}
+use Rattle.act_model.specs.Pin.{MakesPin, pins, IsListedPiece, IsPieceOf}
 use Rattle.act_model.specs.Reply.{Reply}
 use Rattle.act_model.specs.Rows.{RowState, Store, Short, Medium, Long, tier, window}
 use Rattle.act_model.specs.Rule.{Rule}
@@ -28,7 +28,7 @@ other_tail xs row Short = refl
 other_tail xs row Medium = refl
 other_tail xs row Long = refl
 
-listed_piece : (rule : Rule) (i : ℕ) (xs : List Sample) (row : RowState) (f : FileState) → IsListedPiece rule i (record row { tail = xs }) f → IsListedPiece rule i row f
+listed_piece : (rule : Rule) (i : ℕ) (xs : List Sample) (row : RowState) (f : RowFile) → IsListedPiece rule i (record row { tail = xs }) f → IsListedPiece rule i row f
 listed_piece rule i xs row f l =
     record {
       own = l.own;
@@ -66,14 +66,14 @@ own_row m look i row there = by_name (find_row m look.name) refl
 none_may : (look : RowLook) (mid : Machine) (one : Change) → IsSound mid → mid.doubt ≡ None → details_refused look.name mid ≡ None → None ≡ Some one → MayMake mid.rule mid.told mid.rows mid.limbo one × EndedMove mid.moves one
 none_may look mid one s none free is = absurd cc
 
-pinned_sound : {who : ℕ} {name : List ℕ} {query : Query} {reply : Reply} (look : RowLook) (mid end new : Machine) → IsSound mid → Pins who name query (tail_of look mid) reply end → new ≡ record end { rows = mid.rows } → IsSound new
+pinned_sound : {who : ℕ} {name : List ℕ} {query : Query} {reply : Reply} (look : RowLook) (mid end new : Machine) → IsSound mid → MakesPin who name query (tail_of look mid) reply end → new ≡ record end { rows = mid.rows } → IsSound new
 pinned_sound {who} look mid end new s (pins i row pin pieces found here free least listed order gives few same) is =
     let made : PinState = record { owner = who; pieces = pieces } in
     let all : new ≡ record mid { pins = insert mid.pins pin made; faults = end.faults } = is ∙ ap (λ (m : Machine). record m { rows = mid.rows }) same in
     let sound : IsSound (record mid { pins = insert mid.pins pin made }) = other_pins mid (insert mid.pins pin made) s (λ t n other there. by_case made t n other (pin_inserted mid.pins pin n made other there) refl) in
     subst (λ m. IsSound m) (sym all) sound
   where
-    own_sound : (f : FileState) → IsPieceOf mid.rule (tail_rows look mid) i row f → PieceSound mid.rule mid.rows mid.limbo f
+    own_sound : (f : RowFile) → IsPieceOf mid.rule (tail_rows look mid) i row f → PieceSound mid.rule mid.rows mid.limbo f
     own_sound f p =
         let own = own_row mid look f.row p.own p.here in
         listed_sound mid.rule mid.rows mid.limbo f.row own.own own.here s.each_unlisted f (listed_piece mid.rule f.row own.xs own.own f (subst (λ r. IsListedPiece mid.rule f.row r f) own.is p.listed))
@@ -84,9 +84,9 @@ pinned_sound {who} look mid end new s (pins i row pin pieces found here free lea
         subst (λ (p : PinState). AllByRecursion (PieceSound mid.rule mid.rows mid.limbo) p.pieces) (sym same'.1) (subst (λ w. AllByRecursion (PieceSound mid.rule mid.rows mid.limbo) w) (sym has) sound)
     by_case made t n other (inr there) has = s.pinned t n other there.1
 
-pub pins_keep : (who : ℕ) (query : Query) (look : RowLook) (old new : Machine) (reply : Reply) → IsSound old → Acts (details_refused look.name) (OverTail look (Pins who look.name query)) (λ m. None) all_go old reply new → IsSound new
+pub pins_keep : (who : ℕ) (query : Query) (look : RowLook) (old new : Machine) (reply : Reply) → IsSound old → Acts (details_refused look.name) (OverTail look (MakesPin who look.name query)) (λ m. None) all_go old reply new → IsSound new
 pins_keep who query look old new reply s step =
-    Acts-sound (details_refused look.name) (OverTail look (Pins who look.name query)) (λ m. None) all_go all_fewer (λ mid answer after sound none free ran. pinned_sound look mid ran.0 after sound ran.1 ran.2) (none_may look) s step
+    Acts-sound (details_refused look.name) (OverTail look (MakesPin who look.name query)) (λ m. None) all_go all_fewer (λ mid answer after sound none free ran. pinned_sound look mid ran.0 after sound ran.1 ran.2) (none_may look) s step
 
 described_sound : (look : RowLook) (mid end new : Machine) {reply : Reply} → IsSound mid → Describes look.name (tail_of look mid) reply end → new ≡ record end { rows = mid.rows } → IsSound new
 described_sound look mid end new s d is = same_sound mid new (is ∙ (ap (λ (m : Machine). record m { rows = mid.rows }) d.same ∙ faults_are)) s

@@ -10,7 +10,7 @@ use Rattle.series_model.specs.Series.{IsRising, RisesFrom, end_from, end_of, ove
 use Rattle.series_model.proofs.OverLemmas.{end_of-over, over_rising}
 use Rattle.series_model.proofs.RisingLists.{RisesFrom-lower, end_from-append, since_all}
 use Rattle.act_model.specs.Rows.{RowState, Store, Short, Medium, Long, next_store, accepted, durable, deep, tier, window, is_empty}
-use Rattle.act_model.specs.Limbo.{FileState, tier_at}
+use Rattle.act_model.specs.Limbo.{RowFile, tier_at}
 use Rattle.act_model.specs.Machine.{Machine, Change, AddsRow, SetsState, Renames, Appends, Publishes, Unlists, held_bytes}
 use Rattle.act_model.specs.Changes.{each, of_row}
 use Rattle.act_model.specs.Sound.{RowSound, IsOver, BasesSound, LinesSound, CopiesOf, MayAdd, MayMake, LimboSound, IsUnlisted, PieceSound, IsSoundOf, IsSound}
@@ -86,7 +86,7 @@ deep_same row new Short t = rw (t.long, t.medium) refl
 deep_same row new Medium t = t.long
 deep_same row new Long t = refl
 
-copies_same : (limbo : List FileState) (row new : RowState) (i : ℕ) (store : Store) (copied : List Sample) → SameStores row new → CopiesOf limbo row i store copied → CopiesOf limbo new i store copied
+copies_same : (limbo : List RowFile) (row new : RowState) (i : ℕ) (store : Store) (copied : List Sample) → SameStores row new → CopiesOf limbo row i store copied → CopiesOf limbo new i store copied
 copies_same limbo row new i Short copied t c = rw (t.short, t.medium, t.long) c
 copies_same limbo row new i Medium copied t c = rw (t.medium, t.long) c
 copies_same limbo row new i Long copied t c = rw t.long c

@@ -14,7 +14,7 @@ use Rattle.act_model.specs.declared.acts.Answer.TheVariants.{Flushed}
 use Rattle.act_model.specs.Growth.{Onward}
 use Rattle.act_model.specs.Machine.{Machine, find_row}
 use Rattle.act_model.specs.Outcome.{Acts, all_go, refused_at_once, refused, runs, faults_first, faults_between, faults_within, faults_removing, wants_memory, wants_memory_settled}
-use Rattle.act_model.specs.Pin.{Pins, pins}
+use Rattle.act_model.specs.Pin.{MakesPin, pins}
 use Rattle.act_model.specs.Reply.{Reply}
 use Rattle.act_model.specs.Rows.{RowState, durable}
 use Rattle.act_model.specs.Sound.{IsSound}
@@ -23,7 +23,7 @@ use Rattle.act_model.proofs.StepOnward.{step_onward}
 use Rattle.act_model.proofs.StepSound.{step_sound}
 use Rattle.two_histories.specs.Store.{Lists}
 use Rattle.two_histories.specs.ArchiveIntake.{RowLook}
-use Rattle.two_histories.specs.ArchiveStore.{StoreHalf, StoreRow, Registered, durable_at, row_with, rows_with, with_end, with_ends, same_state, changed_at, left_row, left_rows, doubted, machine_of, store_of}
+use Rattle.two_histories.specs.ArchiveStore.{StoreHalf, StoreRow, RegisteredRow, durable_at, row_with, rows_with, with_end, with_ends, same_state, changed_at, left_row, left_rows, doubted, machine_of, store_of}
 use Rattle.two_histories.specs.StoreStep.{StorePart, Does, BeginsMove, Flushes, PinsAt, DescribesAt, RenamesAt, StoreAnswer, Stored, StoreStep, answer_of, PartRuns, MayAskStore, doors_of, OverTail, FlushesBatch, appends, seen_by, number_by, rename_refused_at}
 use Rattle.two_histories.proofs.Batches.{BatchFits}
 use Rattle.two_histories.proofs.Closing.{IsClosed, is_base, may_be_base}
@@ -268,11 +268,11 @@ module _ (n doors : ℕ) (old : StoreHalf) (after : Machine) where
 
 -- PARTS
 
-pinned_on : {who : ℕ} {name : List ℕ} {query : Query} {mid end : Machine} {reply : Reply} → Pins who name query mid reply end → (end.told ≡ mid.told) × (end.rule ≡ mid.rule)
+pinned_on : {who : ℕ} {name : List ℕ} {query : Query} {mid end : Machine} {reply : Reply} → MakesPin who name query mid reply end → (end.told ≡ mid.told) × (end.rule ≡ mid.rule)
 pinned_on (pins i row pin pieces a b c d e order f few same) = (ap (λ (m : Machine). m.told) same, ap (λ (m : Machine). m.rule) same)
 
-pins_on : (who : ℕ) (query : Query) (look : RowLook) {old new : Machine} {reply : Reply} → IsSound old → Acts (details_refused look.name) (OverTail look (Pins who look.name query)) (λ m. None) all_go old reply new → Onward old new
-pins_on who query look = Acts-onward (details_refused look.name) (OverTail look (Pins who look.name query)) (λ m. None) all_go
+pins_on : (who : ℕ) (query : Query) (look : RowLook) {old new : Machine} {reply : Reply} → IsSound old → Acts (details_refused look.name) (OverTail look (MakesPin who look.name query)) (λ m. None) all_go old reply new → Onward old new
+pins_on who query look = Acts-onward (details_refused look.name) (OverTail look (MakesPin who look.name query)) (λ m. None) all_go
     (λ mid answer new s free ran. let kept = pinned_on ran.1 in onward_same mid new (ap (λ (m : Machine). m.told) ran.2 ∙ kept.0) (ap (λ (m : Machine). m.rule) ran.2 ∙ kept.1) (ap (λ (m : Machine). m.rows) ran.2))
 
 describes_on : (look : RowLook) {old new : Machine} {reply : Reply} → IsSound old → Acts (details_refused look.name) (OverTail look (Describes look.name)) (λ m. None) all_go old reply new → Onward old new
@@ -369,14 +369,14 @@ record IsFlushed (reply : Reply) : Type 0 where
   doors : ℕ
   is : reply ≡ Flushed samples bytes doors
 
-is_flushed : (batch : List RowSamples) (upto left doors n : ℕ) (new : StoreHalf) (after : Machine) (reply told : Reply) (ends : ℕ → ℕ) (rows : List Registered) (len : ℕ)
+is_flushed : (batch : List RowSamples) (upto left doors n : ℕ) (new : StoreHalf) (after : Machine) (reply told : Reply) (ends : ℕ → ℕ) (rows : List RegisteredRow) (len : ℕ)
     → answer_of (Flushes batch upto left doors) n new after reply ≡ Stored told ends rows len → IsFlushed reply
 is_flushed batch upto left doors n new after (Flushed samples bytes doors_left) told ends rows len is = record { samples = samples; bytes = bytes; doors = doors_left; is = refl }
 is_flushed batch upto left doors n new after other told ends rows len is = absurd cc
 
 pub flush_stored : {who n : ℕ} {old new : StoreHalf} {part : StorePart} {answer : StoreAnswer} → StoreStep who n old part answer new
     → (batch : List RowSamples) (upto left doors : ℕ) → part ≡ Flushes batch upto left doors
-    → (told : Reply) (ends : ℕ → ℕ) (rows : List Registered) (len : ℕ) → answer ≡ Stored told ends rows len
+    → (told : Reply) (ends : ℕ → ℕ) (rows : List RegisteredRow) (len : ℕ) → answer ≡ Stored told ends rows len
     → IsSound (machine_of 0 old) → old.told ≡ true → BatchFits (machine_of 0 old).rows old.doubt batch → HalfDone old new batch
 flush_stored {who} {n} {old} {new} step batch upto left doors part_is told ends rows len answer_is s t fits =
     let m = machine_of doors old in

@@ -7,7 +7,7 @@ use Rattle.series_model.specs.Series.{IsRising, end_of, since, over}
 use Rattle.series_model.specs.Archive.{IsPrefix}
 use Rattle.series_model.proofs.RisingLists.{rises_more, since-since}
 use Rattle.two_histories.specs.Histories.{left_by}
-use Rattle.two_histories.specs.Store.{Lists, Numbers, StoreHalf, Change, Appends, Alters, made, written, Settles, no_doubt, as_not_made, as_made, change_by, StorePart, Flush, Alter, Pin, Rest, StoreAnswer, Flushed, StoreStep, stays, settles, fails, flushes, alters, pins, rests}
+use Rattle.two_histories.specs.Store.{Lists, Numbers, StoreHalf, StoreChange, Appends, Alters, made, written, Settles, no_doubt, as_not_made, as_made, change_by, StorePart, Flush, Alter, Pin, Rest, StoreAnswer, Flushed, StoreStep, stays, settles, fails, flushes, alters, pins, rests}
 use Rattle.two_histories.specs.Store.{ends_of}
 use Rattle.two_histories.specs.Intake.{IntakeHalf, IntakeEntry, IntakePart, Offer, Look, LookAt, Take, TakeFlush, IntakeAnswer, Looked, LookedAt, IntakeStep, refuses, keeps, looks, looks_at, takes, takes_flush, with_more}
 use Rattle.two_histories.proofs.Lists.{prefix_same, prefix_through, IsTail, tail_trimmed, tail_more}
@@ -37,7 +37,7 @@ module _ (i0 : IntakeHalf) (i : List IntakeEntry) where
   appended : (m : StoreHalf) (batch : Lists) → Agrees m.durable i0 i → MayAppend m.durable batch accepted → Agrees (λ r. over (m.durable r) (batch r)) i0 i
   appended m batch a may = agrees_more m.durable (λ r. over (m.durable r) (batch r)) i0 i a (λ r. (since (end_of (m.durable r)) (batch r), refl)) may
 
-  settled_as_made : (n : ℕ) (m : StoreHalf) (change : Change) → m.doubt ≡ Some change → Agrees m.durable i0 i → DoubtAgrees m accepted → Settled m (record (made n change m) { doubt = None })
+  settled_as_made : (n : ℕ) (m : StoreHalf) (change : StoreChange) → m.doubt ≡ Some change → Agrees m.durable i0 i → DoubtAgrees m accepted → Settled m (record (made n change m) { doubt = None })
   settled_as_made n m (Appends batch) is a d = record { agrees = appended m batch a (d batch is); none = refl; grows = λ r. (since (end_of (m.durable r)) (batch r), refl) }
   settled_as_made n m (Alters rows) is a d = record { agrees = a; none = refl; grows = λ r. prefix_same (m.durable r) }
 
@@ -60,7 +60,7 @@ module _ (i0 : IntakeHalf) (i : List IntakeEntry) where
   own_change Rest batch is c durable a = absurd cc
 
   -- what is written of a batch may be appended where the batch may
-  written_may : (m : StoreHalf) (change : Change) (part : StorePart) → change_by part ≡ Some change → Carries part → Agrees m.durable i0 i → (batch : Lists) → Some (written change m) ≡ Some (Appends batch) → MayAppend m.durable batch accepted
+  written_may : (m : StoreHalf) (change : StoreChange) (part : StorePart) → change_by part ≡ Some change → Carries part → Agrees m.durable i0 i → (batch : Lists) → Some (written change m) ≡ Some (Appends batch) → MayAppend m.durable batch accepted
   written_may m (Appends whole) part by c a batch is = λ r.
       let n = end_of (m.durable r) in
       let same : (λ (k : ℕ). since (end_of (m.durable k)) (whole k)) ≡ batch = cc in

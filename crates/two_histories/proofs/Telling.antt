@@ -8,23 +8,23 @@ use Rattle.act_model.specs.Machine.{Machine, held_bytes}
 use Rattle.act_model.specs.Reply.{Reply}
 use Rattle.two_histories.specs.ArchiveIntake.{IntakeHalf, RowLook, look_at, known_as, machine_of, batch_of, bytes_in}
 use Rattle.two_histories.specs.IntakeStep.{IntakePart, LooksAt, IntakeAnswer, SawBatch, SawRow, IntakeStep, offers, ticks, no_row, sees_doors, sees_batch, sees_row, takes, takes_flush}
-use Rattle.two_histories.specs.ArchiveStore.{StoreHalf, StoreRow, Registered, registered, changed_since, durable_at}
+use Rattle.two_histories.specs.ArchiveStore.{StoreHalf, StoreRow, RegisteredRow, registered, changed_since, durable_at}
 use Rattle.two_histories.specs.StoreStep.{StorePart, Does, BeginsMove, Flushes, PinsAt, DescribesAt, RenamesAt, StoreAnswer, Stored, StoreStep, answer_of, ends_in}
 use Rattle.two_histories.proofs.Batches.{ends_are}
 use Rattle.two_histories.proofs.Durables.{in_left_rows}
 
 -- what a flush that is done tells
-pub record FlushTold (part : StorePart) (new : StoreHalf) (after : Machine) (ends : ℕ → ℕ) (rows : List Registered) : Type 0 where
+pub record FlushTold (part : StorePart) (new : StoreHalf) (after : Machine) (ends : ℕ → ℕ) (rows : List RegisteredRow) : Type 0 where
   pub upto : ℕ
   pub ends_is : ends ≡ ends_in after.rows
   pub rows_is : rows ≡ changed_since upto 0 new.rows
 
-told_flush : (n : ℕ) (batch : List RowSamples) (upto left doors : ℕ) (new : StoreHalf) (after : Machine) (reply : Reply) (told : Reply) (ends : ℕ → ℕ) (rows : List Registered) (len : ℕ) → answer_of (Flushes batch upto left doors) n new after reply ≡ Stored told ends rows len → FlushTold (Flushes batch upto left doors) new after ends rows
+told_flush : (n : ℕ) (batch : List RowSamples) (upto left doors : ℕ) (new : StoreHalf) (after : Machine) (reply : Reply) (told : Reply) (ends : ℕ → ℕ) (rows : List RegisteredRow) (len : ℕ) → answer_of (Flushes batch upto left doors) n new after reply ≡ Stored told ends rows len → FlushTold (Flushes batch upto left doors) new after ends rows
 told_flush n batch upto left doors new after (Flushed samples bytes doors_left) told ends rows len is =
     record { upto = upto; ends_is = (let same : ends_in after.rows ≡ ends = cc in sym same); rows_is = (let same : changed_since upto 0 new.rows ≡ rows = cc in sym same) }
 told_flush n batch upto left doors new after other told ends rows len is = absurd cc
 
-told_by : (n : ℕ) (part : StorePart) (new : StoreHalf) (after : Machine) (reply : Reply) (told : Reply) (ends : ℕ → ℕ) (rows : List Registered) (len : ℕ) → answer_of part n new after reply ≡ Stored told ends rows len → FlushTold part new after ends rows
+told_by : (n : ℕ) (part : StorePart) (new : StoreHalf) (after : Machine) (reply : Reply) (told : Reply) (ends : ℕ → ℕ) (rows : List RegisteredRow) (len : ℕ) → answer_of part n new after reply ≡ Stored told ends rows len → FlushTold part new after ends rows
 told_by n (Does act) new after reply told ends rows len is = absurd cc
 told_by n (BeginsMove store now doors) new after reply told ends rows len is = absurd cc
 told_by n (Flushes batch upto left doors) new after reply told ends rows len is = told_flush n batch upto left doors new after reply told ends rows len is
@@ -32,7 +32,7 @@ told_by n (PinsAt query look) new after reply told ends rows len is = absurd cc
 told_by n (DescribesAt look) new after reply told ends rows len is = absurd cc
 told_by n (RenamesAt newname look) new after reply told ends rows len is = absurd cc
 
-pub store_told : {who n : ℕ} {old new : StoreHalf} {part : StorePart} {answer : StoreAnswer} → StoreStep who n old part answer new → (told : Reply) (ends : ℕ → ℕ) (rows : List Registered) (len : ℕ) → answer ≡ Stored told ends rows len
+pub store_told : {who n : ℕ} {old new : StoreHalf} {part : StorePart} {answer : StoreAnswer} → StoreStep who n old part answer new → (told : Reply) (ends : ℕ → ℕ) (rows : List RegisteredRow) (len : ℕ) → answer ≡ Stored told ends rows len
     → ((i : ℕ) → ends i ≡ end_of (durable_at new.rows i)) × ((upto : ℕ) × (rows ≡ changed_since upto 0 new.rows))
 store_told {n = n} {old = old} {new = new} {part = part} step told ends rows len is =
     let t = told_by n part new step.after step.reply told ends rows len (sym step.answered ∙ is) in (
@@ -41,7 +41,7 @@ store_told {n = n} {old = old} {new = new} {part = part} step told ends rows len
     )
 
 -- a row that is told is there
-pub told_row : (upto k : ℕ) (rows : List StoreRow) (front back : List Registered) (reg : Registered) → changed_since upto k rows ≡ front ++ reg ∷ back → (i : ℕ) × (row : StoreRow) × (slice_get rows i ≡ Some row) × (registered (k + i) row ≡ reg)
+pub told_row : (upto k : ℕ) (rows : List StoreRow) (front back : List RegisteredRow) (reg : RegisteredRow) → changed_since upto k rows ≡ front ++ reg ∷ back → (i : ℕ) × (row : StoreRow) × (slice_get rows i ≡ Some row) × (registered (k + i) row ≡ reg)
 told_row upto k [] [] back reg is = absurd cc
 told_row upto k [] (x ∷ front) back reg is = absurd cc
 told_row upto k (row ∷ rows) front back reg is = by_test (nat_lt upto row.changed) front is (λ f w. told_row upto (k + 1) rows f back reg w)
@@ -49,8 +49,8 @@ told_row upto k (row ∷ rows) front back reg is = by_test (nat_lt upto row.chan
     later : ((i : ℕ) × (row : StoreRow) × (slice_get rows i ≡ Some row) × (registered ((k + 1) + i) row ≡ reg)) → (i : ℕ) × (other : StoreRow) × (slice_get (row ∷ rows) i ≡ Some other) × (registered (k + i) other ≡ reg)
     later x = let next : k + suc x.0 ≡ (k + 1) + x.0 = omega arith in (suc x.0, x.1, x.2, ap (λ n. registered n x.1) next ∙ x.3)
 
-    by_test : (b : Bool) (front : List Registered) → cond b (registered k row ∷ changed_since upto (k + 1) rows) (changed_since upto (k + 1) rows) ≡ front ++ reg ∷ back
-        → ((f : List Registered) → changed_since upto (k + 1) rows ≡ f ++ reg ∷ back → (i : ℕ) × (other : StoreRow) × (slice_get rows i ≡ Some other) × (registered ((k + 1) + i) other ≡ reg))
+    by_test : (b : Bool) (front : List RegisteredRow) → cond b (registered k row ∷ changed_since upto (k + 1) rows) (changed_since upto (k + 1) rows) ≡ front ++ reg ∷ back
+        → ((f : List RegisteredRow) → changed_since upto (k + 1) rows ≡ f ++ reg ∷ back → (i : ℕ) × (other : StoreRow) × (slice_get rows i ≡ Some other) × (registered ((k + 1) + i) other ≡ reg))
         → (i : ℕ) × (other : StoreRow) × (slice_get (row ∷ rows) i ≡ Some other) × (registered (k + i) other ≡ reg)
     by_test true [] is more = let first : registered k row ≡ reg = cc in let plain : k + 0 ≡ k = omega arith in (0, row, refl, ap (λ n. registered n row) plain ∙ first)
     by_test true (x ∷ front) is more = let rest : changed_since upto (k + 1) rows ≡ front ++ reg ∷ back = cc in later (more front rest)

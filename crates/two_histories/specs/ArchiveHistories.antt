@@ -9,7 +9,7 @@ use Rattle.act_model.specs.Rows.{RowState, accepted}
 use Rattle.act_model.specs.Sound.{IsSound}
 use Rattle.two_histories.specs.Histories.{left_by}
 use Rattle.two_histories.specs.Store.{Lists}
-use Rattle.two_histories.specs.ArchiveStore.{StoreHalf, StoreRow, Registered, registered, durable_at, store_of}
+use Rattle.two_histories.specs.ArchiveStore.{StoreHalf, StoreRow, RegisteredRow, registered, durable_at, store_of}
 use Rattle.two_histories.specs.ArchiveIntake.{IntakeHalf, IntakeRow, tail_at}
 use Rattle.two_histories.specs.StoreStep.{StorePart, StoreEntry, StoreStep, Does, BeginsMove, Flushes, PinsAt, DescribesAt, RenamesAt, Stored}
 use Rattle.two_histories.specs.IntakeStep.{IntakePart, IntakeEntry, IntakeStep, Offers, Ticks, LooksForDoors, LooksForBatch}
@@ -77,16 +77,16 @@ abbrev pub Once : (StoreHalf → Type 0) → StoreHalf → List StoreEntry → T
 Once Is s0 s = (front : List StoreEntry) × IsPrefix front s × Is (left_by s0 front)
 
 -- a row was so in a half
-abbrev pub WasRegistered : Registered → StoreHalf → Type 0
+abbrev pub WasRegistered : RegisteredRow → StoreHalf → Type 0
 WasRegistered r m = (row : StoreRow) × (slice_get m.rows r.row ≡ Some row) × (registered r.row row ≡ r)
 
 -- each end and each row that is named is one of the store's history
-pub record AreNamed (s0 : StoreHalf) (ends : ℕ → ℕ) (rows : List Registered) (known : List StoreEntry) : Type 0 where
+pub record AreNamed (s0 : StoreHalf) (ends : ℕ → ℕ) (rows : List RegisteredRow) (known : List StoreEntry) : Type 0 where
   pub each_end : (i : ℕ) → (ends i ≡ 0) ⊎ Once (λ m. ends i ≡ end_of (durable_at m.rows i)) s0 known
   pub each_row : AllByRecursion (λ r. Once (WasRegistered r) s0 known) rows
 
 -- the entry with which the store's history has this length is a flush that told these
-pub record ToldBy (len : ℕ) (ends : ℕ → ℕ) (rows : List Registered) (known : List StoreEntry) : Type 0 where
+pub record ToldBy (len : ℕ) (ends : ℕ → ℕ) (rows : List RegisteredRow) (known : List StoreEntry) : Type 0 where
   pub one : Has (λ e. (reply : _) × (e.answer ≡ Stored reply ends rows len)) known
   pub len_is : length one.front + 1 ≡ len
 

@@ -11,7 +11,7 @@ use Rattle.series_model.specs.Series.{since}
 use Rattle.act_model.specs.Machine.{Machine, same_bytes}
 use Rattle.act_model.specs.Rows.{RowState, is_empty, size_of}
 use Rattle.act_model.specs.Rule.{Rule}
-use Rattle.two_histories.specs.ArchiveStore.{Registered}
+use Rattle.two_histories.specs.ArchiveStore.{RegisteredRow}
 
 -- A row that the intake knows, by its number in the store: with the change number that it knows, how many samples it accepted of it since
 -- the archive was opened, `next`, the first moment later than all that was accepted of the variable under each of its names, the tail, and
@@ -132,7 +132,7 @@ pub record RowLook : Type 0 where
   pub name : List ℕ
   pub tail : List Sample
   pub count : ℕ
-  pub known : Option Registered
+  pub known : Option RegisteredRow
 
 abbrev pub look_at : List ℕ → Option IntakeRow → RowLook
 look_at name None = record { name = name; tail = []; count = 0; known = None }
@@ -160,7 +160,7 @@ next_of rows (Some b) = of (known_at rows b)
     of (Some row) = row.next
 
 -- a row that the intake doesn't know yet: nothing of it is accepted or held
-abbrev pub first_known : List IntakeRow → Registered → IntakeRow
+abbrev pub first_known : List IntakeRow → RegisteredRow → IntakeRow
 first_known known r =
     record {
       row = r.row;
@@ -176,7 +176,7 @@ first_known known r =
     }
 
 -- a change that is later than the known one sets the row's state, and clears what is held of it
-abbrev pub taken_over : Registered → IntakeRow → IntakeRow
+abbrev pub taken_over : RegisteredRow → IntakeRow → IntakeRow
 taken_over r row =
     let later = nat_lt row.changed r.changed in
     record row {
@@ -186,16 +186,16 @@ taken_over r row =
     }
 
 -- a row that is told goes to its place, as this one where it isn't known yet
-abbrev pub with_row : Registered → IntakeRow → List IntakeRow → List IntakeRow
+abbrev pub with_row : RegisteredRow → IntakeRow → List IntakeRow → List IntakeRow
 with_row r new [] = new ∷ []
 with_row r new (row ∷ rows) =
     if row.row == r.row
     then taken_over r row ∷ rows
     else if nat_lt r.row row.row then new ∷ (row ∷ rows) else row ∷ with_row r new rows
 
-abbrev pub with_rows : List Registered → List IntakeRow → List IntakeRow
+abbrev pub with_rows : List RegisteredRow → List IntakeRow → List IntakeRow
 with_rows [] known = known
 with_rows (r ∷ rows) known = with_rows rows (with_row r (first_known known r) known)
 
-abbrev pub taken : (ℕ → ℕ) → List Registered → IntakeHalf → IntakeHalf
+abbrev pub taken : (ℕ → ℕ) → List RegisteredRow → IntakeHalf → IntakeHalf
 taken ends rows m = record m { rows = with_rows rows (map (trimmed ends) m.rows) }

@@ -6,7 +6,7 @@ use Rattle.act_model.specs.Reply.{Reply}
 use Rattle.act_model.specs.Sound.{IsSound}
 use Rattle.two_histories.specs.Histories.{left_by}
 use Rattle.two_histories.specs.Laws.{AreOne}
-use Rattle.two_histories.specs.ArchiveStore.{StoreHalf, StoreRow, Registered, durable_at, machine_of}
+use Rattle.two_histories.specs.ArchiveStore.{StoreHalf, StoreRow, RegisteredRow, durable_at, machine_of}
 use Rattle.two_histories.specs.ArchiveIntake.{IntakeHalf, tail_at}
 use Rattle.two_histories.specs.StoreStep.{StoreEntry, Flushes, Stored}
 use Rattle.two_histories.specs.IntakeStep.{IntakeEntry, SawBatch}
@@ -34,5 +34,5 @@ ReportedIsDurable = (s0 : StoreHalf) (i0 : IntakeHalf) (s : List StoreEntry) (i 
     → (front back : List StoreEntry) (e : StoreEntry) → s ≡ front ++ e ∷ back
     → (ahead behind : List IntakeEntry) (look : IntakeEntry) → i ≡ ahead ++ look ∷ behind → length ahead < e.other
     → (doors upto : ℕ) (batch : List RowSamples) → look.answer ≡ SawBatch doors batch 0 upto → e.part ≡ Flushes batch upto 0 doors
-    → (reply : Reply) (ends : ℕ → ℕ) (rows : List Registered) (len : ℕ) → e.answer ≡ Stored reply ends rows len
+    → (reply : Reply) (ends : ℕ → ℕ) (rows : List RegisteredRow) (len : ℕ) → e.answer ≡ Stored reply ends rows len
     → (r : ℕ) → IsPrefix (accepted_by (first_accepted s0 i0) i0 ahead r) (durable_at e.after.rows r)

@@ -10,7 +10,7 @@ use Rattle.series_model.specs.declared.sample.Sample.{Sample}
 use Rattle.series_model.specs.Sampling.{first_cell}
 use Rattle.series_model.specs.Series.{over, end_of}
 use Rattle.act_model.specs.Changes.{each, of_row}
-use Rattle.act_model.specs.Limbo.{FileState}
+use Rattle.act_model.specs.Limbo.{RowFile}
 use Rattle.act_model.specs.Machine.{Machine, PinState, MoveState, Change, AddsRow, SetsState, Renames, Appends, Publishes, Unlists}
 use Rattle.act_model.specs.Rows.{RowState, accepted}
 use Rattle.act_model.specs.Rule.{Rule}
@@ -32,7 +32,7 @@ pub record StoreRow : Type 0 where
 pub record StoreHalf : Type 0 where
   pub rule : Rule
   pub rows : List StoreRow
-  pub limbo : List FileState
+  pub limbo : List RowFile
   pub pins : FinMap nat_cmp PinState
   pub moves : FinMap nat_cmp MoveState
   pub doubt : Option Change
@@ -162,7 +162,7 @@ store_of n old m =
 -- WHAT IS TOLD OF ROWS
 
 -- a row as it is registered
-pub record Registered : Type 0 where
+pub record RegisteredRow : Type 0 where
   pub row : ℕ
   pub name : List ℕ
   pub about : About
@@ -170,11 +170,11 @@ pub record Registered : Type 0 where
   pub base : Option ℕ
   pub changed : ℕ
 
-abbrev pub registered : ℕ → StoreRow → Registered
+abbrev pub registered : ℕ → StoreRow → RegisteredRow
 registered i row = record { row = i; name = row.name; about = row.about; state = row.state; base = row.base; changed = row.changed }
 
 -- the rows from a number on whose change number is greater
-abbrev pub changed_since : ℕ → ℕ → List StoreRow → List Registered
+abbrev pub changed_since : ℕ → ℕ → List StoreRow → List RegisteredRow
 changed_since upto i [] = []
 changed_since upto i (row ∷ rows) =
     if nat_lt upto row.changed then registered i row ∷ changed_since upto (i + 1) rows else changed_since upto (i + 1) rows

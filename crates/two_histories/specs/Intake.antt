@@ -2,7 +2,7 @@
 use Rattle.std.specs.Prelude.{◌≡◌, ◌⊎◌, ℕ, ◌≤◌, List, [], ◌∷◌, ◌++◌, max, Option, Some, None, ◌==◌, nat_lt, if◌then◌else◌}
 use Rattle.series_model.specs.declared.sample.Sample.{Sample}
 use Rattle.series_model.specs.Series.{end_of, since}
-use Rattle.two_histories.specs.Histories.{Entry}
+use Rattle.two_histories.specs.Histories.{HalfEntry}
 use Rattle.two_histories.specs.Store.{Lists, Numbers}
 
 -- what is accepted of each row, the tail that is left of it, the change numbers known, and the greatest store length that a flush told
@@ -28,7 +28,7 @@ pub data IntakeAnswer : Type 0 where
   Refused : IntakeAnswer
 
 abbrev pub IntakeEntry : Type 0
-IntakeEntry = Entry IntakePart IntakeAnswer IntakeHalf
+IntakeEntry = HalfEntry IntakePart IntakeAnswer IntakeHalf
 
 -- the row's list has the sample at its end
 abbrev pub with_more : ℕ → Sample → Lists → Lists

@@ -9,8 +9,8 @@ use Rattle.act_model.specs.Machine.{Machine, held_bytes}
 use Rattle.act_model.specs.Reply.{Reply}
 use Rattle.act_model.specs.Step.{Step, MayAsk}
 use Rattle.two_histories.specs.ArchiveIntake.{IntakeHalf, RowLook, machine_of, position, intake_of, batch_of, bytes_in, known_as, look_at, taken}
-use Rattle.two_histories.specs.ArchiveStore.{Registered}
-use Rattle.two_histories.specs.Histories.{Entry}
+use Rattle.two_histories.specs.ArchiveStore.{RegisteredRow}
+use Rattle.two_histories.specs.Histories.{HalfEntry}
 
 -- Offers carries an Offer, Doors or DoorDone of the machine. A Look asks for the doors, for a batch too, or for one row. A Take names
 -- where rows end and rows that changed, and that of a flush its length too.
@@ -20,8 +20,8 @@ pub data IntakePart : Type 0 where
   LooksForDoors : IntakePart
   LooksForBatch : (limit : ℕ) → IntakePart
   LooksAt : (name : List ℕ) → IntakePart
-  Takes : (ends : ℕ → ℕ) → (rows : List Registered) → IntakePart
-  TakesFlush : (len : ℕ) → (ends : ℕ → ℕ) → (rows : List Registered) → IntakePart
+  Takes : (ends : ℕ → ℕ) → (rows : List RegisteredRow) → IntakePart
+  TakesFlush : (len : ℕ) → (ends : ℕ → ℕ) → (rows : List RegisteredRow) → IntakePart
 
 pub data IntakeAnswer : Type 0 where
   Replies : (reply : Reply) → IntakeAnswer
@@ -31,7 +31,7 @@ pub data IntakeAnswer : Type 0 where
   Took : IntakeAnswer
 
 abbrev pub IntakeEntry : Type 0
-IntakeEntry = Entry IntakePart IntakeAnswer IntakeHalf
+IntakeEntry = HalfEntry IntakePart IntakeAnswer IntakeHalf
 
 -- the machine's acts on the intake, but ticks
 abbrev pub IsOfIntake : Act → Type 0
@@ -52,6 +52,6 @@ pub data IntakeStep (who : ℕ) : IntakeHalf → IntakePart → IntakeAnswer →
       → IntakeStep who old (LooksForBatch limit)
       (SawBatch old.doors (batch_of limit old) (held_bytes (machine_of old).rows - bytes_in (batch_of limit old)) old.upto) old
   sees_row : {old : IntakeHalf} (name : List ℕ) → IntakeStep who old (LooksAt name) (SawRow old.doors (look_at name (known_as old.rows name))) old
-  takes : {old : IntakeHalf} (ends : ℕ → ℕ) (rows : List Registered) → IntakeStep who old (Takes ends rows) Took (taken ends rows old)
-  takes_flush : {old : IntakeHalf} (len : ℕ) (ends : ℕ → ℕ) (rows : List Registered)
+  takes : {old : IntakeHalf} (ends : ℕ → ℕ) (rows : List RegisteredRow) → IntakeStep who old (Takes ends rows) Took (taken ends rows old)
+  takes_flush : {old : IntakeHalf} (len : ℕ) (ends : ℕ → ℕ) (rows : List RegisteredRow)
       → IntakeStep who old (TakesFlush len ends rows) Took (record (taken ends rows old) { upto = max old.upto len })

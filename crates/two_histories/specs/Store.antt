@@ -2,7 +2,7 @@
 use Rattle.std.specs.Prelude.{◌≡◌, ℕ, Bool, List, Option, Some, None, nat_lt, if◌then◌else◌}
 use Rattle.series_model.specs.declared.sample.Sample.{Sample}
 use Rattle.series_model.specs.Series.{over, since, end_of}
-use Rattle.two_histories.specs.Histories.{Entry}
+use Rattle.two_histories.specs.Histories.{HalfEntry}
 
 -- samples by row
 abbrev pub Lists : Type 0
@@ -13,15 +13,15 @@ abbrev pub Numbers : Type 0
 Numbers = ℕ → Option ℕ
 
 -- what a failed write may have done: appended a batch, or added or altered rows
-pub data Change : Type 0 where
-  Appends : (batch : Lists) → Change
-  Alters : (rows : ℕ → Bool) → Change
+pub data StoreChange : Type 0 where
+  Appends : (batch : Lists) → StoreChange
+  Alters : (rows : ℕ → Bool) → StoreChange
 
 -- what is durable of each row, its change number, and the change in doubt
 pub record StoreHalf : Type 0 where
   pub durable : Lists
   pub changed : Numbers
-  pub doubt : Option Change
+  pub doubt : Option StoreChange
 
 -- Flush carries the batch and the number that a Look told, Alter is Register, Pause and Resume of a row, or Rename, which adds one and retires
 -- another, and Pin and Details carry a Look's tail
@@ -40,32 +40,32 @@ pub data StoreAnswer : Type 0 where
   Refused : StoreAnswer
 
 abbrev pub StoreEntry : Type 0
-StoreEntry = Entry StorePart StoreAnswer StoreHalf
+StoreEntry = HalfEntry StorePart StoreAnswer StoreHalf
 
 -- these rows have this number
 abbrev pub with_number : (ℕ → Bool) → ℕ → Numbers → Numbers
 with_number rows n numbers r = if rows r then Some n else numbers r
 
 -- the half with the change made, by the entry with which its history has this length
-abbrev pub made : ℕ → Change → StoreHalf → StoreHalf
+abbrev pub made : ℕ → StoreChange → StoreHalf → StoreHalf
 made n (Appends batch) m = record m { durable = λ r. over (m.durable r) (batch r) }
 made n (Alters rows) m = record m { changed = with_number rows n m.changed }
 
 -- a doubt is settled, as not made or as made
 pub data Settles (n : ℕ) : StoreHalf → StoreHalf → Type 0 where
   no_doubt : {m : StoreHalf} → m.doubt ≡ None → Settles n m m
-  as_not_made : {m : StoreHalf} (change : Change) → m.doubt ≡ Some change → Settles n m (record m { doubt = None })
-  as_made : {m : StoreHalf} (change : Change) → m.doubt ≡ Some change → Settles n m (record (made n change m) { doubt = None })
+  as_not_made : {m : StoreHalf} (change : StoreChange) → m.doubt ≡ Some change → Settles n m (record m { doubt = None })
+  as_made : {m : StoreHalf} (change : StoreChange) → m.doubt ≡ Some change → Settles n m (record (made n change m) { doubt = None })
 
 -- the change that a part makes
-abbrev pub change_by : StorePart → Option Change
+abbrev pub change_by : StorePart → Option StoreChange
 change_by (Flush batch upto) = Some (Appends batch)
 change_by (Alter rows) = Some (Alters rows)
 change_by (Pin row tail) = None
 change_by Rest = None
 
 -- what is written of a change: of a batch, the samples later than each row's last
-abbrev pub written : Change → StoreHalf → Change
+abbrev pub written : StoreChange → StoreHalf → StoreChange
 written (Appends batch) m = Appends (λ r. since (end_of (m.durable r)) (batch r))
 written (Alters rows) m = Alters rows
 
@@ -81,7 +81,7 @@ newer upto (Some n) = if nat_lt upto n then Some n else None
 pub data StoreStep (n : ℕ) : StoreHalf → StorePart → StoreAnswer → StoreHalf → Type 0 where
   stays : {old : StoreHalf} {part : StorePart} → StoreStep n old part Refused old
   settles : {old mid : StoreHalf} {part : StorePart} → Settles n old mid → StoreStep n old part Refused mid
-  fails : {old mid : StoreHalf} {part : StorePart} (change : Change) → change_by part ≡ Some change → Settles n old mid
+  fails : {old mid : StoreHalf} {part : StorePart} (change : StoreChange) → change_by part ≡ Some change → Settles n old mid
       → StoreStep n old part Refused (record mid { doubt = Some (written change mid) })
   flushes : {old mid : StoreHalf} (batch : Lists) (upto : ℕ) → Settles n old mid
       → StoreStep n old (Flush batch upto) (Flushed (ends_of (made n (Appends batch) mid)) (λ r. newer upto (mid.changed r)) n) (made n (Appends batch) mid)

@@ -14,7 +14,7 @@ use Rattle.act_model.specs.Details.{details_refused, Describes}
 use Rattle.act_model.specs.Flush.{count_in}
 use Rattle.act_model.specs.Machine.{Machine, Change, Renames, Appends, find_row}
 use Rattle.act_model.specs.Outcome.{Acts, all_go, Makes}
-use Rattle.act_model.specs.Pin.{Pins}
+use Rattle.act_model.specs.Pin.{MakesPin}
 use Rattle.act_model.specs.Register.{register_refused}
 use Rattle.act_model.specs.Rename.{last_durable, renames_of}
 use Rattle.act_model.specs.Reply.{Reply}
@@ -22,8 +22,8 @@ use Rattle.act_model.specs.Rows.{RowState, accepted, durable, is_empty, is_pause
 use Rattle.act_model.specs.Step.{Step, MayAsk}
 use Rattle.act_model.specs.Whole.{whole}
 use Rattle.two_histories.specs.ArchiveIntake.{RowLook}
-use Rattle.two_histories.specs.ArchiveStore.{StoreHalf, StoreRow, Registered, changed_at, machine_of, store_of, changed_since, with_ends}
-use Rattle.two_histories.specs.Histories.{Entry}
+use Rattle.two_histories.specs.ArchiveStore.{StoreHalf, StoreRow, RegisteredRow, changed_at, machine_of, store_of, changed_since, with_ends}
+use Rattle.two_histories.specs.Histories.{HalfEntry}
 
 -- What is asked of the store. A flush carries the batch, the number, the bytes left out and the doors that a Look told, and a beginning
 -- of a move its doors; a pin, details and a new name carry a Look at one row.
@@ -39,10 +39,10 @@ pub data StorePart : Type 0 where
 -- length of the store's history with this entry in it.
 pub data StoreAnswer : Type 0 where
   Replies : (reply : Reply) → StoreAnswer
-  Stored : (reply : Reply) → (ends : ℕ → ℕ) → (rows : List Registered) → (len : ℕ) → StoreAnswer
+  Stored : (reply : Reply) → (ends : ℕ → ℕ) → (rows : List RegisteredRow) → (len : ℕ) → StoreAnswer
 
 abbrev pub StoreEntry : Type 0
-StoreEntry = Entry StorePart StoreAnswer StoreHalf
+StoreEntry = HalfEntry StorePart StoreAnswer StoreHalf
 
 -- the acts that carry nothing of the intake and touch no tail
 abbrev pub IsOfStore : Act → Type 0
@@ -118,7 +118,7 @@ OverTail look Runs mid reply new = (end : Machine) × Runs (tail_of look mid) re
 abbrev pub seen_by : RowLook → ℕ
 seen_by look = of look.known
   where
-    of : Option Registered → ℕ
+    of : Option RegisteredRow → ℕ
     of None = 0
     of (Some r) = r.changed
 
@@ -171,7 +171,7 @@ abbrev pub PartRuns : ℕ → (ℕ → State → ℕ) → StorePart → Machine 
 PartRuns who number (Does act) = Step who act
 PartRuns who number (BeginsMove store now doors) = Step who (MoveBegin store now)
 PartRuns who number (Flushes batch upto left doors) = Acts (λ m. None) (FlushesBatch batch left doors) (λ m. Some (appends batch m)) all_go
-PartRuns who number (PinsAt query look) = Acts (details_refused look.name) (OverTail look (Pins who look.name query)) (λ m. None) all_go
+PartRuns who number (PinsAt query look) = Acts (details_refused look.name) (OverTail look (MakesPin who look.name query)) (λ m. None) all_go
 PartRuns who number (DescribesAt look) = Acts (details_refused look.name) (OverTail look (Describes look.name)) (λ m. None) all_go
 PartRuns who number (RenamesAt newname look) = RenamesBy number newname look
 

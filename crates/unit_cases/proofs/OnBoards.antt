@@ -14,7 +14,7 @@ use Rattle.act_model.specs.Answers.{is_answer_to}
 use Rattle.act_model.specs.Changes.{made, no_doubt}
 use Rattle.act_model.specs.Details.{details_refused}
 use Rattle.act_model.specs.Flush.{FlushStep, batch_from, batch_of}
-use Rattle.act_model.specs.Limbo.{FileState}
+use Rattle.act_model.specs.Limbo.{RowFile}
 use Rattle.act_model.specs.Machine.{Machine, Appends, MoveState, PinState, find_row, held_bytes, same_bytes}
 use Rattle.act_model.specs.MoveBegin.{MoveBeginStep, none_to_make}
 use Rattle.act_model.specs.OpenPiece.{wants_memory_opening}
@@ -165,7 +165,7 @@ module _ (who : ℕ) (board : Board) where
   pub swept_none : StepsTo who Sweep board (Swept 0) board
   swept_none m st =
       let untold = st.untold in
-      let n = record m { limbo = filter (λ (f : FileState). true) m.limbo } in
+      let n = record m { limbo = filter (λ (f : RowFile). true) m.limbo } in
       let step : Step who Sweep m (Swept 0) n = runs {mid = m} (Swept 0) refl (no_doubt st.certain) refl (record { stays = λ f. true; just = rw st.limbo tt; files = 0; number = λ tells. absurd (cc); answered = refl; same = refl }) (omega arith) in
       (n, step, record { sound = step_sound who Sweep m n (Swept 0) st.sound tt step; rows = st.rows; pins = st.pins; limbo = rw st.limbo refl; untold = st.untold; doors = st.doors; certain = st.certain })
 

@@ -1,9 +1,9 @@
 -- Passes of rooms stand for what the value stands for that the rooms were opened with.
 use Rattle.std.proofs.Common.{◌≡◌, ℕ, List, sym, subst, ap}
-use Rattle.turn_rooms.specs.declared.room.Entry.{Entry}
+use Rattle.turn_rooms.specs.declared.room.RoomEntry.{RoomEntry}
 use Rattle.turn_rooms.specs.declared.rooms.Pass.{Pass}
 use Rattle.turn_rooms.specs.declared.rooms.Rooms.{Rooms}
-use Rattle.turn_rooms.specs.declared.view.Seen.{Seen}
+use Rattle.turn_rooms.specs.declared.view.RoomSeen.{RoomSeen}
 use Rattle.turn_rooms.specs.Histories.{end_of}
 use Rattle.turn_rooms.specs.Passes.{Meets, Opens, Parts, opened, known}
 use Rattle.act_model.specs.declared.acts.Act.{Act}
@@ -22,7 +22,7 @@ module _ {S B : Type 0} (steps : S → ℕ → ℕ → Act → B → S → Type 
         record {
           is_pass = opens.rooms;
           begun = (m, begun);
-          now = subst (λ (h : List (Entry S Act B)). stands (end_of (opened rooms) h) m) (sym opens.knows) begun;
+          now = subst (λ (h : List (RoomEntry S Act B)). stands (end_of (opened rooms) h) m) (sym opens.knows) begun;
         },
       )
 
@@ -36,13 +36,13 @@ module _ {S B : Type 0} (steps : S → ℕ → ℕ → Act → B → S → Type 
       → ((m : Machine) × StandsFor steps stands rooms new m) × ((m : Machine) × StandsFor steps stands rooms note m)
   both_seated old new note made here =
       let m = here.0 in
-      let same : known new ≡ known old = ap (λ (s : Seen S Act B). s.known) made.same_seen in (
+      let same : known new ≡ known old = ap (λ (s : RoomSeen S Act B). s.known) made.same_seen in (
         (
           m,
           record {
             is_pass = made.rooms;
             begun = here.1.begun;
-            now = subst (λ (h : List (Entry S Act B)). stands (end_of (opened rooms) h) m) (sym same) here.1.now;
+            now = subst (λ (h : List (RoomEntry S Act B)). stands (end_of (opened rooms) h) m) (sym same) here.1.now;
           },
         ),
         (
@@ -50,7 +50,7 @@ module _ {S B : Type 0} (steps : S → ℕ → ℕ → Act → B → S → Type 
           record {
             is_pass = made.note_rooms;
             begun = here.1.begun;
-            now = subst (λ (h : List (Entry S Act B)). stands (end_of (opened rooms) h) m) (sym made.note_knows) here.1.now;
+            now = subst (λ (h : List (RoomEntry S Act B)). stands (end_of (opened rooms) h) m) (sym made.note_knows) here.1.now;
           },
         ),
       )

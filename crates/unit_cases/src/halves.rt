@@ -49,7 +49,7 @@ pub enum Ask {
 
 /// How many were offered, and how many of them it still keeps.
 #[derive(Drop)]
-pub struct Tally {
+pub struct IntakeCount {
     pub accepted: u64,
     pub kept: u64,
 }
@@ -77,7 +77,7 @@ impl Room for Vault {
     }
 }
 
-impl Room for Tally {
+impl Room for IntakeCount {
     type Act = Ask;
 
     type Answer = u64;
@@ -105,7 +105,7 @@ impl Room for Tally {
     }
 }
 
-impl Beside<Vault> for Tally {
+impl Beside<Vault> for IntakeCount {
     ghost store_allows = { flush_allowed };
 
     ghost intake_allows = { take_allowed };
@@ -120,8 +120,8 @@ impl Beside<Vault> for Tally {
 /// Has the store keep what the intake has, and the intake let go of it.
 pub fn store_all(
     rt: &impl Wait,
-    twin: &Twin<Vault, Tally>,
-    pass: &mut TwinPass<Vault, Tally>,
+    twin: &Twin<Vault, IntakeCount>,
+    pass: &mut TwinPass<Vault, IntakeCount>,
     holds: bool,
 ) -> bool
     requires { IsPass twin.now pass.old }

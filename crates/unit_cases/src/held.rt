@@ -3,7 +3,7 @@ ghost use Rattle.std.specs.Prelude.{◌≡◌, IfSome};
 ghost use Rattle.turn_rooms.specs.TwinPasses.{TwinTakesBack, pass_standing};
 ghost use Rattle.unit_cases.specs.Halves.{IsPass};
 
-use crate::halves::{Ask, Tally, Vault, store_all, wait_at};
+use crate::halves::{Ask, IntakeCount, Vault, store_all, wait_at};
 use std::alloc::Global;
 use std::sync::atomic::{AtomicU64, Ordering};
 use std::sync::{Arc, Wait};
@@ -14,9 +14,9 @@ use turn_rooms::{Tried, Twin, TwinPass};
 // Flushes, and holds the store meanwhile.
 fn hold(
     rt: &impl Wait,
-    twin: &Twin<Vault, Tally>,
-    mut pass: TwinPass<Vault, Tally>,
-) -> TwinPass<Vault, Tally>
+    twin: &Twin<Vault, IntakeCount>,
+    mut pass: TwinPass<Vault, IntakeCount>,
+) -> TwinPass<Vault, IntakeCount>
     requires { IsPass twin.now pass }
     ensures { IsPass twin.now result × (pass_standing result ≡ pass_standing pass) }
 {
@@ -27,9 +27,9 @@ fn hold(
 // Offers while the store is held.
 fn offer(
     gate: &AtomicU64,
-    twin: &Twin<Vault, Tally>,
-    mut pass: TwinPass<Vault, Tally>,
-) -> (TwinPass<Vault, Tally>, bool)
+    twin: &Twin<Vault, IntakeCount>,
+    mut pass: TwinPass<Vault, IntakeCount>,
+) -> (TwinPass<Vault, IntakeCount>, bool)
     requires { IsPass twin.now pass }
     ensures { IsPass twin.now result.0 × (pass_standing result.0 ≡ pass_standing pass) }
 {
@@ -42,9 +42,9 @@ fn offer(
 fn hold_and_offer<R: Threads + Wait + Sync>(
     rt: &R,
     gate: &AtomicU64,
-    twin: &Twin<Vault, Tally>,
-    mut pass: TwinPass<Vault, Tally>,
-) -> Option<(TwinPass<Vault, Tally>, bool)>
+    twin: &Twin<Vault, IntakeCount>,
+    mut pass: TwinPass<Vault, IntakeCount>,
+) -> Option<(TwinPass<Vault, IntakeCount>, bool)>
     requires { IsPass twin.now pass }
     ensures { IfSome result (λ p. IsPass twin.now p.0 × TwinTakesBack pass p.0) }
 {
@@ -53,11 +53,11 @@ fn hold_and_offer<R: Threads + Wait + Sync>(
     };
     let (mut pass, (note, done)) = thread::join(
         rt,
-        || -> TwinPass<Vault, Tally>
+        || -> TwinPass<Vault, IntakeCount>
             requires { IsPass twin.now pass }
             ensures { IsPass twin.entry.now result × (pass_standing result ≡ pass_standing pass) }
         { hold(rt, twin, pass) },
-        || -> (TwinPass<Vault, Tally>, bool)
+        || -> (TwinPass<Vault, IntakeCount>, bool)
             requires { IsPass twin.now note }
             ensures { IsPass twin.entry.now result.0 × (pass_standing result.0 ≡ pass_standing note) }
         { offer(gate, twin, note) },
@@ -71,7 +71,7 @@ pub fn held<R: Threads + Wait + Sync>(rt: &R, alloc: Global) -> Option<(bool, u6
     let gate = Arc::new(alloc, AtomicU64::new(0)).ok()?;
     let theirs = Arc::try_clone(&gate).ok()?;
     let vault = Vault { flushed: 0, gate };
-    let tally = Tally {
+    let tally = IntakeCount {
         accepted: 5,
         kept: 5,
     };

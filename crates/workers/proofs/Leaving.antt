@@ -6,11 +6,11 @@ use Rattle.std.proofs.lemmas.Bool.Decides.{nat_tests}
 use Rattle.std.proofs.lemmas.List.Elements.{All-nil, All-cons, All-head, All-tail, All-push, All-weaker, Contains-append_left, Contains-append_right, Contains-append_cases}
 use Rattle.std.proofs.lemmas.Grind.{flat_map-append}
 use mathlib.Core.List.{IsPrefix}
-use Rattle.turn_rooms.specs.declared.room.Entry.{Entry}
+use Rattle.turn_rooms.specs.declared.room.RoomEntry.{RoomEntry}
 use Rattle.turn_rooms.specs.declared.rooms.Pass.{Pass}
 use Rattle.turn_rooms.specs.declared.rooms.Rooms.{Rooms}
-use Rattle.turn_rooms.specs.declared.view.Seen.{Seen}
-use Rattle.turn_rooms.specs.declared.view.Standing.{Standing}
+use Rattle.turn_rooms.specs.declared.view.RoomSeen.{RoomSeen}
+use Rattle.turn_rooms.specs.declared.view.SeatNumbers.{SeatNumbers}
 use Rattle.turn_rooms.specs.Histories.{most_numbers, by}
 use Rattle.turn_rooms.specs.Passes.{IsPassOf, IsLast, Goes, Stays, Parts, Meets, KnowsAllOf, known, stands, gave, drained}
 use Rattle.turn_rooms.proofs.Lists.{no_element, has_first, cons_cases, cons_more, prefix_self, prefix_trans, by_behind, by_none}
@@ -47,14 +47,14 @@ has_or_not q (x ∷ xs) = by_test (x == q) refl (has_or_not q xs)
     by_test false miss (inr none) = inr (λ c. ⊎_elim {C = ⊥} (λ same. let bad : ⊥ = grind (arith, nat_tests) in bad) none (cons_cases x xs q c))
 
 -- what goes on from a history, with no more entries of any number, is that history
-same_numbers : {S A B : Type 0} (xs ys : List (Entry S A B)) → IsPrefix xs ys → ((q : ℕ) → by q ys ≡ by q xs) → ys ≡ xs
+same_numbers : {S A B : Type 0} (xs ys : List (RoomEntry S A B)) → IsPrefix xs ys → ((q : ℕ) → by q ys ≡ by q xs) → ys ≡ xs
 same_numbers {S} {A} {B} xs ys p same = by_rest p.0 p.1
   where
-    by_rest : (rest : List (Entry S A B)) → xs ++ rest ≡ ys → ys ≡ xs
+    by_rest : (rest : List (RoomEntry S A B)) → xs ++ rest ≡ ys → ys ≡ xs
     by_rest [] is = sym is ∙ append-nil xs
     by_rest (e ∷ rest) is =
         let more = by_behind xs e rest in
-        let none : length (by e.who (xs ++ e ∷ rest)) ≡ length (by e.who xs) = ap (λ (h : List (Entry S A B)). length (by e.who h)) is ∙ ap length (same e.who) in
+        let none : length (by e.who (xs ++ e ∷ rest)) ≡ length (by e.who xs) = ap (λ (h : List (RoomEntry S A B)). length (by e.who h)) is ∙ ap length (same e.who) in
         absurd (omega arith)
 
 module _ {S A B : Type 0} where
@@ -160,13 +160,13 @@ module _ {S A B : Type 0} (steps : S → ℕ → ℕ → A → B → S → Type 
       stands_went [] [] w = refl
       stands_went [] (m ∷ ms) w = absurd w
       stands_went (n ∷ ns) [] w = absurd w
-      stands_went (n ∷ ns) (m ∷ ms) w = rw (ap (λ (s : Standing). s.stands) w.0.same_standing, stands_went ns ms w.1) refl
+      stands_went (n ∷ ns) (m ∷ ms) w = rw (ap (λ (s : SeatNumbers). s.stands) w.0.same_standing, stands_went ns ms w.1) refl
 
       gave_went : (ns ms : List Q) → AllZip (Goes steps r) ns ms → gv ms ≡ gv ns
       gave_went [] [] w = refl
       gave_went [] (m ∷ ms) w = absurd w
       gave_went (n ∷ ns) [] w = absurd w
-      gave_went (n ∷ ns) (m ∷ ms) w = rw (ap (λ (s : Standing). s.gave) w.0.same_standing, gave_went ns ms w.1) refl
+      gave_went (n ∷ ns) (m ∷ ms) w = rw (ap (λ (s : SeatNumbers). s.gave) w.0.same_standing, gave_went ns ms w.1) refl
 
   -- DRAWN
 
@@ -182,7 +182,7 @@ module _ {S A B : Type 0} (steps : S → ℕ → ℕ → A → B → S → Type 
 
   pub drawn_more : (o a b : Q) (ns : List Q) (n : Q) → Drawn steps r o a ns → Parts steps r a b n → Drawn steps r o b (ns ++ n ∷ [])
   drawn_more o a b ns n d parts =
-      let knows : known b ≡ known o = ap (λ (s : Seen S A B). s.known) parts.same_seen ∙ d.knows in
+      let knows : known b ≡ known o = ap (λ (s : RoomSeen S A B). s.known) parts.same_seen ∙ d.knows in
       record {
         left = left_drawn a b ns n d.left parts;
         knows = knows;
@@ -196,7 +196,7 @@ module _ {S A B : Type 0} (steps : S → ℕ → ℕ → A → B → S → Type 
   pub drawn_stays : (o a b : Q) (ns : List Q) → Drawn steps r o a ns → Stays steps r a b → drained b ≡ drained a + 1 → Drawn steps r o b ns
   drawn_stays o a b ns d stays more = record {
     left = left_stays a b ns d.left stays;
-    knows = ap (λ (s : Seen S A B). s.known) stays.same_seen ∙ d.knows;
+    knows = ap (λ (s : RoomSeen S A B). s.known) stays.same_seen ∙ d.knows;
     same_number = stays.same_number ∙ d.same_number;
     same_stands = stays.same_stands ∙ d.same_stands;
     drained_rises = let low = d.drained_rises in omega arith;
@@ -216,7 +216,7 @@ module _ {S A B : Type 0} (steps : S → ℕ → ℕ → A → B → S → Type 
   drawn_acts o b q [] fresh knows = inr (All-nil (λ (n : Q). ¬ Contains (stands n) q))
   drawn_acts o b q (n ∷ ns) fresh knows =
       ⊎_elim {C = (by q (known b) ≡ by q (known o)) ⊎ All (λ (k : Q). ¬ Contains (stands k) q) (n ∷ ns)}
-      (λ c. inl ((All-head (λ (k : Q). KnowsAllOf k b) n ns knows).acts q c ∙ ap (λ (h : List (Entry S A B)). by q h) (All-head (λ (k : Q). IsNew o k) n ns fresh).knows))
+      (λ c. inl ((All-head (λ (k : Q). KnowsAllOf k b) n ns knows).acts q c ∙ ap (λ (h : List (RoomEntry S A B)). by q h) (All-head (λ (k : Q). IsNew o k) n ns fresh).knows))
       (λ no. ⊎_elim {C = (by q (known b) ≡ by q (known o)) ⊎ All (λ (k : Q). ¬ Contains (stands k) q) (n ∷ ns)}
       (λ same. inl same)
       (λ none. inr (All-cons (λ (k : Q). ¬ Contains (stands k) q) n ns no none))
@@ -230,7 +230,7 @@ module _ {S A B : Type 0} (steps : S → ℕ → ℕ → A → B → S → Type 
       same_numbers (known o) (known b) (drawn_back o a b (n ∷ ns) d met).goes_on
       (λ q. ⊎_elim {C = by q (known b) ≡ by q (known o)}
       (λ same. same)
-      (λ none. met.only (omega arith) q none ∙ ap (λ (h : List (Entry S A B)). by q h) d.knows)
+      (λ none. met.only (omega arith) q none ∙ ap (λ (h : List (RoomEntry S A B)). by q h) d.knows)
       (drawn_acts o b q (n ∷ ns) d.each met.each))
 
   -- each stands for one number

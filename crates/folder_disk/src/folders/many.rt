@@ -25,7 +25,7 @@ const STACK: usize = 262_144;
 const FEW: usize = 4;
 
 #[derive(Clone, Copy, PartialEq, Eq)]
-enum Kind {
+enum PathKind {
     File,
     Folder,
 }
@@ -34,14 +34,14 @@ enum Kind {
 #[derive(Drop)]
 struct Target {
     path: String,
-    kind: Kind,
+    kind: PathKind,
 }
 
 // What is to be synced at a path.
 #[derive(Drop)]
 struct Job {
     path: String,
-    kind: Kind,
+    kind: PathKind,
     // It is open until it is synced.
     file: Option<File>,
     // Why its sync failed, where it did.
@@ -52,8 +52,8 @@ impl Job {
     fn run(&mut self) {
         if let Some(file) = self.file.take() {
             let written = match self.kind {
-                Kind::File => file.sync_data(),
-                Kind::Folder => file.sync_all(),
+                PathKind::File => file.sync_data(),
+                PathKind::Folder => file.sync_all(),
             };
             self.failed = written.err();
         }
@@ -146,7 +146,7 @@ impl<R: Files<File = File> + Drop> Folders<R> {
         let mut targets = Vec::with_capacity(self.alloc, self.changed.len())?;
         for path in self.changed.keys() {
             let path = String::from_str(self.alloc, path.as_str())?;
-            let kind = Kind::File;
+            let kind = PathKind::File;
             targets.push(Target { path, kind })?;
         }
         Ok(targets)
@@ -188,12 +188,12 @@ impl<R: Files<File = File> + Drop> Folders<R> {
                 }
             }
             if !self.settled.contains(path.as_str()) {
-                let kind = Kind::File;
+                let kind = PathKind::File;
                 targets.push(Target { path, kind })?;
             }
         }
         for path in folders {
-            let kind = Kind::Folder;
+            let kind = PathKind::Folder;
             targets.push(Target { path, kind })?;
         }
         Ok(targets)
@@ -244,8 +244,8 @@ impl<R: Files<File = File> + Drop> Folders<R> {
     fn opened(&mut self, target: &Target) -> io::Result<Option<Job>> {
         let path = target.path.as_str();
         let opened = match target.kind {
-            Kind::File => self.opened_file(path),
-            Kind::Folder => fs::open(&self.files, path),
+            PathKind::File => self.opened_file(path),
+            PathKind::Folder => fs::open(&self.files, path),
         };
         match opened {
             Ok(file) => Ok(Some(Job {
@@ -280,7 +280,7 @@ impl<R: Files<File = File> + Drop> Folders<R> {
                 if let Some(e) = job.failed {
                     return self.noted(job.path.as_str(), Err(e));
                 }
-                if job.kind == Kind::Folder {
+                if job.kind == PathKind::Folder {
                     self.synced.insert(job.path)?;
                 }
             }

@@ -4,7 +4,7 @@
 // which is on the disk before the next: the site's mark, then those of the stores, then the line in the site's that all
 // are there. So without that line marking goes on where it was broken off, and with it a store's folder without its
 // mark isn't the archive's.
-use super::{ADOPTION, Access, Folders, LOCK, Turn, is_closed, read_from};
+use super::{ADOPTION, Access, Claim, Folders, LOCK, is_closed, read_from};
 use crate::marks::{DONE, MARK, Mark, ROOM, identity_of, line_of, mark_of, word_of};
 use std::fs::{self, File, OpenOptions, TryLockError};
 use std::io::{self, ErrorKind};
@@ -24,8 +24,8 @@ impl<R: Files<File = File> + Drop> Folders<R> {
     // Before the first call: takes the locks, and looks whether the stores have folders of their
     // own that are the archive's.
     pub(super) fn begin(&mut self) -> io::Result<()> {
-        if matches!(self.turn, Turn::Waits) {
-            self.turn = self.take_turn()?;
+        if matches!(self.claim, Claim::Waits) {
+            self.claim = self.take_claim()?;
         }
         Ok(())
     }
@@ -48,7 +48,7 @@ impl<R: Files<File = File> + Drop> Folders<R> {
     }
 
     // The locks are taken in the order of the stores.
-    fn take_turn(&mut self) -> io::Result<Turn> {
+    fn take_claim(&mut self) -> io::Result<Claim> {
         let mut locks = Vec::new(self.alloc);
         let root = self.root_copy(0)?;
         if self.access.may_write() {
@@ -56,7 +56,7 @@ impl<R: Files<File = File> + Drop> Folders<R> {
         } else {
             let found = fs::exists(&self.files, root.as_str());
             if !self.noted(root.as_str(), found)? {
-                return Ok(Turn::Empty);
+                return Ok(Claim::Empty);
             }
         }
         if let Some(lock) = self.take_lock(0, LOCK, true)? {
@@ -78,7 +78,7 @@ impl<R: Files<File = File> + Drop> Folders<R> {
             self.check_store(store, site.as_ref())?;
         }
         self.is_marked = is_marked;
-        Ok(Turn::Taken(locks))
+        Ok(Claim::Taken(locks))
     }
 
     fn make_stores(&mut self) -> io::Result<()> {

@@ -4,7 +4,7 @@ use Rattle.std.proofs.lemmas.Option.{same_Some}
 use Rattle.intake.specs.Tails.{TailState, tail_at, KeepsTails, SetsTail}
 use Rattle.series_model.specs.declared.sample.Sample.{Sample}
 use Rattle.archive_core.specs.declared.memory.RowMemory.{RowMemory}
-use Rattle.archive_core.specs.declared.trying.Refusal.{Refusal}
+use Rattle.archive_core.specs.declared.trying.NotKept.{NotKept}
 use Rattle.archive_core.specs.Trying.{IsTried}
 use Rattle.archive_core.proofs.trying.try_held.Goals as goal
 
@@ -14,10 +14,10 @@ there {A} (Some x) is = (x, refl)
 there {A} None is = absurd (cc (is))
 
 -- what was tried is what is given up
-same_tried : (next held now : ℕ) (o : Option Sample) (r : Result (Unit {0}) Refusal) (a : Unit {0}) → (s : Sample) × (o ≡ Some s) × IsTried next held s.t (length s.line) now r → (x : Sample) → Some x ≡ o → r ≡ Ok a → IsTried next held x.t (length x.line) now (Ok tt)
+same_tried : (next held now : ℕ) (o : Option Sample) (r : Result (Unit {0}) NotKept) (a : Unit {0}) → (s : Sample) × (o ≡ Some s) × IsTried next held s.t (length s.line) now r → (x : Sample) → Some x ≡ o → r ≡ Ok a → IsTried next held x.t (length x.line) now (Ok tt)
 same_tried next held now o r a (s, is, tried) x given ok =
     let same : s ≡ x = sym (same_Some x s (given ∙ is)) in
-    subst (λ (w : Sample). IsTried next held w.t (length w.line) now (Ok tt)) same (subst (λ (q : Result (Unit {0}) Refusal). IsTried next held s.t (length s.line) now q) ok tried)
+    subst (λ (w : Sample). IsTried next held w.t (length w.line) now (Ok tt)) same (subst (λ (q : Result (Unit {0}) NotKept). IsTried next held s.t (length s.line) now q) ok tried)
 
 -- spares alone changed before
 set_over : (old mid new : List TailState) (row : ℕ) (xs : List Sample) → KeepsTails old mid → SetsTail row ((tail_at mid row).samples ++ xs) mid new → SetsTail row ((tail_at old row).samples ++ xs) old new

@@ -36,7 +36,7 @@ returns-clause-added c =
     let of = subst (λ (p : RowSamples). IsOfRow rows p) (sym c.part.view_is) c.requires.part in
     let same : of.row ≡ row = sym (get_or_from_slice_get rows part.row of.row row of.stands) ∙ sym c.index-rows-part.is in
     let P : Row → Type 0 = λ r. slice_get rows part.row ≡ Some r in
-    let G : Granularity → Type 0 = λ g. PlansOn g rows c.args.manifest.now.entries c.args.limbo.now part c.in_ok-count.count c.args.pieces.now.items c.add_samples.new.pieces.items in
-    let On : RowSamples → Type 0 = λ p. PlansOn c.args.manifest.now.granularity rows c.args.manifest.now.entries c.args.limbo.now p c.in_ok-count.count c.args.pieces.now.items c.add_samples.new.pieces.items in
+    let G : Granularity → Type 0 = λ g. PlansOn g rows c.args.manifest.now.entries c.args.limbo.now part c.in_ok-count.count c.args.writes.now.items c.add_samples.new.writes.items in
+    let On : RowSamples → Type 0 = λ p. PlansOn c.args.manifest.now.granularity rows c.args.manifest.now.entries c.args.limbo.now p c.in_ok-count.count c.args.writes.now.items c.add_samples.new.writes.items in
     let last = c.last_file-listed.ensures in
-    subst On c.part.view_is (subst G c.granularity.ensures (plans_on target rows c.args.manifest.now.entries c.args.limbo.now part row c.in_ok-count.count c.args.pieces.now.items c.add_samples.new.pieces.items last.0 refl (subst P same of.stands) last.1 last.2 c.in_ok-count.ensures.added))
+    subst On c.part.view_is (subst G c.granularity.ensures (plans_on target rows c.args.manifest.now.entries c.args.limbo.now part row c.in_ok-count.count c.args.writes.now.items c.add_samples.new.writes.items last.0 refl (subst P same of.stands) last.1 last.2 c.in_ok-count.ensures.added))

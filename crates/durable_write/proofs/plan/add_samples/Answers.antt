@@ -28,9 +28,9 @@ loop-sample-preserved c =
       | else-branch w ↦ rw (w.count-is, w.if-branch.false) (omega arith)
     ] in
     let few : c.if-branch.count ≤ i + 1 = omega (arith, count, c.loop-sample.invariant.counted, at_most_one taken) in
-    let P : ℕ → Type 0 = λ n. Adds target row (take (i + 1) xs) n c.args.pieces.now.items c.add_sample.new.pieces.items in
+    let P : ℕ → Type 0 = λ n. Adds target row (take (i + 1) xs) n c.args.writes.now.items c.add_sample.new.writes.items in
     record {
       draft = c.in_ok-add_sample.ensures.draft;
       counted = few;
-      added = subst P (sym count) (adds_next target row xs i c.loop-sample.count (cond taken 1 0) c.sample-item.result c.args.pieces.now.items c.loop-sample.pieces.items c.add_sample.new.pieces.items c.loop-sample-test.true c.sample-item.is c.requires.rising c.loop-sample.invariant.added c.in_ok-add_sample.ensures.added);
+      added = subst P (sym count) (adds_next target row xs i c.loop-sample.count (cond taken 1 0) c.sample-item.result c.args.writes.now.items c.loop-sample.writes.items c.add_sample.new.writes.items c.loop-sample-test.true c.sample-item.is c.requires.rising c.loop-sample.invariant.added c.in_ok-add_sample.ensures.added);
     }

@@ -4,6 +4,6 @@ use Rattle.durable_write.proofs.plan.extend_last.Goals as goal
 
 pub returns : goal.returns
 returns c =
-    let pieces = c.args.pieces.now.items in
-    let at = last_set pieces c.index_mut.result.now c.append.new.piece c.len-last.result (omega arith) c.requires c.index_mut.ensures.value in
-    record { rest = at.0; start = c.index_mut.result.now; piece = c.append.new.piece; are = at.1; appended = c.in_ok-append.ensures; becomes = at.2 }
+    let writes = c.args.writes.now.items in
+    let at = last_set writes c.index_mut.result.now c.append.new.write c.len-last.result (omega arith) c.requires c.index_mut.ensures.value in
+    record { rest = at.0; start = c.index_mut.result.now; write = c.append.new.write; are = at.1; appended = c.in_ok-append.ensures; becomes = at.2 }

@@ -6,7 +6,7 @@ use Rattle.std.proofs.lemmas.List.Sorted.{All-permutation}
 use Rattle.std.proofs.lemmas.Option.{slice_get_within}
 use Rattle.series_model.specs.declared.batch.RowSamples.{RowSamples}
 use Rattle.partition_names.specs.Part.{IsPart}
-use Rattle.durable_write.specs.declared.piece.Piece.{Piece}
+use Rattle.durable_write.specs.declared.file_write.FileWrite.{FileWrite}
 use Rattle.durable_write.specs.Flush.{IsOfRow}
 use Rattle.durable_write.specs.Plan.{Plans}
 use Rattle.durable_write.proofs.Batches.{counted_next, counted_within, plans_none, plans_next, plans_kept, flushes, each_seen, rows_follow}
@@ -14,11 +14,11 @@ use Rattle.durable_write.proofs.plan.plan_flush.Goals as goal
 
 pub loop-part-init : goal.loop-part-init
 loop-part-init c =
-    let none = c.new-pieces.ensures.items in
+    let none = c.new-writes.ensures.items in
     let g = c.args.manifest.now.granularity in
-    let Part : Piece → Type 0 = λ p. IsPart g p.entry.part in
-    let P : List Piece → Type 0 = λ l. All Part l in
-    let Q : List Piece → Type 0 = λ l. Plans g c.args.rows.now c.args.manifest.now.entries c.args.limbo.now [] 0 l in
+    let Part : FileWrite → Type 0 = λ p. IsPart g p.entry.part in
+    let P : List FileWrite → Type 0 = λ l. All Part l in
+    let Q : List FileWrite → Type 0 = λ l. Plans g c.args.rows.now c.args.manifest.now.entries c.args.limbo.now [] 0 l in
     record {
       parts = subst P (sym none) (All-nil Part);
       few = omega (arith, ap length none);
@@ -40,7 +40,7 @@ add_part-requires-clause-draft c = record {
   parts = c.loop-part.invariant.parts;
   few = c.loop-part.invariant.few;
   rows =
-      let Before : Bor RowSamples → Type 0 = λ b. All (λ (p : Piece). p.entry.series ≤ b.now.row) c.loop-part.pieces.items in
+      let Before : Bor RowSamples → Type 0 = λ b. All (λ (p : FileWrite). p.entry.series ≤ b.now.row) c.loop-part.writes.items in
       subst Before (sym c.part-item.is) (c.loop-part.invariant.before c.loop-part.part-index c.part-item.result (omega arith) c.loop-part-test.true);
 }
 
@@ -73,7 +73,7 @@ loop-part-preserved c =
           let follows = rows_follow (λ p. p.now) items i c.part-item.result sorted c.loop-part-test.true c.part-item.is k d low lt in
           omega (arith, before, follows);
       counted = counted_next (λ p. p.now) items i c.loop-part.count c.in_ok-more.more c.part-item.result c.loop-part-test.true c.part-item.is c.loop-part.invariant.counted c.in_ok-more.ensures.few;
-      plans = plans_next (λ p. p.now) g c.args.rows.now c.args.manifest.now.entries c.args.limbo.now items i c.loop-part.count c.in_ok-more.more c.part-item.result c.loop-part.pieces.items c.add_part.new.pieces.items c.loop-part-test.true c.part-item.is c.loop-part.invariant.plans c.in_ok-more.ensures.added;
+      plans = plans_next (λ p. p.now) g c.args.rows.now c.args.manifest.now.entries c.args.limbo.now items i c.loop-part.count c.in_ok-more.more c.part-item.result c.loop-part.writes.items c.add_part.new.writes.items c.loop-part-test.true c.part-item.is c.loop-part.invariant.plans c.in_ok-more.ensures.added;
     }
 
 pub returns-clause-flushes : goal.returns-clause-flushes
@@ -84,9 +84,9 @@ returns-clause-flushes c =
     let limbo = c.args.limbo.now in
     let items = c.deref-part-items.result.now in
     let count = c.loop-part.count in
-    let pieces = c.loop-part.pieces.items in
+    let writes = c.loop-part.writes.items in
     let end : take c.loop-part.part-index (map (λ p. p.now) items) ≡ map (λ p. p.now) items = take_all c.loop-part.part-index (map (λ p. p.now) items) (omega (arith, c.loop-part-test.false, length-map items (λ p. p.now))) in
-    let P : List RowSamples → Type 0 = λ l. Plans g rows entries limbo l count pieces in
-    let Q : List (Bor RowSamples) → Type 0 = λ l. Plans g rows entries limbo (map (λ p. p.now) l) count pieces in
+    let P : List RowSamples → Type 0 = λ l. Plans g rows entries limbo l count writes in
+    let Q : List (Bor RowSamples) → Type 0 = λ l. Plans g rows entries limbo (map (λ p. p.now) l) count writes in
     let all = subst Q c.deref-part-items.ensures.value (subst P end c.loop-part.invariant.plans) in
-    flushes g rows entries limbo c.args.batch.now count pieces (plans_kept g rows entries limbo c.args.batch.now (map (λ p. p.now) c.in_ok-order.order.items) count pieces c.in_ok-order.ensures.same all)
+    flushes g rows entries limbo c.args.batch.now count writes (plans_kept g rows entries limbo c.args.batch.now (map (λ p. p.now) c.in_ok-order.order.items) count writes c.in_ok-order.ensures.same all)

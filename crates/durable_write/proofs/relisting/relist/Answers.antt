@@ -3,7 +3,7 @@ use Rattle.std.proofs.lemmas.Result.{err_from_is_err_and}
 use Rattle.disk_model.specs.declared.disk.DiskErr.{DiskErr}
 use Rattle.disk_model.specs.declared.disk.DiskErr.TheVariants.{Fault, Memory}
 use Rattle.disk_model.proofs.Passing.{passes_weaker}
-use Rattle.gate_journal.specs.Standing.{standing}
+use Rattle.gate_journal.specs.DiskShown.{shown_by}
 use Rattle.durable_write.proofs.Staying.{err_cases}
 use Rattle.durable_write.proofs.Commits.{relists, relist_moment, relist_made, relist_unmade, relist_doubted, made_further, unsure_further}
 use Rattle.durable_write.proofs.relisting.relist.Goals as goal
@@ -12,14 +12,14 @@ pub returns-in_err-commit-clause-no_more : goal.returns-in_err-commit-clause-no_
 returns-in_err-commit-clause-no_more g c tells =
     ⊎_elim
     (λ (fault : c.in_err-commit.field-0.0 ≡ Fault).
-    unsure_further c.commit.new.self c.args.manifest.now.journal.name (standing g.D.Disk c.commit.new.disk) (g.D.Disk.opened c.args.disk.now) c.commit.ensures.state.1 (c.commit.ensures.commits tells).opened ((c.commit.ensures.commits tells).doubt (c.in_err-commit.was ∙ ap (λ (x : DiskErr). Err x) fault)))
+    unsure_further c.commit.new.self c.args.manifest.now.journal.name (shown_by g.D.Disk c.commit.new.disk) (g.D.Disk.opened c.args.disk.now) c.commit.ensures.state.1 (c.commit.ensures.commits tells).opened ((c.commit.ensures.commits tells).doubt (c.in_err-commit.was ∙ ap (λ (x : DiskErr). Err x) fault)))
     (λ (memory : c.in_err-commit.field-0.0 ≡ Memory).
-    made_further c.commit.new.self c.args.manifest.now.journal.name (standing g.D.Disk c.commit.new.disk) (g.D.Disk.opened c.args.disk.now) c.commit.ensures.state.1 (c.commit.ensures.commits tells).opened ((c.commit.ensures.commits tells).unchanged (c.in_err-commit.was ∙ ap (λ (x : DiskErr). Err x) memory)))
+    made_further c.commit.new.self c.args.manifest.now.journal.name (shown_by g.D.Disk c.commit.new.disk) (g.D.Disk.opened c.args.disk.now) c.commit.ensures.state.1 (c.commit.ensures.commits tells).opened ((c.commit.ensures.commits tells).unchanged (c.in_err-commit.was ∙ ap (λ (x : DiskErr). Err x) memory)))
     (err_cases c.in_err-commit.field-0.0)
 
 pub returns-clause-no_more : goal.returns-clause-no_more
 returns-clause-no_more g c tells =
-    made_further c.commit.new.self c.args.manifest.now.journal.name (standing g.D.Disk c.commit.new.disk) (g.D.Disk.opened c.args.disk.now) c.commit.ensures.state.1 (c.commit.ensures.commits tells).opened (c.in_ok-commit.ensures.commits tells).made
+    made_further c.commit.new.self c.args.manifest.now.journal.name (shown_by g.D.Disk c.commit.new.disk) (g.D.Disk.opened c.args.disk.now) c.commit.ensures.state.1 (c.commit.ensures.commits tells).opened (c.in_ok-commit.ensures.commits tells).made
 
 pub returns-in_err-commit-clause-any_moment : goal.returns-in_err-commit-clause-any_moment
 returns-in_err-commit-clause-any_moment g c tells catalogue rows held next can =

@@ -1,6 +1,6 @@
 use Rattle.std.proofs.Common.{◌≤◌, ℕ, sym, ◌∙◌, ap, subst}
 use Rattle.disk_model.specs.Files.{Name, Files}
-use Rattle.gate_journal.specs.Standing.{Standing, standing}
+use Rattle.gate_journal.specs.DiskShown.{DiskShown, shown_by}
 use Rattle.durable_write.specs.Held.{Shelf}
 use Rattle.durable_write.specs.Flush.{with_files}
 use Rattle.durable_write.specs.Stored.{AreLong, AreSafe}
@@ -11,52 +11,52 @@ use Rattle.durable_write.proofs.writing.write_all.Goals as goal
 
 pub returns-in_err-sync_files-clause-any_moment : goal.returns-in_err-sync_files-clause-any_moment
 returns-in_err-sync_files-clause-any_moment g c tells gr held fs safe makes =
-    behind_same held (g.D.Disk.past c.args.disk.now) (g.D.Disk.past c.write_pieces.new.disk) (g.D.Disk.past c.sync_files.new.disk) (c.write_pieces.ensures.any_moment tells gr held fs safe makes) (c.sync_files.ensures.any_moment tells)
+    behind_same held (g.D.Disk.past c.args.disk.now) (g.D.Disk.past c.write_files.new.disk) (g.D.Disk.past c.sync_files.new.disk) (c.write_files.ensures.any_moment tells gr held fs safe makes) (c.sync_files.ensures.any_moment tells)
 
 pub returns-in_err-sync_files-clause-behind : goal.returns-in_err-sync_files-clause-behind
-returns-in_err-sync_files-clause-behind g c tells gr held fs safe makes = subst (Behind held (g.D.Disk.files c.args.disk.now)) (sym (c.sync_files.ensures.same tells)) (c.write_pieces.ensures.behind tells gr held fs safe makes)
+returns-in_err-sync_files-clause-behind g c tells gr held fs safe makes = subst (Behind held (g.D.Disk.files c.args.disk.now)) (sym (c.sync_files.ensures.same tells)) (c.write_files.ensures.behind tells gr held fs safe makes)
 
 pub returns-in_err-sync_files-clause-still : goal.returns-in_err-sync_files-clause-still
-returns-in_err-sync_files-clause-still g c tells gr held fs safe makes = subst (AreLong held) (sym (c.sync_files.ensures.same tells)) (c.write_pieces.ensures.still tells gr held fs safe makes)
+returns-in_err-sync_files-clause-still g c tells gr held fs safe makes = subst (AreLong held) (sym (c.sync_files.ensures.same tells)) (c.write_files.ensures.still tells gr held fs safe makes)
 
 pub returns-in_err-sync_files-clause-elsewhere : goal.returns-in_err-sync_files-clause-elsewhere
-returns-in_err-sync_files-clause-elsewhere g c tells n other = ap (λ (f : Files). f n) (c.sync_files.ensures.same tells) ∙ c.write_pieces.ensures.elsewhere tells n other
+returns-in_err-sync_files-clause-elsewhere g c tells n other = ap (λ (f : Files). f n) (c.sync_files.ensures.same tells) ∙ c.write_files.ensures.elsewhere tells n other
 
 pub returns-in_err-sync_files-clause-others : goal.returns-in_err-sync_files-clause-others
-returns-in_err-sync_files-clause-others g c tells n apart = ap (λ (f : Files). f n) (c.sync_files.ensures.same tells) ∙ c.write_pieces.ensures.others tells n apart
+returns-in_err-sync_files-clause-others g c tells n apart = ap (λ (f : Files). f n) (c.sync_files.ensures.same tells) ∙ c.write_files.ensures.others tells n apart
 
 pub returns-in_err-sync_files-clause-no_more : goal.returns-in_err-sync_files-clause-no_more
-returns-in_err-sync_files-clause-no_more g c tells n = subst (λ (o : Name → ℕ). o n ≤ g.D.Disk.opened c.args.disk.now n) (sym (c.sync_files.ensures.opened tells)) (c.write_pieces.ensures.no_more tells n)
+returns-in_err-sync_files-clause-no_more g c tells n = subst (λ (o : Name → ℕ). o n ≤ g.D.Disk.opened c.args.disk.now n) (sym (c.sync_files.ensures.opened tells)) (c.write_files.ensures.no_more tells n)
 
 pub returns-clause-any_moment : goal.returns-clause-any_moment
 returns-clause-any_moment g c tells gr held fs safe makes =
-    behind_same held (g.D.Disk.past c.args.disk.now) (g.D.Disk.past c.write_pieces.new.disk) (g.D.Disk.past c.sync_files.new.disk) (c.write_pieces.ensures.any_moment tells gr held fs safe makes) (c.sync_files.ensures.any_moment tells)
+    behind_same held (g.D.Disk.past c.args.disk.now) (g.D.Disk.past c.write_files.new.disk) (g.D.Disk.past c.sync_files.new.disk) (c.write_files.ensures.any_moment tells gr held fs safe makes) (c.sync_files.ensures.any_moment tells)
 
 pub returns-clause-behind : goal.returns-clause-behind
-returns-clause-behind g c tells gr held fs safe makes = subst (Behind held (g.D.Disk.files c.args.disk.now)) (sym (c.sync_files.ensures.same tells)) (c.write_pieces.ensures.behind tells gr held fs safe makes)
+returns-clause-behind g c tells gr held fs safe makes = subst (Behind held (g.D.Disk.files c.args.disk.now)) (sym (c.sync_files.ensures.same tells)) (c.write_files.ensures.behind tells gr held fs safe makes)
 
 pub returns-clause-still : goal.returns-clause-still
-returns-clause-still g c tells gr held fs safe makes = subst (AreLong held) (sym (c.sync_files.ensures.same tells)) (c.write_pieces.ensures.still tells gr held fs safe makes)
+returns-clause-still g c tells gr held fs safe makes = subst (AreLong held) (sym (c.sync_files.ensures.same tells)) (c.write_files.ensures.still tells gr held fs safe makes)
 
 pub returns-clause-elsewhere : goal.returns-clause-elsewhere
-returns-clause-elsewhere g c tells n other = ap (λ (f : Files). f n) (c.sync_files.ensures.same tells) ∙ c.write_pieces.ensures.elsewhere tells n other
+returns-clause-elsewhere g c tells n other = ap (λ (f : Files). f n) (c.sync_files.ensures.same tells) ∙ c.write_files.ensures.elsewhere tells n other
 
 pub returns-clause-others : goal.returns-clause-others
-returns-clause-others g c tells n apart = ap (λ (f : Files). f n) (c.sync_files.ensures.same tells) ∙ c.write_pieces.ensures.others tells n apart
+returns-clause-others g c tells n apart = ap (λ (f : Files). f n) (c.sync_files.ensures.same tells) ∙ c.write_files.ensures.others tells n apart
 
 pub returns-clause-no_more : goal.returns-clause-no_more
-returns-clause-no_more g c tells n = subst (λ (o : Name → ℕ). o n ≤ g.D.Disk.opened c.args.disk.now n) (sym (c.sync_files.ensures.opened tells)) (c.write_pieces.ensures.no_more tells n)
+returns-clause-no_more g c tells n = subst (λ (o : Name → ℕ). o n ≤ g.D.Disk.opened c.args.disk.now n) (sym (c.sync_files.ensures.opened tells)) (c.write_files.ensures.no_more tells n)
 
 pub returns-clause-written : goal.returns-clause-written
 returns-clause-written g c tells gr held fs safe makes =
     let shelf : Shelf = (c.args.store, c.args.rows.now) in
     let old = c.args.disk.now in
-    let mid = c.write_pieces.new.disk in
+    let mid = c.write_files.new.disk in
     let past = g.D.Disk.past c.sync_files.new.disk in
-    let between : Standing = record { files = g.D.Disk.files mid; opened = g.D.Disk.opened mid; past = past } in
-    let behind = behind_same held (g.D.Disk.past old) (g.D.Disk.past mid) past (c.write_pieces.ensures.any_moment tells gr held fs safe makes) (c.sync_files.ensures.any_moment tells) in
-    let now = still_safe gr shelf (standing g.D.Disk old) between held safe behind (c.write_pieces.ensures.still tells gr held fs safe makes) (c.write_pieces.ensures.no_more tells) in
-    let more = synced_safe gr shelf held c.args.pieces.now fs between safe.of_rows makes.each (c.in_ok-write_pieces.ensures.written tells gr held fs safe makes) (c.in_ok-sync_files.ensures.durable tells) in
+    let between : DiskShown = record { files = g.D.Disk.files mid; opened = g.D.Disk.opened mid; past = past } in
+    let behind = behind_same held (g.D.Disk.past old) (g.D.Disk.past mid) past (c.write_files.ensures.any_moment tells gr held fs safe makes) (c.sync_files.ensures.any_moment tells) in
+    let now = still_safe gr shelf (shown_by g.D.Disk old) between held safe behind (c.write_files.ensures.still tells gr held fs safe makes) (c.write_files.ensures.no_more tells) in
+    let more = synced_safe gr shelf held c.args.writes.now fs between safe.of_rows makes.each (c.in_ok-write_files.ensures.written tells gr held fs safe makes) (c.in_ok-sync_files.ensures.durable tells) in
     let both = safe_both held fs between now.safe more in
     subst (λ (f : Files). AreSafe (with_files held fs) (record { files = f; opened = g.D.Disk.opened c.sync_files.new.disk; past = past })) (sym (c.sync_files.ensures.same tells))
     (subst (λ (o : Name → ℕ). AreSafe (with_files held fs) (record between { opened = o })) (sym (c.sync_files.ensures.opened tells)) both)

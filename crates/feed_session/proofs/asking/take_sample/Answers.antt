@@ -4,7 +4,7 @@ use Rattle.pb_messages.specs.declared.info.PayloadInfo.{PayloadInfo}
 use Rattle.act_model.specs.History.{Done}
 use Rattle.feed_session.specs.Asks.{offer_of}
 use Rattle.feed_session.specs.Asking.{both, none, one_more, tally_of}
-use Rattle.feed_session.specs.declared.tally.Outcome.{Outcome}
+use Rattle.feed_session.specs.declared.tally.OfferOutcome.{OfferOutcome}
 use Rattle.feed_session.proofs.Asked.{sample_counted, sample_stopped}
 use Rattle.feed_session.proofs.Reading.{event_of, same_some}
 use Rattle.feed_session.proofs.asking.take_sample.Goals as goal
@@ -23,4 +23,4 @@ returns-in-Ok-clause-asked g c = λ info inside.
 pub returns-in-Err-clause-asked : goal.returns-in-Err-clause-asked
 returns-in-Err-clause-asked g c = λ info inside.
     let same : c.in-Some.info.now ≡ info = same_some c.in-Some.info.now info (sym (ap option_copied c.in-Some.is) ∙ (c.info.ensures ∙ inside)) in
-    sample_stopped g.A.Actor.number g.A.Actor.between {X = Outcome} {Y = Unit {0}} c.args.actor.now c.offer.new.actor _ _ c.in-Err.stopped (λ (x : Outcome) (done : List Done). tally_of done ≡ one_more x none) (λ _ (done : List Done). c.args.tally.now ≡ both c.args.tally.now (tally_of done)) (same_offer c.in-Some.info.now info c.line.result.now c.args.reader.now.lines.line c.args.t c.args.now same c.line.ensures) c.in-Err.ensures.asked
+    sample_stopped g.A.Actor.number g.A.Actor.between {X = OfferOutcome} {Y = Unit {0}} c.args.actor.now c.offer.new.actor _ _ c.in-Err.stopped (λ (x : OfferOutcome) (done : List Done). tally_of done ≡ one_more x none) (λ _ (done : List Done). c.args.tally.now ≡ both c.args.tally.now (tally_of done)) (same_offer c.in-Some.info.now info c.line.result.now c.args.reader.now.lines.line c.args.t c.args.now same c.line.ensures) c.in-Err.ensures.asked

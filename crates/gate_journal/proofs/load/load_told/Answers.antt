@@ -7,7 +7,7 @@ use Rattle.gate_journal.specs.Load.{StaysOrShort}
 use Rattle.gate_journal.specs.Plain.{IsSettled}
 use Rattle.gate_journal.specs.declared.load_plain.PlainErr.{PlainErr}
 use Rattle.gate_journal.specs.declared.load.JournalErr.TheVariants.{BadJournal as BadNamed}
-use Rattle.gate_journal.specs.Standing.{standing}
+use Rattle.gate_journal.specs.DiskShown.{shown_by}
 use Rattle.gate_journal.proofs.NamedErrs.{named_bad}
 use Rattle.gate_journal.proofs.Synced.{same_at, stays_none}
 use Rattle.gate_journal.proofs.Turns.{tells_all, tells_out, bad_place, bad_told}
@@ -26,7 +26,7 @@ returns-clause-told g c tells =
     let t = took.2 tells in (
       all.0,
       subst (λ (n : Name). HasBatches ((g.D.Disk.files c.args.disk.now) n) (generation_batches c.load_into.new.fold.generation)) c.in_ok-file.ensures (subst (λ (bs : List (List ℕ)). HasBatches ((g.D.Disk.files c.args.disk.now) c.in_ok-file.file) bs) all.1 t.0),
-      subst (λ (bs : List (List ℕ)). IsSettled c.in-Ok.journal (standing g.D.Disk c.load_into.new.disk) bs) all.1 t.1,
+      subst (λ (bs : List (List ℕ)). IsSettled c.in-Ok.journal (shown_by g.D.Disk c.load_into.new.disk) bs) all.1 t.1,
     )
 
 pub returns-clause-journal : goal.returns-clause-journal

@@ -1,7 +1,7 @@
 use Rattle.std.proofs.Common.{◌≡◌, sym, subst, ◌∙◌, arith}
 use Rattle.std.specs.BTreeMap.{get}
 use Rattle.std.specs.Ordering.{nat_cmp}
-use Rattle.moves.specs.Search.{IsTurn, answer}
+use Rattle.moves.specs.Search.{IsSearchStep, answer}
 use Rattle.moves.specs.Series.{IsToMove, parts_in}
 use Rattle.moves.proofs.Search.{many_of, goes_on}
 use Rattle.moves.proofs.series.move_to_make.Goals as goal
@@ -10,7 +10,7 @@ pub loop-s-preserved : goal.loop-s-preserved
 loop-s-preserved c =
     let many = many_of c.args.rule.now c.args.source.now.entries c.args.destination.now.entries c.entries.result.now c.entries-in-loop-s.result.now c.loop-s.s-counter c.in_ok-parts.parts c.in_ok-parts.ensures.parts c.entries.ensures c.entries-in-loop-s.ensures in
     goes_on (parts_in c.args.rule.now c.args.source.now.entries c.args.destination.now.entries) (get nat_cmp c.args.running.now) c.loop-s.s-counter c.in_ok-parts.parts c.copied.result c.loop-s.first c.in-On.next many
-    (c.copied.ensures ∙ c.get.ensures.value) (subst (λ t. IsTurn c.in_ok-parts.parts c.copied.result c.loop-s.first t) c.in-On.is c.look.ensures) c.loop-s.invariant
+    (c.copied.ensures ∙ c.get.ensures.value) (subst (λ t. IsSearchStep c.in_ok-parts.parts c.copied.result c.loop-s.first t) c.in-On.is c.look.ensures) c.loop-s.invariant
 
 pub returns : goal.returns
 returns c =

@@ -2,7 +2,7 @@ use Rattle.std.proofs.Common.{◌≡◌, ◌≤◌, ◌<◌, ◌∙◌, ◌+◌,
 use Rattle.std.specs.Prelude.{IfSome}
 use Rattle.std.proofs.lemmas.List.{length-take-le}
 use Rattle.pb_messages.specs.declared.info.PayloadInfo.{PayloadInfo}
-use Rattle.pb_file.specs.declared.search.Found.{Found}
+use Rattle.pb_file.specs.declared.search.FoundLine.{FoundLine}
 use Rattle.pb_file.specs.declared.search.SearchErr.{SearchErr}
 use Rattle.pb_lines.specs.File.{HasNoSample}
 use Rattle.pb_file.specs.Skip.{HasHeader}
@@ -59,7 +59,7 @@ halves-preserved-in_default g c =
     λ tells head info h. (
     let P : List ℕ → Type 0 = λ b. IsFoundIn info (take w.len b) low middle c.halves.next c.in-Ok.found in
     let L : ℕ → Type 0 = λ n. IsFoundIn info (take n bytes) low middle c.halves.next c.in-Ok.found in
-    let O : Option Found → Type 0 = λ o. IsFoundIn info all low middle c.halves.next o in
+    let O : Option FoundLine → Type 0 = λ o. IsFoundIn info all low middle c.halves.next o in
     subst O c.in_default.is (subst L inv.same_len (subst P (inv.same tells) (e.found tells head info (now tells head info h))))
     ) in
     record {
@@ -95,7 +95,7 @@ halves-preserved-then-found-until g c =
     let half : 2 * (middle - low) ≤ high - low = omega arith in
     let below : middle < high = omega (arith, c.halves-test.true) in
     let f = c.in-Some.found in
-    let S : Option Found → Type 0 = λ o. IfSome o (λ x. (middle ≤ x.at) × (x.at < x.end) × (x.end ≤ w.len)) in
+    let S : Option FoundLine → Type 0 = λ o. IfSome o (λ x. (middle ≤ x.at) × (x.at < x.end) × (x.end ≤ w.len)) in
     let place = subst S c.in-Some.is e.place in
     let within : IsTrue g.H.ReadAt.tells → middle ≤ length all = λ tells. omega (arith, below, inv.within.1, inv.len_is, length-take-le c.args.walk.now.len bytes (c.requires.file tells)) in
     let now : IsTrue g.H.ReadAt.tells → (head : List ℕ) (info : PayloadInfo) → HasHeader c.args.walk.now bytes head info → HasHeader w (g.H.ReadAt.bytes c.halves.file) head info =
@@ -104,7 +104,7 @@ halves-preserved-then-found-until g c =
     λ tells head info h. (
     let P : List ℕ → Type 0 = λ b. IsFoundIn info (take w.len b) low middle c.halves.next c.in-Ok.found in
     let L : ℕ → Type 0 = λ n. IsFoundIn info (take n bytes) low middle c.halves.next c.in-Ok.found in
-    let O : Option Found → Type 0 = λ o. IsFoundIn info all low middle c.halves.next o in
+    let O : Option FoundLine → Type 0 = λ o. IsFoundIn info all low middle c.halves.next o in
     subst O c.in-Some.is (subst L inv.same_len (subst P (inv.same tells) (e.found tells head info (now tells head info h))))
     ) in
     let at_within : IsTrue g.H.ReadAt.tells → f.at ≤ length all = λ tells. omega (arith, place.1, place.2, inv.same_len, length-take-le c.args.walk.now.len bytes (c.requires.file tells)) in
@@ -145,7 +145,7 @@ halves-preserved g c =
     let half : 2 * (middle - low) ≤ high - low = omega arith in
     let below : middle < high = omega (arith, c.halves-test.true) in
     let f = c.in-Some.found in
-    let S : Option Found → Type 0 = λ o. IfSome o (λ x. (middle ≤ x.at) × (x.at < x.end) × (x.end ≤ w.len)) in
+    let S : Option FoundLine → Type 0 = λ o. IfSome o (λ x. (middle ≤ x.at) × (x.at < x.end) × (x.end ≤ w.len)) in
     let place = subst S c.in-Some.is e.place in
     let within : IsTrue g.H.ReadAt.tells → middle ≤ length all = λ tells. omega (arith, below, inv.within.1, inv.len_is, length-take-le c.args.walk.now.len bytes (c.requires.file tells)) in
     let now : IsTrue g.H.ReadAt.tells → (head : List ℕ) (info : PayloadInfo) → HasHeader c.args.walk.now bytes head info → HasHeader w (g.H.ReadAt.bytes c.halves.file) head info =
@@ -154,7 +154,7 @@ halves-preserved g c =
     λ tells head info h. (
     let P : List ℕ → Type 0 = λ b. IsFoundIn info (take w.len b) low middle c.halves.next c.in-Ok.found in
     let L : ℕ → Type 0 = λ n. IsFoundIn info (take n bytes) low middle c.halves.next c.in-Ok.found in
-    let O : Option Found → Type 0 = λ o. IsFoundIn info all low middle c.halves.next o in
+    let O : Option FoundLine → Type 0 = λ o. IsFoundIn info all low middle c.halves.next o in
     subst O c.in-Some.is (subst L inv.same_len (subst P (inv.same tells) (e.found tells head info (now tells head info h))))
     ) in
     record {

@@ -1,6 +1,6 @@
 use Rattle.std.proofs.Common.{subst, ap, ◌∙◌}
 use Rattle.std.specs.Prelude.{Ok, Err}
-use Rattle.serving.specs.declared.moves.Begun.TheVariants as begun
+use Rattle.serving.specs.declared.moves.BegunMove.TheVariants as begun
 use Rattle.serving.specs.declared.moves.OneMove.TheVariants as one
 use Rattle.serving.specs.Does.{Does}
 use Rattle.serving.specs.Moves.{BeginsSo, MovesSo, OneMoveSo}

@@ -15,7 +15,7 @@ use Rattle.store_reopen.specs.Runs.{Goes, Stops}
 use Rattle.store_reopen.specs.Reopen.{ChangesJournals, loaded}
 use Rattle.store_reopen.specs.Steps.{MakesSteps, Step, made_by}
 use Rattle.store_reopen.specs.Turns.{AreNumbers, TakesOf, all_taken}
-use Rattle.store_reopen.specs.declared.finding.Taken.{Taken}
+use Rattle.store_reopen.specs.declared.finding.TakenFile.{TakenFile}
 use Rattle.store_reopen.specs.declared.finding.Unlisted.{Unlisted}
 use Rattle.store_reopen.proofs.Swept.{journals_same, spares_read, spares_then}
 use Rattle.store_reopen.proofs.Counts.{turns_few, counted, turns_are, turns_have_parts, turns_may, turns_unopened, may_later}
@@ -32,9 +32,9 @@ spared : {D R : Type 0} (disk : Ghosts D R) (old mid made : D) → OnlyReads dis
 spared disk old mid made r more tells = spares_then disk old mid made (spares_read disk old mid (r.files tells) (r.opened tells) (r.any_moment tells)) (more tells)
 
 -- what is taken in each turn
-taken_of : (l ms : List ManifestState) (rows : List Row) (xs : List Unlisted) (vs ws : List (Vec Taken Global)) → l ≡ ms → ws ≡ vs → AtEachTurn (λ turn taken. TakesOf l rows turn xs taken) (turns_of vs) → AtEachTurn (λ turn taken. TakesOf ms rows turn xs taken) (turns_of ws)
+taken_of : (l ms : List ManifestState) (rows : List Row) (xs : List Unlisted) (vs ws : List (Vec TakenFile Global)) → l ≡ ms → ws ≡ vs → AtEachTurn (λ turn taken. TakesOf l rows turn xs taken) (turns_of vs) → AtEachTurn (λ turn taken. TakesOf ms rows turn xs taken) (turns_of ws)
 taken_of l ms rows xs vs ws is same takes =
-    subst (λ (us : List (Vec Taken Global)). AtEachTurn (λ turn taken. TakesOf ms rows turn xs taken) (turns_of us)) (sym same) (subst (λ (k : List ManifestState). AtEachTurn (λ turn taken. TakesOf k rows turn xs taken) (turns_of vs)) is takes)
+    subst (λ (us : List (Vec TakenFile Global)). AtEachTurn (λ turn taken. TakesOf ms rows turn xs taken) (turns_of us)) (sym same) (subst (λ (k : List ManifestState). AtEachTurn (λ turn taken. TakesOf k rows turn xs taken) (turns_of vs)) is takes)
 
 pub register_all-requires-clause-has : goal.register_all-requires-clause-has
 register_all-requires-clause-has g c tells =
@@ -184,11 +184,11 @@ returns-clause-follows g c tells gs image held of_gs same has =
           let fits = c.len-count.type_inv in
           let made_rows : ℕ = length c.rows.result.now - length c.rows-before.result.now in
           let told : AreNumbers made_rows (length xs) (all_taken (turns_of turns)) c.numbers.result = subst (λ (k : ℕ). AreNumbers made_rows k (all_taken (turns_of turns)) c.numbers.result) many
-          (subst (λ (vs : List (Vec Taken Global)). AreNumbers made_rows c.len-count.result (all_taken (turns_of vs)) c.numbers.result) (c.as_slice-5.ensures.value ∙ sym c.as_slice-4.ensures.value) c.numbers.ensures) in
+          (subst (λ (vs : List (Vec TakenFile Global)). AreNumbers made_rows c.len-count.result (all_taken (turns_of vs)) c.numbers.result) (c.as_slice-5.ensures.value ∙ sym c.as_slice-4.ensures.value) c.numbers.ensures) in
           let fewer = c.in_ok-turns.ensures.fewer in
-          let all = ap (λ (vs : List (Vec Taken Global)). length (all_taken (turns_of vs))) c.as_slice-4.ensures.value in
+          let all = ap (λ (vs : List (Vec TakenFile Global)). length (all_taken (turns_of vs))) c.as_slice-4.ensures.value in
           counted image (disk.files old) cat.rows cat₁.rows ms held xs (turns_of turns) goes.steps lists.steps (length turns) made_rows c.numbers.result same (count_of c.requires.ready.0 ms c.requires.ready.1 c.requires.ready.2.granularity) found takes are_turns of_rows
-          (gets disk gs image held xs cat ms old mid are has read cat₁ made goes) (sym (length-map turns (λ (v : Vec Taken Global). v.items))) listed told (omega (arith, was, now, more, ap length has.known.rows)) (omega (arith, fewer, all)) (omega (arith, many, fits));
+          (gets disk gs image held xs cat ms old mid are has read cat₁ made goes) (sym (length-map turns (λ (v : Vec TakenFile Global). v.items))) listed told (omega (arith, was, now, more, ap length has.known.rows)) (omega (arith, fewer, all)) (omega (arith, many, fits));
     }
 
 pub returns-clause-ready : goal.returns-clause-ready

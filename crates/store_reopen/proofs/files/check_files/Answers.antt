@@ -3,7 +3,7 @@ use Rattle.std.specs.Prelude.{All}
 use Rattle.std.proofs.lemmas.Result.{err_from_is_err_and}
 use Rattle.disk_model.specs.Files.{Files}
 use Rattle.disk_model.proofs.Passing.{passes_then}
-use Rattle.store_reopen.specs.Refusal.{IsToldShort}
+use Rattle.store_reopen.specs.NotOpened.{IsToldShort}
 use Rattle.store_reopen.specs.Verdict.{IsThere}
 use Rattle.store_reopen.proofs.Verdicts.{here_from, next_place, at_all, told_short}
 use Rattle.store_reopen.proofs.files.check_files.Goals as goal

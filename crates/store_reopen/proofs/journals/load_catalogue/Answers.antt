@@ -1,7 +1,7 @@
 use Rattle.std.proofs.Common.{inl, Err, sym, ◌∙◌, subst, ap}
 use Rattle.disk_model.specs.Files.{Name}
 use Rattle.gate_journal.specs.Generations.{IsOwn}
-use Rattle.gate_journal.specs.Standing.{standing}
+use Rattle.gate_journal.specs.DiskShown.{shown_by}
 use Rattle.pv_catalog.specs.Catalogue.{catalogue_name}
 use Rattle.pv_catalog.specs.Rows.{IsBadBatch}
 use Rattle.store_reopen.specs.OneJournal.{NoneOpened, IsGate}
@@ -11,26 +11,26 @@ use Rattle.store_reopen.proofs.journals.load_catalogue.Goals as goal
 
 pub returns-in-Ok-clause-keeps : goal.returns-in-Ok-clause-keeps
 returns-in-Ok-clause-keeps g c tells g' =
-    kept_rows g' (standing g.D.Disk c.args.disk.now) (standing g.D.Disk c.load.new.disk) (c.load.ensures.any_moment tells) (c.load.ensures.reads tells)
+    kept_rows g' (shown_by g.D.Disk c.args.disk.now) (shown_by g.D.Disk c.load.new.disk) (c.load.ensures.any_moment tells) (c.load.ensures.reads tells)
     (c.load.ensures.opened tells) (c.load.ensures.unopened tells)
 
 pub returns-in-Err-Disk-clause-keeps : goal.returns-in-Err-Disk-clause-keeps
 returns-in-Err-Disk-clause-keeps g c tells g' =
-    kept_rows g' (standing g.D.Disk c.args.disk.now) (standing g.D.Disk c.load.new.disk) (c.load.ensures.any_moment tells) (c.load.ensures.reads tells)
+    kept_rows g' (shown_by g.D.Disk c.args.disk.now) (shown_by g.D.Disk c.load.new.disk) (c.load.ensures.any_moment tells) (c.load.ensures.reads tells)
     (c.load.ensures.opened tells) (c.load.ensures.unopened tells)
 
 pub returns-in-Err-BadJournal-clause-keeps : goal.returns-in-Err-BadJournal-clause-keeps
 returns-in-Err-BadJournal-clause-keeps g c tells g' =
-    kept_rows g' (standing g.D.Disk c.args.disk.now) (standing g.D.Disk c.load.new.disk) (c.load.ensures.any_moment tells) (c.load.ensures.reads tells)
+    kept_rows g' (shown_by g.D.Disk c.args.disk.now) (shown_by g.D.Disk c.load.new.disk) (c.load.ensures.any_moment tells) (c.load.ensures.reads tells)
     (c.load.ensures.opened tells) (c.load.ensures.unopened tells)
 
 pub returns-in_err-file-in-Err-BadBatch-clause-keeps : goal.returns-in_err-file-in-Err-BadBatch-clause-keeps
 returns-in_err-file-in-Err-BadBatch-clause-keeps g c tells g' =
     kept_then g' _ _ _
-    (kept_rows g' (standing g.D.Disk c.args.disk.now) (standing g.D.Disk c.load.new.disk) (c.load.ensures.any_moment tells) (c.load.ensures.reads tells)
+    (kept_rows g' (shown_by g.D.Disk c.args.disk.now) (shown_by g.D.Disk c.load.new.disk) (c.load.ensures.any_moment tells) (c.load.ensures.reads tells)
     (c.load.ensures.opened tells) (c.load.ensures.unopened tells))
     (
-    rows_again g' (standing g.D.Disk c.load.new.disk) (standing g.D.Disk c.gate_of.new.disk) c.in_ok-name.name c.in_ok-name.ensures
+    rows_again g' (shown_by g.D.Disk c.load.new.disk) (shown_by g.D.Disk c.gate_of.new.disk) c.in_ok-name.name c.in_ok-name.ensures
     (record {
       kept = c.gate_of.ensures.kept tells;
       passes = c.gate_of.ensures.any_moment tells;
@@ -42,10 +42,10 @@ returns-in_err-file-in-Err-BadBatch-clause-keeps g c tells g' =
 pub returns-clause-keeps : goal.returns-clause-keeps
 returns-clause-keeps g c tells g' =
     kept_then g' _ _ _
-    (kept_rows g' (standing g.D.Disk c.args.disk.now) (standing g.D.Disk c.load.new.disk) (c.load.ensures.any_moment tells) (c.load.ensures.reads tells)
+    (kept_rows g' (shown_by g.D.Disk c.args.disk.now) (shown_by g.D.Disk c.load.new.disk) (c.load.ensures.any_moment tells) (c.load.ensures.reads tells)
     (c.load.ensures.opened tells) (c.load.ensures.unopened tells))
     (
-    rows_again g' (standing g.D.Disk c.load.new.disk) (standing g.D.Disk c.gate_of.new.disk) c.in_ok-name.name c.in_ok-name.ensures
+    rows_again g' (shown_by g.D.Disk c.load.new.disk) (shown_by g.D.Disk c.gate_of.new.disk) c.in_ok-name.name c.in_ok-name.ensures
     (record {
       kept = c.gate_of.ensures.kept tells;
       passes = c.gate_of.ensures.any_moment tells;

@@ -1,6 +1,6 @@
 use Rattle.std.proofs.Common.{◌+◌, ◌-◌, Err, Some, inl, sym, ◌∙◌, ap, subst, arith}
 use Rattle.disk_model.specs.Files.{Name}
-use Rattle.gate_journal.specs.Standing.{standing}
+use Rattle.gate_journal.specs.DiskShown.{shown_by}
 use Rattle.gate_journal.proofs.Keeping.{says_stays}
 use Rattle.partition_names.specs.declared.granularity.Granularity.{Granularity}
 use Rattle.store_manifest.specs.Batches.{Configured, IsBadBatch}
@@ -15,31 +15,31 @@ use Rattle.store_reopen.proofs.journals.load_manifest.Goals as goal
 
 pub returns-in-Ok-clause-keeps : goal.returns-in-Ok-clause-keeps
 returns-in-Ok-clause-keeps g c tells =
-    kept_list (stores_of c.args.config.now) (standing g.D.Disk c.args.disk.now) (standing g.D.Disk c.load.new.disk) c.args.place c.granularity.result (here_at c.args.config.now c.args.place (c.args.place + 1 - 1) c.granularity.result c.requires.place (omega arith) c.granularity.ensures.value) (c.load.ensures.any_moment tells) (c.load.ensures.reads tells)
+    kept_list (stores_of c.args.config.now) (shown_by g.D.Disk c.args.disk.now) (shown_by g.D.Disk c.load.new.disk) c.args.place c.granularity.result (here_at c.args.config.now c.args.place (c.args.place + 1 - 1) c.granularity.result c.requires.place (omega arith) c.granularity.ensures.value) (c.load.ensures.any_moment tells) (c.load.ensures.reads tells)
     (c.load.ensures.opened tells) (c.load.ensures.unopened tells)
 
 pub returns-in-Err-Disk-clause-keeps : goal.returns-in-Err-Disk-clause-keeps
 returns-in-Err-Disk-clause-keeps g c tells =
-    kept_list (stores_of c.args.config.now) (standing g.D.Disk c.args.disk.now) (standing g.D.Disk c.load.new.disk) c.args.place c.granularity.result (here_at c.args.config.now c.args.place (c.args.place + 1 - 1) c.granularity.result c.requires.place (omega arith) c.granularity.ensures.value) (c.load.ensures.any_moment tells) (c.load.ensures.reads tells)
+    kept_list (stores_of c.args.config.now) (shown_by g.D.Disk c.args.disk.now) (shown_by g.D.Disk c.load.new.disk) c.args.place c.granularity.result (here_at c.args.config.now c.args.place (c.args.place + 1 - 1) c.granularity.result c.requires.place (omega arith) c.granularity.ensures.value) (c.load.ensures.any_moment tells) (c.load.ensures.reads tells)
     (c.load.ensures.opened tells) (c.load.ensures.unopened tells)
 
 pub returns-in-Err-BadJournal-clause-keeps : goal.returns-in-Err-BadJournal-clause-keeps
 returns-in-Err-BadJournal-clause-keeps g c tells =
-    kept_list (stores_of c.args.config.now) (standing g.D.Disk c.args.disk.now) (standing g.D.Disk c.load.new.disk) c.args.place c.granularity.result (here_at c.args.config.now c.args.place (c.args.place + 1 - 1) c.granularity.result c.requires.place (omega arith) c.granularity.ensures.value) (c.load.ensures.any_moment tells) (c.load.ensures.reads tells)
+    kept_list (stores_of c.args.config.now) (shown_by g.D.Disk c.args.disk.now) (shown_by g.D.Disk c.load.new.disk) c.args.place c.granularity.result (here_at c.args.config.now c.args.place (c.args.place + 1 - 1) c.granularity.result c.requires.place (omega arith) c.granularity.ensures.value) (c.load.ensures.any_moment tells) (c.load.ensures.reads tells)
     (c.load.ensures.opened tells) (c.load.ensures.unopened tells)
 
 pub returns-clause-keeps : goal.returns-clause-keeps
 returns-clause-keeps g c tells =
-    kept_list (stores_of c.args.config.now) (standing g.D.Disk c.args.disk.now) (standing g.D.Disk c.load.new.disk) c.args.place c.granularity.result (here_at c.args.config.now c.args.place (c.args.place + 1 - 1) c.granularity.result c.requires.place (omega arith) c.granularity.ensures.value) (c.load.ensures.any_moment tells) (c.load.ensures.reads tells)
+    kept_list (stores_of c.args.config.now) (shown_by g.D.Disk c.args.disk.now) (shown_by g.D.Disk c.load.new.disk) c.args.place c.granularity.result (here_at c.args.config.now c.args.place (c.args.place + 1 - 1) c.granularity.result c.requires.place (omega arith) c.granularity.ensures.value) (c.load.ensures.any_moment tells) (c.load.ensures.reads tells)
     (c.load.ensures.opened tells) (c.load.ensures.unopened tells)
 
 pub returns-in_err-file-in-Err-BadBatch-clause-keeps : goal.returns-in_err-file-in-Err-BadBatch-clause-keeps
 returns-in_err-file-in-Err-BadBatch-clause-keeps g c tells =
     kept_then (stores_of c.args.config.now) _ _ _
-    (kept_list (stores_of c.args.config.now) (standing g.D.Disk c.args.disk.now) (standing g.D.Disk c.load.new.disk) c.args.place c.granularity.result (here_at c.args.config.now c.args.place (c.args.place + 1 - 1) c.granularity.result c.requires.place (omega arith) c.granularity.ensures.value) (c.load.ensures.any_moment tells) (c.load.ensures.reads tells)
+    (kept_list (stores_of c.args.config.now) (shown_by g.D.Disk c.args.disk.now) (shown_by g.D.Disk c.load.new.disk) c.args.place c.granularity.result (here_at c.args.config.now c.args.place (c.args.place + 1 - 1) c.granularity.result c.requires.place (omega arith) c.granularity.ensures.value) (c.load.ensures.any_moment tells) (c.load.ensures.reads tells)
     (c.load.ensures.opened tells) (c.load.ensures.unopened tells))
     (
-    list_again (stores_of c.args.config.now) (standing g.D.Disk c.load.new.disk) (standing g.D.Disk c.gate_of.new.disk) c.args.place c.granularity.result (here_at c.args.config.now c.args.place (c.args.place + 1 - 1) c.granularity.result c.requires.place (omega arith) c.granularity.ensures.value) c.in_ok-name.name c.in_ok-name.ensures
+    list_again (stores_of c.args.config.now) (shown_by g.D.Disk c.load.new.disk) (shown_by g.D.Disk c.gate_of.new.disk) c.args.place c.granularity.result (here_at c.args.config.now c.args.place (c.args.place + 1 - 1) c.granularity.result c.requires.place (omega arith) c.granularity.ensures.value) c.in_ok-name.name c.in_ok-name.ensures
     (record {
       kept = c.gate_of.ensures.kept tells;
       passes = c.gate_of.ensures.any_moment tells;
@@ -51,10 +51,10 @@ returns-in_err-file-in-Err-BadBatch-clause-keeps g c tells =
 pub returns-in-Err-BadBatch-clause-keeps : goal.returns-in-Err-BadBatch-clause-keeps
 returns-in-Err-BadBatch-clause-keeps g c tells =
     kept_then (stores_of c.args.config.now) _ _ _
-    (kept_list (stores_of c.args.config.now) (standing g.D.Disk c.args.disk.now) (standing g.D.Disk c.load.new.disk) c.args.place c.granularity.result (here_at c.args.config.now c.args.place (c.args.place + 1 - 1) c.granularity.result c.requires.place (omega arith) c.granularity.ensures.value) (c.load.ensures.any_moment tells) (c.load.ensures.reads tells)
+    (kept_list (stores_of c.args.config.now) (shown_by g.D.Disk c.args.disk.now) (shown_by g.D.Disk c.load.new.disk) c.args.place c.granularity.result (here_at c.args.config.now c.args.place (c.args.place + 1 - 1) c.granularity.result c.requires.place (omega arith) c.granularity.ensures.value) (c.load.ensures.any_moment tells) (c.load.ensures.reads tells)
     (c.load.ensures.opened tells) (c.load.ensures.unopened tells))
     (
-    list_again (stores_of c.args.config.now) (standing g.D.Disk c.load.new.disk) (standing g.D.Disk c.gate_of.new.disk) c.args.place c.granularity.result (here_at c.args.config.now c.args.place (c.args.place + 1 - 1) c.granularity.result c.requires.place (omega arith) c.granularity.ensures.value) c.in_ok-name.name c.in_ok-name.ensures
+    list_again (stores_of c.args.config.now) (shown_by g.D.Disk c.load.new.disk) (shown_by g.D.Disk c.gate_of.new.disk) c.args.place c.granularity.result (here_at c.args.config.now c.args.place (c.args.place + 1 - 1) c.granularity.result c.requires.place (omega arith) c.granularity.ensures.value) c.in_ok-name.name c.in_ok-name.ensures
     (record {
       kept = c.gate_of.ensures.kept tells;
       passes = c.gate_of.ensures.any_moment tells;
@@ -107,12 +107,12 @@ returns-in-Ok-clause-manifest g c = (c.in-Ok.ensures.manifest.0, c.in-Ok.ensures
 
 pub returns-in-Ok-clause-catalogue : goal.returns-in-Ok-clause-catalogue
 returns-in-Ok-clause-catalogue g c tells catalogue named stored =
-    catalogue_stays (c.args.place + 1) (StaysOrBegins c.granularity.result (manifest_name (c.args.place + 1))) catalogue.journal (standing g.D.Disk c.args.disk.now) (standing g.D.Disk c.load.new.disk)
+    catalogue_stays (c.args.place + 1) (StaysOrBegins c.granularity.result (manifest_name (c.args.place + 1))) catalogue.journal (shown_by g.D.Disk c.args.disk.now) (shown_by g.D.Disk c.load.new.disk)
     catalogue.rows named stored (c.load.ensures.reads tells).elsewhere (c.load.ensures.any_moment tells) (c.load.ensures.opened tells)
 
 pub returns-in-Ok-clause-earlier : goal.returns-in-Ok-clause-earlier
 returns-in-Ok-clause-earlier g c tells i m low named kept =
-    manifest_stays (c.args.place + 1) (StaysOrBegins c.granularity.result (manifest_name (c.args.place + 1))) (i + 1) m (standing g.D.Disk c.args.disk.now) (standing g.D.Disk c.load.new.disk)
+    manifest_stays (c.args.place + 1) (StaysOrBegins c.granularity.result (manifest_name (c.args.place + 1))) (i + 1) m (shown_by g.D.Disk c.args.disk.now) (shown_by g.D.Disk c.load.new.disk)
     named (λ is. absurd (omega (arith, is, low))) kept (c.load.ensures.reads tells).elsewhere (c.load.ensures.any_moment tells) (c.load.ensures.opened tells)
 
 pub returns-in-Ok-clause-nested : goal.returns-in-Ok-clause-nested

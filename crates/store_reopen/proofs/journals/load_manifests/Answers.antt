@@ -4,7 +4,7 @@ use Rattle.std.proofs.lemmas.Option.{slice_get_within}
 use Rattle.std.proofs.lemmas.Result.{err_from_is_err_and}
 use Rattle.disk_model.proofs.Passing.{passes_none}
 use Rattle.gate_journal.specs.Kept.{Says}
-use Rattle.gate_journal.specs.Standing.{standing}
+use Rattle.gate_journal.specs.DiskShown.{shown_by}
 use Rattle.gate_journal.proofs.Keeping.{says_stays}
 use Rattle.store_manifest.specs.Batches.{Folds}
 use Rattle.store_manifest.specs.Entries.{AreEntries}
@@ -23,7 +23,7 @@ loop-place-init g c =
     record {
       few = omega arith;
       count = ap length none;
-      kept = λ tells. no_manifest (λ i m. IsKept m (standing g.D.Disk c.args.disk.now)) ms none;
+      kept = λ tells. no_manifest (λ i m. IsKept m (shown_by g.D.Disk c.args.disk.now)) ms none;
       said = λ tells. no_manifest (λ i m. Says (Folds m.granularity) m.entries (manifest_name (i + 1)) (g.D.Disk.files c.args.disk.now)) ms none;
       names = no_manifest (λ i m. m.journal.name ≡ manifest_name (i + 1)) ms none;
       sound = no_manifest (λ i m. m.journal.sound ≡ true) ms none;
@@ -32,7 +32,7 @@ loop-place-init g c =
       are = no_manifest (λ i m. AreEntries m.granularity m.entries) ms none;
       rest = λ tells i n from low own. refl;
       catalogue = λ tells s named stored. stored;
-      keeps = λ tells. kept_same (stores_of c.args.config.now) (standing g.D.Disk c.args.disk.now) (passes_none (λ a b. b ≡ a) (g.D.Disk.past c.args.disk.now) (λ a left. refl));
+      keeps = λ tells. kept_same (stores_of c.args.config.now) (shown_by g.D.Disk c.args.disk.now) (passes_none (λ a b. b ≡ a) (g.D.Disk.past c.args.disk.now) (λ a left. refl));
       faults = omega arith;
     }
 
@@ -52,7 +52,7 @@ loop-place-preserved g c =
     record {
       few = omega (arith, c.loop-place-test.true);
       count = ap length is ∙ length-append ms (m ∷ []) ∙ omega (arith, was.count);
-      kept = λ tells. one_more (λ i k. IsKept k (standing g.D.Disk disk)) ms made m place is was.count
+      kept = λ tells. one_more (λ i k. IsKept k (shown_by g.D.Disk disk)) ms made m place is was.count
           (λ i k here. let low = slice_get_within ms i k here in says.earlier tells i k (omega (arith, low, was.count)) (was.names i k here) (was.kept tells i k here)) (says.kept tells);
       said = λ tells. one_more (λ i k. Says (Folds k.granularity) k.entries (manifest_name (i + 1)) (g.D.Disk.files c.args.disk.now)) ms made m place is was.count (was.said tells)
           (says_stays (Folds m.granularity) m.entries (manifest_name (place + 1)) (g.D.Disk.files c.loop-place.disk) (g.D.Disk.files c.args.disk.now) (λ n own. sym (was.rest tells place n (omega arith) c.loop-place-test.true own)) (says.entries tells));

@@ -3,7 +3,7 @@ use Rattle.std.specs.Prelude.{slice_get}
 use Rattle.disk_model.specs.Files.{Name}
 use Rattle.gate_journal.specs.Generations.{IsOwn}
 use Rattle.gate_journal.specs.Kept.{Says}
-use Rattle.gate_journal.specs.Standing.{standing}
+use Rattle.gate_journal.specs.DiskShown.{shown_by}
 use Rattle.pv_catalog.specs.Catalogue.{CatalogueState, catalogue_name, IsStored}
 use Rattle.store_manifest.specs.Batches.{Folds}
 use Rattle.store_manifest.specs.Entries.{AreEntries}
@@ -18,7 +18,7 @@ abbrev pub invariant-loop-place : goal.invariant-loop-place
 invariant-loop-place g l = record {
   few : l.place ≤ 3;
   count : length l.manifests.items ≡ l.place;
-  kept : IsTrue g.D.Disk.tells → AtEach l.manifests.items (λ i m. IsKept m (standing g.D.Disk l.disk));
+  kept : IsTrue g.D.Disk.tells → AtEach l.manifests.items (λ i m. IsKept m (shown_by g.D.Disk l.disk));
   said : IsTrue g.D.Disk.tells → AtEach l.manifests.items (λ i m. Says (Folds m.granularity) m.entries (manifest_name (i + 1)) (g.D.Disk.files l.fn.disk));
   names : AtEach l.manifests.items (λ i m. m.journal.name ≡ manifest_name (i + 1));
   sound : AtEach l.manifests.items (λ i m. m.journal.sound ≡ true);
@@ -26,7 +26,7 @@ invariant-loop-place g l = record {
   nested : (i : ℕ) → i < 2 → i + 1 < l.place → AreNested i (stores_of l.config);
   are : AtEach l.manifests.items (λ i m. AreEntries m.granularity m.entries);
   rest : IsTrue g.D.Disk.tells → (i : ℕ) (n : Name) → l.place ≤ i → i < 3 → IsOwn (manifest_name (i + 1)) n → g.D.Disk.files l.disk n ≡ g.D.Disk.files l.fn.disk n;
-  catalogue : IsTrue g.D.Disk.tells → (s : CatalogueState) → s.journal.name ≡ catalogue_name → IsStored s (standing g.D.Disk l.fn.disk) → IsStored s (standing g.D.Disk l.disk);
-  keeps : IsTrue g.D.Disk.tells → KeepsSaid (stores_of l.config) (standing g.D.Disk l.fn.disk) (standing g.D.Disk l.disk);
+  catalogue : IsTrue g.D.Disk.tells → (s : CatalogueState) → s.journal.name ≡ catalogue_name → IsStored s (shown_by g.D.Disk l.fn.disk) → IsStored s (shown_by g.D.Disk l.disk);
+  keeps : IsTrue g.D.Disk.tells → KeepsSaid (stores_of l.config) (shown_by g.D.Disk l.fn.disk) (shown_by g.D.Disk l.disk);
   faults : g.D.Disk.faults l.fn.disk ≤ g.D.Disk.faults l.disk;
 }

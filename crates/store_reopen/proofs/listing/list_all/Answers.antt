@@ -2,7 +2,7 @@ use Rattle.std.proofs.Common.{List, length, Some, sym, ◌∙◌, ap, arith}
 use Rattle.std.proofs.lemmas.Result.{err_from_is_err_and}
 use Rattle.tier_store.proofs.Places.{granularity_at, manifest_at}
 use Rattle.store_reopen.specs.Adoption.{place_of, row_of}
-use Rattle.store_reopen.specs.declared.finding.Taken.{Taken}
+use Rattle.store_reopen.specs.declared.finding.TakenFile.{TakenFile}
 use Rattle.store_reopen.proofs.Swept.{journals_same, spares_none, spares_then}
 use Rattle.store_reopen.proofs.Having.{count_of}
 use Rattle.store_reopen.proofs.Counts.{may_later, still_at, turn_here, turns_begin, turns_end, turns_on, turns_stop, unopened_later}
@@ -23,14 +23,14 @@ list_taken-requires-clause-ready g c = (c.requires.ready.0, c.requires.ready.1, 
 pub list_taken-requires-clause-parts : goal.list_taken-requires-clause-parts
 list_taken-requires-clause-parts g c m here =
     let t = c.loop-turn.turn in
-    let taken = turn_here c.args.turns.now t c.index-turns-turn.result c.loop-turn-test.true c.index-turns-turn.is ∙ ap (λ (ys : List Taken). Some ys) (sym c.as_slice.ensures.value) in
+    let taken = turn_here c.args.turns.now t c.index-turns-turn.result c.loop-turn-test.true c.index-turns-turn.is ∙ ap (λ (ys : List TakenFile). Some ys) (sym c.as_slice.ensures.value) in
     c.requires.parts t c.as_slice.result.now taken m.granularity
     (still_at c.requires.ready.0 c.args.manifests.now.items c.loop-turn.manifests.items (place_of t) m c.requires.ready.2.granularity (c.loop-turn.invariant.ready c.requires.ready.0 c.requires.ready.2).granularity here)
 
 pub list_taken-requires-clause-may : goal.list_taken-requires-clause-may
 list_taken-requires-clause-may g c tells m here =
     let t = c.loop-turn.turn in
-    let taken = turn_here c.args.turns.now t c.index-turns-turn.result c.loop-turn-test.true c.index-turns-turn.is ∙ ap (λ (ys : List Taken). Some ys) (sym c.as_slice.ensures.value) in
+    let taken = turn_here c.args.turns.now t c.index-turns-turn.result c.loop-turn-test.true c.index-turns-turn.is ∙ ap (λ (ys : List TakenFile). Some ys) (sym c.as_slice.ensures.value) in
     may_later m.granularity (g.D.Disk.files c.args.disk.now) (g.D.Disk.files c.loop-turn.disk) c.args.catalogue.now.rows (row_of t) (place_of t) c.as_slice.result.now (journals_same g.D.Disk _ _ (c.loop-turn.invariant.spares tells).now)
     (c.requires.may tells t c.as_slice.result.now taken m.granularity
     (still_at c.requires.ready.0 c.args.manifests.now.items c.loop-turn.manifests.items (place_of t) m c.requires.ready.2.granularity (c.loop-turn.invariant.ready c.requires.ready.0 c.requires.ready.2).granularity here))
@@ -38,19 +38,19 @@ list_taken-requires-clause-may g c tells m here =
 pub list_taken-requires-clause-unopened : goal.list_taken-requires-clause-unopened
 list_taken-requires-clause-unopened g c tells =
     let t = c.loop-turn.turn in
-    let taken = turn_here c.args.turns.now t c.index-turns-turn.result c.loop-turn-test.true c.index-turns-turn.is ∙ ap (λ (ys : List Taken). Some ys) (sym c.as_slice.ensures.value) in
+    let taken = turn_here c.args.turns.now t c.index-turns-turn.result c.loop-turn-test.true c.index-turns-turn.is ∙ ap (λ (ys : List TakenFile). Some ys) (sym c.as_slice.ensures.value) in
     unopened_later (g.D.Disk.opened c.args.disk.now) (g.D.Disk.opened c.loop-turn.disk) c.as_slice.result.now (c.loop-turn.invariant.spares tells).fewer (c.requires.unopened tells t c.as_slice.result.now taken)
 
 pub list_taken-requires-clause-few : goal.list_taken-requires-clause-few
 list_taken-requires-clause-few g c tells =
     let t = c.loop-turn.turn in
-    let taken = turn_here c.args.turns.now t c.index-turns-turn.result c.loop-turn-test.true c.index-turns-turn.is ∙ ap (λ (ys : List Taken). Some ys) (sym c.as_slice.ensures.value) in
+    let taken = turn_here c.args.turns.now t c.index-turns-turn.result c.loop-turn-test.true c.index-turns-turn.is ∙ ap (λ (ys : List TakenFile). Some ys) (sym c.as_slice.ensures.value) in
     c.requires.few tells t c.as_slice.result.now taken
 
 pub returns-in_err-list_taken-clause-stops : goal.returns-in_err-list_taken-clause-stops
 returns-in_err-list_taken-clause-stops g c tells image held unlisted same are =
     let t = c.loop-turn.turn in
-    let taken = turn_here c.args.turns.now t c.index-turns-turn.result c.loop-turn-test.true c.index-turns-turn.is ∙ ap (λ (ys : List Taken). Some ys) (sym c.as_slice.ensures.value) in
+    let taken = turn_here c.args.turns.now t c.index-turns-turn.result c.loop-turn-test.true c.index-turns-turn.is ∙ ap (λ (ys : List TakenFile). Some ys) (sym c.as_slice.ensures.value) in
     let ms = c.args.manifests.now.items in
     let m = manifest_at ms (place_of t) (omega (arith, count_of c.requires.ready.0 ms c.requires.ready.1 c.requires.ready.2.granularity)) in
     let p = err_from_is_err_and c.from_residual.result c.from_residual.ensures.1 in
@@ -64,7 +64,7 @@ returns-in_err-list_taken-clause-spares g c tells = spares_then g.D.Disk c.args.
 pub loop-turn-preserved : goal.loop-turn-preserved
 loop-turn-preserved g c =
     let t = c.loop-turn.turn in
-    let taken = turn_here c.args.turns.now t c.index-turns-turn.result c.loop-turn-test.true c.index-turns-turn.is ∙ ap (λ (ys : List Taken). Some ys) (sym c.as_slice.ensures.value) in
+    let taken = turn_here c.args.turns.now t c.index-turns-turn.result c.loop-turn-test.true c.index-turns-turn.is ∙ ap (λ (ys : List TakenFile). Some ys) (sym c.as_slice.ensures.value) in
     let ms = c.args.manifests.now.items in
     let m = manifest_at ms (place_of t) (omega (arith, count_of c.requires.ready.0 ms c.requires.ready.1 c.requires.ready.2.granularity)) in
     let was = c.loop-turn.invariant in

@@ -11,7 +11,7 @@ use Rattle.store_manifest.specs.declared.entry.Change.{Change}
 use Rattle.tier_store.proofs.Places.{manifest_at}
 use Rattle.store_reopen.specs.Adoption.{entry_as}
 use Rattle.store_reopen.specs.Listing.{AreUnopened, entries_as}
-use Rattle.store_reopen.specs.declared.finding.Taken.{Taken}
+use Rattle.store_reopen.specs.declared.finding.TakenFile.{TakenFile}
 use Rattle.store_reopen.proofs.Swept.{spares_read, spares_then}
 use Rattle.store_reopen.proofs.Having.{count_of}
 use Rattle.store_reopen.proofs.Marking.{has_marked, marks_read}
@@ -41,13 +41,13 @@ returns-in_err-changes-clause-stops g c tells =
 pub add_files-requires-clause-follow : goal.add_files-requires-clause-follow
 add_files-requires-clause-follow g c m here =
     let front = c.batch_of.ensures.front in
-    let parts = subst (λ (xs : List Taken). All (λ (x : Taken). IsPart m.granularity x.candidate.part) xs) (sym front.1) (All-take (λ (x : Taken). IsPart m.granularity x.candidate.part) front.0 c.args.taken.now (c.requires.parts m here)) in
+    let parts = subst (λ (xs : List TakenFile). All (λ (x : TakenFile). IsPart m.granularity x.candidate.part) xs) (sym front.1) (All-take (λ (x : TakenFile). IsPart m.granularity x.candidate.part) front.0 c.args.taken.now (c.requires.parts m here)) in
     subst (λ (cs : List Change). AllCanFollow m.granularity m.entries cs) (sym (c.deref.ensures.value ∙ c.in_ok-changes.ensures ∙ sets_as c.args.series c.batch_of.result.now)) (may_follow m.granularity c.args.series c.batch_of.result.now m.entries parts)
 
 pub add_files-requires-clause-few : goal.add_files-requires-clause-few
 add_files-requires-clause-few g c =
     let is = ap (λ (cs : List Change). length cs) (c.deref.ensures.value ∙ c.in_ok-changes.ensures) in
-    let same = length-map c.batch_of.result.now (λ (x : Taken). set_entry (entry_as c.args.series x.candidate)) in
+    let same = length-map c.batch_of.result.now (λ (x : TakenFile). set_entry (entry_as c.args.series x.candidate)) in
     omega (arith, is, same, c.batch_of.ensures.few)
 
 pub add_files-requires-clause-has : goal.add_files-requires-clause-has
@@ -64,7 +64,7 @@ add_files-requires-clause-can g c tells =
     let may = c.requires.may tells m.0 m.1 in (
       files_as g.D.Disk c.args.catalogue.now c.args.place c.args.series c.args.taken.now ms c.args.disk.now m.0 m.1 may,
       can_list g.D.Disk c.args.catalogue.now c.args.place c.args.series c.args.taken.now ms c.args.disk.now m.0 m.1 may c.sync_taken.new.disk (read.files tells)
-          (subst (λ (o : Name → ℕ). AreUnopened o c.args.taken.now) (sym (read.opened tells)) (c.requires.unopened tells)) (c.in_ok-sync_taken.ensures.durable tells) c.deref.result.now (c.deref.ensures.value ∙ c.in_ok-changes.ensures ∙ ap (λ (xs : List Taken). map (λ (x : Taken). set_entry (entry_as c.args.series x.candidate)) xs) (c.batch_of.ensures.all (c.requires.few tells)) ∙ sets_as c.args.series c.args.taken.now),
+          (subst (λ (o : Name → ℕ). AreUnopened o c.args.taken.now) (sym (read.opened tells)) (c.requires.unopened tells)) (c.in_ok-sync_taken.ensures.durable tells) c.deref.result.now (c.deref.ensures.value ∙ c.in_ok-changes.ensures ∙ ap (λ (xs : List TakenFile). map (λ (x : TakenFile). set_entry (entry_as c.args.series x.candidate)) xs) (c.batch_of.ensures.all (c.requires.few tells)) ∙ sets_as c.args.series c.args.taken.now),
     )
 
 pub returns-clause-lists : goal.returns-clause-lists
@@ -74,7 +74,7 @@ returns-clause-lists g c tells =
     let read = c.sync_taken.ensures.read in
     let may = c.requires.may tells m.0 m.1 in
     let unopened : AreUnopened (g.D.Disk.opened c.sync_taken.new.disk) c.args.taken.now = subst (λ (o : Name → ℕ). AreUnopened o c.args.taken.now) (sym (read.opened tells)) (c.requires.unopened tells) in
-    let sets = c.deref.ensures.value ∙ c.in_ok-changes.ensures ∙ ap (λ (xs : List Taken). map (λ (x : Taken). set_entry (entry_as c.args.series x.candidate)) xs) (c.batch_of.ensures.all (c.requires.few tells)) ∙ sets_as c.args.series c.args.taken.now in
+    let sets = c.deref.ensures.value ∙ c.in_ok-changes.ensures ∙ ap (λ (xs : List TakenFile). map (λ (x : TakenFile). set_entry (entry_as c.args.series x.candidate)) xs) (c.batch_of.ensures.all (c.requires.few tells)) ∙ sets_as c.args.series c.args.taken.now in
     let files = files_as g.D.Disk c.args.catalogue.now c.args.place c.args.series c.args.taken.now ms c.args.disk.now m.0 m.1 may in
     (takes_by g.D.Disk c.args.catalogue.now c.args.place c.args.series c.args.taken.now ms c.args.disk.now m.0 m.1 may c.sync_taken.new.disk (read.files tells) unopened (c.in_ok-sync_taken.ensures.durable tells) c.deref.result.now sets (some_there c.args.taken.now c.is_empty.result c.is_empty.ensures c.if-is_empty.false)
     (steps_read g.D.Disk c.args.catalogue.now ms c.args.disk.now c.sync_taken.new.disk read.files read.opened read.any_moment read.faults) c.add_files.new.manifests.items c.add_files.new.disk c.add_files.result
@@ -87,7 +87,7 @@ returns-clause-stops g c tells =
     let read = c.sync_taken.ensures.read in
     let may = c.requires.may tells m.0 m.1 in
     let unopened : AreUnopened (g.D.Disk.opened c.sync_taken.new.disk) c.args.taken.now = subst (λ (o : Name → ℕ). AreUnopened o c.args.taken.now) (sym (read.opened tells)) (c.requires.unopened tells) in
-    let sets = c.deref.ensures.value ∙ c.in_ok-changes.ensures ∙ ap (λ (xs : List Taken). map (λ (x : Taken). set_entry (entry_as c.args.series x.candidate)) xs) (c.batch_of.ensures.all (c.requires.few tells)) ∙ sets_as c.args.series c.args.taken.now in
+    let sets = c.deref.ensures.value ∙ c.in_ok-changes.ensures ∙ ap (λ (xs : List TakenFile). map (λ (x : TakenFile). set_entry (entry_as c.args.series x.candidate)) xs) (c.batch_of.ensures.all (c.requires.few tells)) ∙ sets_as c.args.series c.args.taken.now in
     let files = files_as g.D.Disk c.args.catalogue.now c.args.place c.args.series c.args.taken.now ms c.args.disk.now m.0 m.1 may in
     (takes_by g.D.Disk c.args.catalogue.now c.args.place c.args.series c.args.taken.now ms c.args.disk.now m.0 m.1 may c.sync_taken.new.disk (read.files tells) unopened (c.in_ok-sync_taken.ensures.durable tells) c.deref.result.now sets (some_there c.args.taken.now c.is_empty.result c.is_empty.ensures c.if-is_empty.false)
     (steps_read g.D.Disk c.args.catalogue.now ms c.args.disk.now c.sync_taken.new.disk read.files read.opened read.any_moment read.faults) c.add_files.new.manifests.items c.add_files.new.disk c.add_files.result

@@ -3,7 +3,7 @@ use Rattle.std.proofs.lemmas.List.{take_all}
 use Rattle.disk_model.specs.Past.{Only}
 use Rattle.found_files.specs.Reading.{OnlyReads}
 use Rattle.found_files.specs.ReadRuns.{read_then}
-use Rattle.store_reopen.specs.declared.finding.Taken.{Taken}
+use Rattle.store_reopen.specs.declared.finding.TakenFile.{TakenFile}
 use Rattle.store_reopen.proofs.TakenFiles.{one_synced}
 use Rattle.store_reopen.proofs.listing.sync_taken.Goals as goal
 
@@ -21,4 +21,4 @@ loop-one-preserved g c =
 
 pub returns-clause-durable : goal.returns-clause-durable
 returns-clause-durable g c tells =
-    subst (λ (xs : List Taken). All (λ (x : Taken). Only (g.D.Disk.past c.loop-one.disk) x.file (g.D.Disk.files c.args.disk.now x.file)) xs) (take_all c.loop-one.one-index c.args.taken.now (omega (arith, c.loop-one-test.false))) (c.loop-one.invariant.durable tells)
+    subst (λ (xs : List TakenFile). All (λ (x : TakenFile). Only (g.D.Disk.past c.loop-one.disk) x.file (g.D.Disk.files c.args.disk.now x.file)) xs) (take_all c.loop-one.one-index c.args.taken.now (omega (arith, c.loop-one-test.false))) (c.loop-one.invariant.durable tells)

@@ -2,7 +2,7 @@ use Rattle.std.proofs.Common.{◌≡◌, ◌+◌, List, length, refl, sym, ◌�
 use Rattle.std.specs.Prelude.{All, slice_get}
 use Rattle.std.proofs.lemmas.Result.{err_from_is_err_and}
 use Rattle.disk_model.specs.Files.{Files}
-use Rattle.gate_journal.specs.Standing.{standing}
+use Rattle.gate_journal.specs.DiskShown.{shown_by}
 use Rattle.partition_names.specs.declared.granularity.Granularity.{Granularity}
 use Rattle.store_manifest.specs.Batches.{Configured}
 use Rattle.store_manifest.specs.Manifest.{ManifestState}
@@ -49,7 +49,7 @@ returns-in_err-manifests-clause-told g c tells =
     rw (p.1, p.2) (c.in_err-manifests.ensures.told tells (g.D.Disk.files c.args.disk.now) c.in_ok-catalogue.catalogue.rows (c.in_ok-catalogue.ensures.rows tells) (λ i n low own. c.load_catalogue.ensures.others tells n (λ too. other_journal (i + 1) n too own)))
 
 pub returns-in_err-manifests-clause-keeps : goal.returns-in_err-manifests-clause-keeps
-returns-in_err-manifests-clause-keeps g c tells = (kept_then (stores_of c.args.config.now) (standing g.D.Disk c.args.disk.now) (standing g.D.Disk c.load_catalogue.new.disk) (standing g.D.Disk c.load_manifests.new.disk) (c.load_catalogue.ensures.keeps tells (stores_of c.args.config.now)) (c.load_manifests.ensures.keeps tells))
+returns-in_err-manifests-clause-keeps g c tells = (kept_then (stores_of c.args.config.now) (shown_by g.D.Disk c.args.disk.now) (shown_by g.D.Disk c.load_catalogue.new.disk) (shown_by g.D.Disk c.load_manifests.new.disk) (c.load_catalogue.ensures.keeps tells (stores_of c.args.config.now)) (c.load_manifests.ensures.keeps tells))
 
 pub returns-in_err-check_rows-clause-told : goal.returns-in_err-check_rows-clause-told
 returns-in_err-check_rows-clause-told g c tells =
@@ -57,7 +57,7 @@ returns-in_err-check_rows-clause-told g c tells =
     rw (p.1, p.2) (c.in_err-check_rows.ensures.told (stores_of c.args.config.now) (g.D.Disk.files c.args.disk.now) refl (said_as (stores_of c.args.config.now) (g.D.Disk.files c.args.disk.now) c.in_ok-catalogue.catalogue.rows c.rows-rows.result.now c.in_ok-manifests.manifests.items c.deref.result.now c.rows-rows.ensures.value c.deref.ensures.value (are_said (stores_of c.args.config.now) (g.D.Disk.files c.load_catalogue.new.disk) (g.D.Disk.files c.args.disk.now) c.in_ok-catalogue.catalogue.rows c.in_ok-manifests.manifests.items refl c.in_ok-manifests.ensures.three (c.in_ok-catalogue.ensures.rows tells) (c.in_ok-manifests.ensures.said tells) c.in_ok-manifests.ensures.granularity (λ i n low own. c.load_catalogue.ensures.others tells n (λ too. other_journal (i + 1) n too own)))))
 
 pub returns-in_err-check_rows-clause-keeps : goal.returns-in_err-check_rows-clause-keeps
-returns-in_err-check_rows-clause-keeps g c tells = (kept_then (stores_of c.args.config.now) (standing g.D.Disk c.args.disk.now) (standing g.D.Disk c.load_catalogue.new.disk) (standing g.D.Disk c.load_manifests.new.disk) (c.load_catalogue.ensures.keeps tells (stores_of c.args.config.now)) (c.load_manifests.ensures.keeps tells))
+returns-in_err-check_rows-clause-keeps g c tells = (kept_then (stores_of c.args.config.now) (shown_by g.D.Disk c.args.disk.now) (shown_by g.D.Disk c.load_catalogue.new.disk) (shown_by g.D.Disk c.load_manifests.new.disk) (c.load_catalogue.ensures.keeps tells (stores_of c.args.config.now)) (c.load_manifests.ensures.keeps tells))
 
 pub returns-in_err-check_files-clause-told : goal.returns-in_err-check_files-clause-told
 returns-in_err-check_files-clause-told g c tells =
@@ -65,15 +65,15 @@ returns-in_err-check_files-clause-told g c tells =
     rw (p.1, p.2) (c.in_err-check_files.ensures.told tells (stores_of c.args.config.now) (g.D.Disk.files c.args.disk.now) refl (said_as (stores_of c.args.config.now) (g.D.Disk.files c.args.disk.now) c.in_ok-catalogue.catalogue.rows c.rows-rows.result.now c.in_ok-manifests.manifests.items c.deref-2.result.now c.rows-rows.ensures.value c.deref-2.ensures.value (are_said (stores_of c.args.config.now) (g.D.Disk.files c.load_catalogue.new.disk) (g.D.Disk.files c.args.disk.now) c.in_ok-catalogue.catalogue.rows c.in_ok-manifests.manifests.items refl c.in_ok-manifests.ensures.three (c.in_ok-catalogue.ensures.rows tells) (c.in_ok-manifests.ensures.said tells) c.in_ok-manifests.ensures.granularity (λ i n low own. c.load_catalogue.ensures.others tells n (λ too. other_journal (i + 1) n too own)))) (λ n other. (c.load_manifests.ensures.keeps tells).now.elsewhere n other ∙ (c.load_catalogue.ensures.keeps tells (stores_of c.args.config.now)).now.elsewhere n other))
 
 pub returns-in_err-check_files-clause-keeps : goal.returns-in_err-check_files-clause-keeps
-returns-in_err-check_files-clause-keeps g c tells = (kept_then (stores_of c.args.config.now) (standing g.D.Disk c.args.disk.now) (standing g.D.Disk c.load_manifests.new.disk) (standing g.D.Disk c.check_files.new.disk) (kept_then (stores_of c.args.config.now) (standing g.D.Disk c.args.disk.now) (standing g.D.Disk c.load_catalogue.new.disk) (standing g.D.Disk c.load_manifests.new.disk) (c.load_catalogue.ensures.keeps tells (stores_of c.args.config.now)) (c.load_manifests.ensures.keeps tells)) (kept_reading (stores_of c.args.config.now) (standing g.D.Disk c.load_manifests.new.disk) (standing g.D.Disk c.check_files.new.disk) (c.check_files.ensures.same tells) (c.check_files.ensures.any_moment tells) (c.check_files.ensures.opened tells)))
+returns-in_err-check_files-clause-keeps g c tells = (kept_then (stores_of c.args.config.now) (shown_by g.D.Disk c.args.disk.now) (shown_by g.D.Disk c.load_manifests.new.disk) (shown_by g.D.Disk c.check_files.new.disk) (kept_then (stores_of c.args.config.now) (shown_by g.D.Disk c.args.disk.now) (shown_by g.D.Disk c.load_catalogue.new.disk) (shown_by g.D.Disk c.load_manifests.new.disk) (c.load_catalogue.ensures.keeps tells (stores_of c.args.config.now)) (c.load_manifests.ensures.keeps tells)) (kept_reading (stores_of c.args.config.now) (shown_by g.D.Disk c.load_manifests.new.disk) (shown_by g.D.Disk c.check_files.new.disk) (c.check_files.ensures.same tells) (c.check_files.ensures.any_moment tells) (c.check_files.ensures.opened tells)))
 
 pub returns-clause-stored : goal.returns-clause-stored
 returns-clause-stored g c tells =
     let one = c.in_ok-manifests.ensures.catalogue tells c.in_ok-catalogue.catalogue c.in_ok-catalogue.ensures.journal.0 (c.in_ok-catalogue.ensures.stored tells) in
-    kept_reads IsCatalogue c.in_ok-catalogue.catalogue.journal (standing g.D.Disk c.load_manifests.new.disk) (standing g.D.Disk c.check_files.new.disk) c.in_ok-catalogue.catalogue.rows one (c.check_files.ensures.same tells) (c.check_files.ensures.any_moment tells) (c.check_files.ensures.opened tells)
+    kept_reads IsCatalogue c.in_ok-catalogue.catalogue.journal (shown_by g.D.Disk c.load_manifests.new.disk) (shown_by g.D.Disk c.check_files.new.disk) c.in_ok-catalogue.catalogue.rows one (c.check_files.ensures.same tells) (c.check_files.ensures.any_moment tells) (c.check_files.ensures.opened tells)
 
 pub returns-clause-kept : goal.returns-clause-kept
-returns-clause-kept g c tells i m here = kept_reads (Configured m.granularity) m.journal (standing g.D.Disk c.load_manifests.new.disk) (standing g.D.Disk c.check_files.new.disk) m.entries (c.in_ok-manifests.ensures.kept tells i m here) (c.check_files.ensures.same tells) (c.check_files.ensures.any_moment tells) (c.check_files.ensures.opened tells)
+returns-clause-kept g c tells i m here = kept_reads (Configured m.granularity) m.journal (shown_by g.D.Disk c.load_manifests.new.disk) (shown_by g.D.Disk c.check_files.new.disk) m.entries (c.in_ok-manifests.ensures.kept tells i m here) (c.check_files.ensures.same tells) (c.check_files.ensures.any_moment tells) (c.check_files.ensures.opened tells)
 
 pub returns-clause-said : goal.returns-clause-said
 returns-clause-said g c tells = (are_said (stores_of c.args.config.now) (g.D.Disk.files c.load_catalogue.new.disk) (g.D.Disk.files c.args.disk.now) c.in_ok-catalogue.catalogue.rows c.in_ok-manifests.manifests.items refl c.in_ok-manifests.ensures.three (c.in_ok-catalogue.ensures.rows tells) (c.in_ok-manifests.ensures.said tells) c.in_ok-manifests.ensures.granularity (λ i n low own. c.load_catalogue.ensures.others tells n (λ too. other_journal (i + 1) n too own)))
@@ -96,4 +96,4 @@ returns-clause-ready g c = record {
 }
 
 pub returns-clause-keeps : goal.returns-clause-keeps
-returns-clause-keeps g c tells = (kept_then (stores_of c.args.config.now) (standing g.D.Disk c.args.disk.now) (standing g.D.Disk c.load_manifests.new.disk) (standing g.D.Disk c.check_files.new.disk) (kept_then (stores_of c.args.config.now) (standing g.D.Disk c.args.disk.now) (standing g.D.Disk c.load_catalogue.new.disk) (standing g.D.Disk c.load_manifests.new.disk) (c.load_catalogue.ensures.keeps tells (stores_of c.args.config.now)) (c.load_manifests.ensures.keeps tells)) (kept_reading (stores_of c.args.config.now) (standing g.D.Disk c.load_manifests.new.disk) (standing g.D.Disk c.check_files.new.disk) (c.check_files.ensures.same tells) (c.check_files.ensures.any_moment tells) (c.check_files.ensures.opened tells)))
+returns-clause-keeps g c tells = (kept_then (stores_of c.args.config.now) (shown_by g.D.Disk c.args.disk.now) (shown_by g.D.Disk c.load_manifests.new.disk) (shown_by g.D.Disk c.check_files.new.disk) (kept_then (stores_of c.args.config.now) (shown_by g.D.Disk c.args.disk.now) (shown_by g.D.Disk c.load_catalogue.new.disk) (shown_by g.D.Disk c.load_manifests.new.disk) (c.load_catalogue.ensures.keeps tells (stores_of c.args.config.now)) (c.load_manifests.ensures.keeps tells)) (kept_reading (stores_of c.args.config.now) (shown_by g.D.Disk c.load_manifests.new.disk) (shown_by g.D.Disk c.check_files.new.disk) (c.check_files.ensures.same tells) (c.check_files.ensures.any_moment tells) (c.check_files.ensures.opened tells)))

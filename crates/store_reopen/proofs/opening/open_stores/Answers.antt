@@ -2,7 +2,7 @@ use Rattle.std.proofs.Common.{sym, ◌∙◌, ap, subst}
 use Rattle.std.proofs.lemmas.Result.{IfErr-weaker, IfOk-weaker}
 use Rattle.std.specs.Prelude.{IsSome, IsTrue, OnOk, ◌↔◌}
 use Rattle.disk_model.specs.Files.{Files}
-use Rattle.store_reopen.specs.Refusal.{IsTold}
+use Rattle.store_reopen.specs.NotOpened.{IsTold}
 use Rattle.store_reopen.specs.Reopen.{HasLoaded, IsSwept, lists_of, stores_of}
 use Rattle.store_reopen.specs.Strays.{adoption_name}
 use Rattle.store_reopen.specs.Verdict.{AreSaid, IsWhole}

@@ -1,6 +1,6 @@
 use Rattle.std.proofs.Common.{◌≡◌, ℕ, [], Result, Err, refl, sym, ap, subst}
 use Rattle.disk_model.specs.Files.{Name}
-use Rattle.gate_journal.specs.Standing.{standing}
+use Rattle.gate_journal.specs.DiskShown.{shown_by}
 use Rattle.tier_store.specs.Stores.{Stores}
 use Rattle.tier_store.specs.Seen.{seen_by}
 use Rattle.tier_store.specs.Change.{Has}
@@ -24,7 +24,7 @@ returns-in-Ok-clause-stands g c tells before after opens =
     let s = seen_by g.D.Disk c.in-Ok.catalogue c.in-Ok.manifests.items c.load_stores.new.disk in
     let read = reads_one gs (g.D.Disk.files old) (g.D.Disk.past old) before after (g.met.D.Disk.seen old tells) opens in
     let has = has_read g.D.Disk.tells gs s (g.D.Disk.files old) (g.D.Disk.past old) before after read.0 refl c.in-Ok.ensures.ready opens read.1 read.2
-    (λ told. (loaded_again gs s (standing g.D.Disk old) refl (c.load_stores.ensures.keeps told) (c.requires.unopened told) c.in-Ok.ensures.ready (c.in-Ok.ensures.stored told) (c.in-Ok.ensures.kept told) c.in-Ok.ensures.name c.in-Ok.ensures.names (c.in-Ok.ensures.said told) (c.in-Ok.ensures.there told), (c.load_stores.ensures.keeps told).passes))
+    (λ told. (loaded_again gs s (shown_by g.D.Disk old) refl (c.load_stores.ensures.keeps told) (c.requires.unopened told) c.in-Ok.ensures.ready (c.in-Ok.ensures.stored told) (c.in-Ok.ensures.kept told) c.in-Ok.ensures.name c.in-Ok.ensures.names (c.in-Ok.ensures.said told) (c.in-Ok.ensures.there told), (c.load_stores.ensures.keeps told).passes))
     (c.in-Ok.ensures.said tells) in
     record { held = read.0; either = read.1; read = read.2; has = subst (λ s. Has g.D.Disk.tells s read.0) (sym (seen_new g.D.Disk c.new.result c.in-Ok.catalogue c.in-Ok.manifests.items c.load_stores.new.disk c.new.ensures.rows c.new.ensures.lists c.new.ensures.disk)) has }
 
@@ -33,7 +33,7 @@ returns-in-Ok-clause-has g c =
     let gs = stores_of c.args.config.now in
     let old = c.args.disk in
     let s = seen_by g.D.Disk c.in-Ok.catalogue c.in-Ok.manifests.items c.load_stores.new.disk in
-    let some = has_some g.D.Disk.tells gs s refl c.in-Ok.ensures.ready (count_of gs c.in-Ok.manifests.items refl c.in-Ok.ensures.ready.granularity) (λ told. loaded_again gs s (standing g.D.Disk old) refl (c.load_stores.ensures.keeps told) (c.requires.unopened told) c.in-Ok.ensures.ready (c.in-Ok.ensures.stored told) (c.in-Ok.ensures.kept told) c.in-Ok.ensures.name c.in-Ok.ensures.names (c.in-Ok.ensures.said told) (c.in-Ok.ensures.there told)) in
+    let some = has_some g.D.Disk.tells gs s refl c.in-Ok.ensures.ready (count_of gs c.in-Ok.manifests.items refl c.in-Ok.ensures.ready.granularity) (λ told. loaded_again gs s (shown_by g.D.Disk old) refl (c.load_stores.ensures.keeps told) (c.requires.unopened told) c.in-Ok.ensures.ready (c.in-Ok.ensures.stored told) (c.in-Ok.ensures.kept told) c.in-Ok.ensures.name c.in-Ok.ensures.names (c.in-Ok.ensures.said told) (c.in-Ok.ensures.there told)) in
     subst (λ s. (held : Stores) × Has g.D.Disk.tells s held) (sym (seen_new g.D.Disk c.new.result c.in-Ok.catalogue c.in-Ok.manifests.items c.load_stores.new.disk c.new.ensures.rows c.new.ensures.lists c.new.ensures.disk)) some
 
 pub returns-in-Ok-clause-whole : goal.returns-in-Ok-clause-whole

@@ -2,7 +2,7 @@ use Rattle.std.proofs.Common.{◌+◌, List, Err, refl, ◌∙◌, ap, arith}
 use Rattle.std.specs.Prelude.{Result}
 use Rattle.std.proofs.lemmas.Result.{err_from_is_err_and}
 use Rattle.disk_model.specs.declared.disk.DiskErr.{DiskErr}
-use Rattle.gate_journal.specs.Standing.{standing}
+use Rattle.gate_journal.specs.DiskShown.{shown_by}
 use Rattle.store_manifest.proofs.Written.{batch_length}
 use Rattle.durable_write.specs.Ends.{end_of_disk}
 use Rattle.durable_write.specs.Flush.{put_all}
@@ -40,7 +40,7 @@ relist-requires-clause-can g c tells =
       (c.args.place + 1, c.args.catalogue.now.rows),
       tier c.args.place was.0,
       holding c.args.place was.0 (put_all (list_at c.args.place was.0) files),
-      can_relist (standing disk) disk.faults disk.tells c.args.catalogue.now ms c.args.place m m here c.args.disk.now c.args.disk.now c.args.changes.now can was.0 was.1 tells,
+      can_relist (shown_by disk) disk.faults disk.tells c.args.catalogue.now ms c.args.place m m here c.args.disk.now c.args.disk.now c.args.changes.now can was.0 was.1 tells,
     )
 
 pub returns-clause-changes : goal.returns-clause-changes
@@ -51,9 +51,9 @@ returns-clause-changes g c files may =
     let here = manifest_here ms c.args.place m c.index_mut.ensures.value c.requires.within in
     let says = c.relist.ensures in
     let can : (held : Stores) → Has g.D.Disk.tells (loaded g.D.Disk c.args.catalogue.now c.args.manifests.now.items c.args.disk.now) held → (fs : List Filed) × CanList c.args.place g.D.Disk.tells (loaded g.D.Disk c.args.catalogue.now c.args.manifests.now.items c.args.disk.now) c.args.changes.now held fs = λ held has. (put_all (list_at c.args.place held) files, may held has) in
-    call_done (standing disk) disk.faults disk.tells c.args.catalogue.now ms c.args.place m c.relist.new.manifest here c.args.disk.now c.relist.new.disk c.args.changes.now can
+    call_done (shown_by disk) disk.faults disk.tells c.args.catalogue.now ms c.args.place m c.relist.new.manifest here c.args.disk.now c.relist.new.disk c.args.changes.now can
     says.state.0 says.any_moment
-    (λ tells. beside_all (standing disk) disk.faults disk.tells c.args.catalogue.now ms c.args.place m c.relist.new.manifest here c.args.disk.now c.relist.new.disk c.args.changes.now can (c.requires.has tells).0 (c.requires.has tells).1 tells (says.frame tells) (says.elsewhere tells) (says.no_more tells))
+    (λ tells. beside_all (shown_by disk) disk.faults disk.tells c.args.catalogue.now ms c.args.place m c.relist.new.manifest here c.args.disk.now c.relist.new.disk c.args.changes.now can (c.requires.has tells).0 (c.requires.has tells).1 tells (says.frame tells) (says.elsewhere tells) (says.no_more tells))
     says.faults (publishing c.args.place files) (λ held has. refl) (λ held has. tt) c.in_ok-relist.ensures.entries c.in_ok-relist.ensures.sound c.in_ok-relist.ensures.made
 
 pub returns-in_err-relist-clause-changes : goal.returns-in_err-relist-clause-changes
@@ -65,9 +65,9 @@ returns-in_err-relist-clause-changes g c files may =
     let says = c.relist.ensures in
     let can : (held : Stores) → Has g.D.Disk.tells (loaded g.D.Disk c.args.catalogue.now c.args.manifests.now.items c.args.disk.now) held → (fs : List Filed) × CanList c.args.place g.D.Disk.tells (loaded g.D.Disk c.args.catalogue.now c.args.manifests.now.items c.args.disk.now) c.args.changes.now held fs = λ held has. (put_all (list_at c.args.place held) files, may held has) in
     let p = err_from_is_err_and c.from_residual.result c.from_residual.ensures.1 in
-    call_cut (standing disk) disk.faults disk.tells c.args.catalogue.now ms c.args.place m c.relist.new.manifest here c.args.disk.now c.relist.new.disk c.args.changes.now can
+    call_cut (shown_by disk) disk.faults disk.tells c.args.catalogue.now ms c.args.place m c.relist.new.manifest here c.args.disk.now c.relist.new.disk c.args.changes.now can
     says.state.0 says.any_moment
-    (λ tells. beside_all (standing disk) disk.faults disk.tells c.args.catalogue.now ms c.args.place m c.relist.new.manifest here c.args.disk.now c.relist.new.disk c.args.changes.now can (c.requires.has tells).0 (c.requires.has tells).1 tells (says.frame tells) (says.elsewhere tells) (says.no_more tells))
+    (λ tells. beside_all (shown_by disk) disk.faults disk.tells c.args.catalogue.now ms c.args.place m c.relist.new.manifest here c.args.disk.now c.relist.new.disk c.args.changes.now can (c.requires.has tells).0 (c.requires.has tells).1 tells (says.frame tells) (says.elsewhere tells) (says.no_more tells))
     says.faults (publishing c.args.place files) (λ held has. refl) (λ held has. tt) c.in_err-relist.ensures.unchanged c.in_err-relist.ensures.next c.in_err-relist.ensures.unmade c.in_err-relist.ensures.in_doubt
     c.in_err-relist.field-0.0 _ (ap (λ (r : Result (Unit {0}) DiskErr). end_of_disk r) (p.1 ∙ ap (λ (x : DiskErr). Err x) p.2))
     (λ is. says.memory (c.in_err-relist.was ∙ ap (λ (x : DiskErr). Err x) is)) (λ is. says.cause (c.in_err-relist.was ∙ ap (λ (x : DiskErr). Err x) is))

@@ -1,7 +1,7 @@
 use Rattle.std.proofs.Common.{◌≡◌, ℕ, List, sym, ap, subst, arith}
 use Rattle.disk_model.specs.Files.{Name}
 use Rattle.gate_journal.specs.Kept.{IsKept}
-use Rattle.gate_journal.specs.Standing.{standing}
+use Rattle.gate_journal.specs.DiskShown.{shown_by}
 use Rattle.pv_catalog.specs.Rows.{IsCatalogue}
 use Rattle.pv_catalog.specs.declared.row.Row.{Row}
 use Rattle.tier_store.proofs.RowCalls.{register_changes}
@@ -12,7 +12,7 @@ use Rattle.store_reopen.proofs.stepping.add_row.Goals as goal
 pub returns-clause-changes : goal.returns-clause-changes
 returns-clause-changes g c ms has =
     let says = c.register.ensures in
-    register_changes (standing g.D.Disk) g.D.Disk.faults g.D.Disk.tells c.args.catalogue.now c.register.new.self ms c.args.disk.now c.register.new.disk c.args.name.now c.args.about.now c.register.result
+    register_changes (shown_by g.D.Disk) g.D.Disk.faults g.D.Disk.tells c.args.catalogue.now c.register.new.self ms c.args.disk.now c.register.new.disk c.args.name.now c.args.about.now c.register.result
     says.name (λ tells. (says.commits tells).any_moment) (λ tells. (says.commits tells).elsewhere) (λ tells. (says.one_file tells).opened) says.faults says.id says.rows says.sound (λ tells. (says.commits tells).made) says.refusal says.exactly says.unchanged says.kept (λ tells. (says.commits tells).doubt) says.next says.fault says.memory
 
 pub returns-clause-spares : goal.returns-clause-spares
@@ -24,7 +24,7 @@ returns-clause-spares g c tells =
 pub register-requires-clause-stored : goal.register-requires-clause-stored
 register-requires-clause-stored g c tells =
     let has = (c.requires.has tells).2 in
-    subst (λ (rs : List Row). IsKept IsCatalogue c.args.catalogue.now.journal (standing g.D.Disk c.args.disk.now) rs) (sym has.known.rows) (has.disk tells).rows.kept
+    subst (λ (rs : List Row). IsKept IsCatalogue c.args.catalogue.now.journal (shown_by g.D.Disk c.args.disk.now) rs) (sym has.known.rows) (has.disk tells).rows.kept
 
 pub returns-clause-ready : goal.returns-clause-ready
 returns-clause-ready g c gs ms ready =

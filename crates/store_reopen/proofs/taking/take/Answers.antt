@@ -4,7 +4,7 @@ use Rattle.std.proofs.lemmas.Option.{same_Some}
 use Rattle.found_files.specs.declared.finding.Candidate.{Candidate}
 use Rattle.store_reopen.specs.Listing.{turns_of}
 use Rattle.store_reopen.specs.Turns.{IsOfTurn}
-use Rattle.store_reopen.specs.declared.finding.Taken.{Taken}
+use Rattle.store_reopen.specs.declared.finding.TakenFile.{TakenFile}
 use Rattle.store_reopen.proofs.Stages.{one_taken, turn_read, turn_set}
 use Rattle.store_reopen.proofs.taking.take.Goals as goal
 
@@ -20,12 +20,12 @@ returns-in_default-turn_of-clause-takes c turn old new was now = record {
 
 pub returns-clause-takes : goal.returns-clause-takes
 returns-clause-takes c turn old new was now =
-    let t : Taken = record { file = c.args.one.file; candidate = c.in-Some.candidate } in
+    let t : TakenFile = record { file = c.args.one.file; candidate = c.in-Some.candidate } in
     let mine = c.in-Some-turn_of.ensures.takes in
     elim (turn_set c.args.turns.now.items c.in-Some-turn_of.turn c.push.new.self turn old new was now) [
       | inl (at, is) ↦
           let read : c.index_mut.result.now.items ≡ old = turn_read c.args.turns.now.items c.in-Some-turn_of.turn c.index_mut.result.now old c.index_mut.ensures.value (subst (λ (n : ℕ). slice_get (turns_of c.args.turns.now.items) n ≡ Some old) at was) in
-          record { takes = inl (c.in-Some.candidate, c.in-Some.is, subst (λ (n : ℕ). IsOfTurn c.args.manifests.now c.args.catalogue.now.rows n c.args.one.place c.in-Some.candidate) (sym at) mine.1, is ∙ c.in_ok-push.ensures.items ∙ ap (λ (l : List Taken). l ++ t ∷ []) read) }
+          record { takes = inl (c.in-Some.candidate, c.in-Some.is, subst (λ (n : ℕ). IsOfTurn c.args.manifests.now c.args.catalogue.now.rows n c.args.one.place c.in-Some.candidate) (sym at) mine.1, is ∙ c.in_ok-push.ensures.items ∙ ap (λ (l : List TakenFile). l ++ t ∷ []) read) }
       | inr (apart, is) ↦ record {
         takes = inr (
           (λ x some of.

@@ -1,7 +1,7 @@
 use Rattle.std.proofs.Common.{◌≡◌, None, Some, sym, ◌∙◌, ap, arith, Option}
 use Rattle.std.specs.Prelude.{option_copied, slice_get}
 use Rattle.std.proofs.lemmas.Option.{slice_get_within}
-use Rattle.etl_mover.specs.Move.{MoveState}
+use Rattle.etl_mover.specs.Move.{Moving}
 use Rattle.store_manifest.specs.declared.entry.Entry.{Entry}
 use Rattle.tier_store.proofs.CopyParts.{some_entry, rest_begun, rest_done, rest_long, rest_step}
 use Rattle.tier_store.proofs.copying.pass_rest.Goals as goal
@@ -22,7 +22,7 @@ pub loop-part-smaller : goal.loop-part-smaller
 loop-part-smaller c =
     let here : slice_get c.loop-part.moving.parts c.loop-part.moving.at ≡ Some c.in-Some.part.now = sym c.at.ensures ∙ ap option_copied c.in-Some.is in
     let low = slice_get_within c.loop-part.moving.parts c.loop-part.moving.at c.in-Some.part.now here in
-    let more = ap (λ (x : MoveState). x.at) (c.pass.ensures.passed c.in-Some.part.now here) in
+    let more = ap (λ (x : Moving). x.at) (c.pass.ensures.passed c.in-Some.part.now here) in
     let long = rest_long c.args.moving.now c.loop-part.moving c.loop-part.invariant.is in
     omega (arith, low, more, long)
 
@@ -32,7 +32,7 @@ loop-part-preserved c =
     let here : slice_get c.loop-part.moving.parts c.loop-part.moving.at ≡ Some c.in-Some.part.now = sym c.at.ensures ∙ ap option_copied c.in-Some.is in
     let low = slice_get_within c.loop-part.moving.parts c.loop-part.moving.at c.in-Some.part.now here in
     let passed = c.pass.ensures.passed c.in-Some.part.now here in
-    let more = ap (λ (x : MoveState). x.at) passed in
+    let more = ap (λ (x : Moving). x.at) passed in
     let long = rest_long c.args.moving.now c.loop-part.moving inv.is in
     record {
       running = λ fine is. c.pass.ensures.running fine (inv.running fine is);

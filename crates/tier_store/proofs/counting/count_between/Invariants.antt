@@ -1,6 +1,6 @@
 use Rattle.std.proofs.Common.{◌≤◌, ◌-◌, ◌+◌, List, IsTrue}
 use Rattle.series_model.specs.declared.sample.Sample.{Sample}
-use Rattle.gate_journal.specs.Standing.{standing, ReadsDisk}
+use Rattle.gate_journal.specs.DiskShown.{shown_by, ReadsDisk}
 use Rattle.tier_store.specs.Counting.{HasLines}
 use Rattle.tier_store.proofs.Lines.{IsBetween}
 use Rattle.tier_store.proofs.counting.count_between.Given as goal
@@ -10,7 +10,7 @@ invariant-loop-at g l = record {
   some : 1 ≤ l.want;
   few : l.count ≤ l.at;
   between : IsTrue g.D.Disk.tells → (samples : List Sample) → HasLines (g.D.Disk.files l.fn.disk) l.name l.from l.end l.ty l.year.year samples → IsBetween (g.D.Disk.files l.fn.disk) l.name l.from l.at l.end l.ty l.year.year (l.last + 1) samples l.count;
-  reads : IsTrue g.D.Disk.tells → ReadsDisk (standing g.D.Disk l.fn.disk) (standing g.D.Disk l.disk);
+  reads : IsTrue g.D.Disk.tells → ReadsDisk (shown_by g.D.Disk l.fn.disk) (shown_by g.D.Disk l.disk);
   faults : g.D.Disk.faults l.fn.disk ≤ g.D.Disk.faults l.disk;
 }
 

@@ -1,6 +1,6 @@
 use Rattle.std.proofs.Common.{◌≤◌, ◌-◌, ◌+◌, List, IsTrue}
 use Rattle.disk_model.specs.Files.{HasFile}
-use Rattle.gate_journal.specs.Standing.{standing, ReadsDisk}
+use Rattle.gate_journal.specs.DiskShown.{shown_by, ReadsDisk}
 use Rattle.series_model.specs.declared.sample.Sample.{Sample}
 use Rattle.tier_store.specs.Counting.{HasLines, behind}
 use Rattle.tier_store.specs.Finding.{AreLinesFrom}
@@ -14,7 +14,7 @@ invariant-loop-at g l = record {
   high : l.at ≤ l.end;
   between : IsTrue g.D.Disk.tells → (samples : List Sample) → HasLines (g.D.Disk.files l.fn.disk) l.name l.from l.end l.ty l.year.year samples → IsBetween (g.D.Disk.files l.fn.disk) l.name l.from l.at l.end l.ty l.year.year (behind l.last) samples 0;
   told : IsTrue g.D.Disk.tells → HasFile (g.D.Disk.files l.fn.disk) l.name (AreLinesFrom l.ty l.year.year l.from l.at);
-  reads : IsTrue g.D.Disk.tells → ReadsDisk (standing g.D.Disk l.fn.disk) (standing g.D.Disk l.disk);
+  reads : IsTrue g.D.Disk.tells → ReadsDisk (shown_by g.D.Disk l.fn.disk) (shown_by g.D.Disk l.disk);
   faults : g.D.Disk.faults l.fn.disk ≤ g.D.Disk.faults l.disk;
 }
 

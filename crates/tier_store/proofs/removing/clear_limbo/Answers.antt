@@ -1,7 +1,7 @@
 use Rattle.std.proofs.Common.{List, None, subst, sym}
 use Rattle.std.specs.Prelude.{OnOk}
 use Rattle.disk_model.specs.Past.{Only}
-use Rattle.gate_journal.specs.Standing.{standing}
+use Rattle.gate_journal.specs.DiskShown.{shown_by}
 use Rattle.tier_store.specs.Limbo.{Removes, AreFree, AreRemovable, IsUseless}
 use Rattle.tier_store.specs.declared.limbo.Retired.{Retired}
 use Rattle.tier_store.proofs.removing.clear_limbo.Goals as goal
@@ -14,7 +14,7 @@ pub returns-clause-removes : goal.returns-clause-removes
 returns-clause-removes g c tells =
     let old = c.args.disk.now in
     let new = c.remove_for_good-removed.new.disk in
-    subst (λ (rs : List Retired). Removes c.args.pinned.now c.args.copied.now rs (standing g.D.Disk old) (standing g.D.Disk new)) c.as_slice.ensures.value (c.remove_for_good-removed.ensures.removes tells)
+    subst (λ (rs : List Retired). Removes c.args.pinned.now c.args.copied.now rs (shown_by g.D.Disk old) (shown_by g.D.Disk new)) c.as_slice.ensures.value (c.remove_for_good-removed.ensures.removes tells)
 
 pub returns-clause-gone : goal.returns-clause-gone
 returns-clause-gone g c tells =

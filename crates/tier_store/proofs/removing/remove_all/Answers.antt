@@ -4,7 +4,7 @@ use Rattle.std.proofs.lemmas.List.{take_all}
 use Rattle.std.proofs.lemmas.List.Elements.{Contains-get_or}
 use Rattle.disk_model.specs.Files.{Name, Rose}
 use Rattle.disk_model.specs.declared.disk.DiskErr.{DiskErr}
-use Rattle.gate_journal.specs.Standing.{standing}
+use Rattle.gate_journal.specs.DiskShown.{shown_by}
 use Rattle.durable_write.proofs.Staying.{rose_after}
 use Rattle.tier_store.proofs.Removals.{both_err, gone_more, names_more, names_none, there_more, both_done, rose_until}
 use Rattle.tier_store.proofs.removing.remove_all.Goals as goal
@@ -33,7 +33,7 @@ loop-name-preserved g c =
     let done = c.loop-name.done in
     let within : Contains names n = subst (λ (x : Name). Contains names x) (sym c.name-item.is) (Contains-get_or names c.loop-name.name-index n c.loop-name-test.true) in
     record {
-      removes = λ tells. names_more names _ (standing g.D.Disk mid) (standing g.D.Disk new) n within (so_far.removes tells) (says.elsewhere tells) (says.any_moment tells) (says.fewer tells);
+      removes = λ tells. names_more names _ (shown_by g.D.Disk mid) (shown_by g.D.Disk new) n within (so_far.removes tells) (says.elsewhere tells) (says.any_moment tells) (says.fewer tells);
       gone = λ tells.
           let both = both_done removed done (g.D.Disk.files new n ≡ None) (All (λ (x : Name). g.D.Disk.files mid x ≡ None) (take c.loop-name.name-index names)) (All (λ (x : Name). g.D.Disk.files new x ≡ None) (take (c.loop-name.name-index + 1) names))
           (λ none rest. gone_more names c.loop-name.name-index n (g.D.Disk.files mid) (g.D.Disk.files new) c.loop-name-test.true c.name-item.is (says.elsewhere tells) none rest) (says.gone tells) (so_far.gone tells) in

@@ -3,7 +3,7 @@ use Rattle.std.specs.Prelude.{OnOk, Result, IsErr}
 use Rattle.disk_model.specs.Files.{Rose}
 use Rattle.disk_model.specs.Past.{Only}
 use Rattle.disk_model.specs.declared.disk.DiskErr.{DiskErr}
-use Rattle.gate_journal.specs.Standing.{standing}
+use Rattle.gate_journal.specs.DiskShown.{shown_by}
 use Rattle.durable_write.proofs.Staying.{rose_after}
 use Rattle.tier_store.specs.Limbo.{AreFree}
 use Rattle.tier_store.proofs.Removals.{both_err, own_gone, own_removed, removes_read, gone_for_good, both_done, rose_until}
@@ -17,8 +17,8 @@ returns-clause-removes g c tells =
     let first = c.args.disk.now in
     let mid = c.remove_all-removed.new.disk in
     let new = c.sync_unneeded-synced.new.disk in
-    removes_read c.args.pinned.now c.args.copied.now c.args.files.now (standing g.D.Disk first) (standing g.D.Disk mid) (standing g.D.Disk new)
-    (own_removed c.args.pinned.now c.args.copied.now c.args.files.now c.args.removable.now (standing g.D.Disk first) (standing g.D.Disk mid) (c.requires tells) (c.remove_all-removed.ensures.removes tells))
+    removes_read c.args.pinned.now c.args.copied.now c.args.files.now (shown_by g.D.Disk first) (shown_by g.D.Disk mid) (shown_by g.D.Disk new)
+    (own_removed c.args.pinned.now c.args.copied.now c.args.files.now c.args.removable.now (shown_by g.D.Disk first) (shown_by g.D.Disk mid) (c.requires tells) (c.remove_all-removed.ensures.removes tells))
     (c.sync_unneeded-synced.ensures.same tells) (c.sync_unneeded-synced.ensures.opened tells) (c.sync_unneeded-synced.ensures.any_moment tells)
 
 pub returns-clause-gone : goal.returns-clause-gone
@@ -30,7 +30,7 @@ returns-clause-gone g c tells =
     (both_done c.sync_unneeded-synced.result c.remove_all-removed.result _ _ _
     (λ durable gone.
     gone_for_good c.args.pinned.now c.args.copied.now (g.D.Disk.files mid) (g.D.Disk.past new) c.args.files.now
-    (own_gone c.args.pinned.now c.args.copied.now c.args.files.now c.args.removable.now (standing g.D.Disk first) (standing g.D.Disk mid) (c.requires tells) (c.remove_all-removed.ensures.removes tells) gone) durable)
+    (own_gone c.args.pinned.now c.args.copied.now c.args.files.now c.args.removable.now (shown_by g.D.Disk first) (shown_by g.D.Disk mid) (c.requires tells) (c.remove_all-removed.ensures.removes tells) gone) durable)
     (c.sync_unneeded-synced.ensures.durable tells) (c.remove_all-removed.ensures.gone tells))
 
 pub returns-clause-cause : goal.returns-clause-cause

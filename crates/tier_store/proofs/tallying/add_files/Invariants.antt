@@ -4,7 +4,7 @@ use Rattle.std.specs.List.{flat_map}
 use Rattle.partition_names.specs.declared.granularity.Granularity.{Granularity}
 use Rattle.series_model.specs.Series.{over, IsRising}
 use Rattle.series_model.specs.declared.sample.Sample.{Sample}
-use Rattle.gate_journal.specs.Standing.{standing, ReadsDisk}
+use Rattle.gate_journal.specs.DiskShown.{shown_by, ReadsDisk}
 use Rattle.durable_write.specs.Held.{Filed, entry_of}
 use Rattle.tier_store.specs.Counting.{behind}
 use Rattle.tier_store.specs.Details.{IsTally, IsWhole}
@@ -17,6 +17,6 @@ invariant-loop-entry g l = record {
       → IsTally (over samples (flat_map (λ (f : Filed). f.samples) (take l.entry-index files))) l.tally;
   listed : RiseFrom (behind l.fn.tally.last) l.entries → (l.tally.count ≡ l.fn.tally.count + listed_count (take l.entry-index l.entries)) × (behind l.tally.last ≡ end_of_files (behind l.fn.tally.last) (take l.entry-index l.entries));
   ends : behind l.tally.last ≡ end_of_files (behind l.fn.tally.last) (take l.entry-index l.entries);
-  reads : IsTrue g.D.Disk.tells → ReadsDisk (standing g.D.Disk l.fn.disk) (standing g.D.Disk l.disk);
+  reads : IsTrue g.D.Disk.tells → ReadsDisk (shown_by g.D.Disk l.fn.disk) (shown_by g.D.Disk l.disk);
   faults : g.D.Disk.faults l.fn.disk ≤ g.D.Disk.faults l.disk;
 }

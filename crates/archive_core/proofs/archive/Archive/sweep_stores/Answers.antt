@@ -6,7 +6,7 @@ use Rattle.tier_store.specs.Moving.{LeavesLater}
 use Rattle.tier_store.specs.Pinned.{seen_all, beside, Shows}
 use Rattle.tier_store.specs.Seen.{seen}
 use Rattle.tier_store.specs.declared.limbo.Retired.{Retired}
-use Rattle.tier_store.specs.declared.removing.Swept.{Swept}
+use Rattle.tier_store.specs.declared.removing.StoreSwept.{StoreSwept}
 use Rattle.act_model.specs.Sweep.{Sweeps}
 use Rattle.act_model.specs.declared.acts.Act.TheVariants.{Sweep}
 use Rattle.tier_store.proofs.Removals.{on_err}
@@ -25,7 +25,7 @@ returns-in_err-settle g c who =
     let e = err_from_is_err_and c.from_residual.result c.from_residual.ensures.1 in
     let p = parts g.D.Disk c.args.self.now in
     let q = parts g.D.Disk c.settle.new.self in
-    subst (λ (r : Result Swept DiskErr). Acted g.D.Disk.tells who Sweep p (sweep_reply r) q) (sym (e.1 ∙ ap (λ (d : DiskErr). Err d) e.2))
+    subst (λ (r : Result StoreSwept DiskErr). Acted g.D.Disk.tells who Sweep p (sweep_reply r) q) (sym (e.1 ∙ ap (λ (d : DiskErr). Err d) e.2))
     (swept_so g.D.Disk.tells who p q (Err c.in_err-settle.field-0.0) (cut g.D.Disk.tells who Sweep Sweeps (sweeps_act who) p q c.settle.result c.settle.ensures.settling (λ settled. ap (seen_all g.D.Disk) (c.settle.ensures.quiet settled)) (λ m s. refl) c.in_err-settle.field-0.0 c.in_err-settle.was c.in_err-settle.ensures.still))
 
 pub written_names-requires : goal.written_names-requires
@@ -46,7 +46,7 @@ returns-in_err-written g c who =
     let e = err_from_is_err_and c.from_residual-in_err-written.result c.from_residual-in_err-written.ensures.1 in
     let p = parts g.D.Disk c.args.self.now in
     let q = parts g.D.Disk c.settle.new.self in
-    subst (λ (r : Result Swept DiskErr). Acted g.D.Disk.tells who Sweep p (sweep_reply r) q) (sym (e.1 ∙ ap (λ (d : DiskErr). Err d) e.2))
+    subst (λ (r : Result StoreSwept DiskErr). Acted g.D.Disk.tells who Sweep p (sweep_reply r) q) (sym (e.1 ∙ ap (λ (d : DiskErr). Err d) e.2))
     (swept_so g.D.Disk.tells who p q (Err Memory) (spent_then g.D.Disk.tells who Sweep Sweeps (sweeps_act who) p q c.settle.result c.settle.ensures.settling (λ settled. ap (seen_all g.D.Disk) (c.settle.ensures.quiet settled)) (λ m s. refl) c.in_ok-settle.ensures.settled (λ m s. refl)))
 
 pub returns : goal.returns

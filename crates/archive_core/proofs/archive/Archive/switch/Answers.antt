@@ -11,7 +11,7 @@ use Rattle.archive_core.specs.Switching.{to_of}
 use Rattle.archive_core.specs.declared.memory.RowMemory.{RowMemory}
 use Rattle.archive_core.proofs.KeptRows.{memory_there}
 use Rattle.archive_core.proofs.Lists.{read_at}
-use Rattle.archive_core.proofs.archive.Archive.switch.Goals.{In_ok-switch}
+use Rattle.archive_core.proofs.archive.Archive.switch.Goals.{After-switch}
 use Rattle.archive_core.proofs.archive.Archive.switch.Goals as goal
 
 pub switch-requires-clause-rests : goal.switch-requires-clause-rests
@@ -26,19 +26,19 @@ returns-in_err-switch g c =
     subst Changes (sym (e.1 ∙ ap (λ (d : DiskErr). Err d) e.2)) (subst (λ (x : Result (Unit {0}) DiskErr). ClearsRow c.args.row w w x → Changes x) c.in_err-switch.was (c.switch.ensures w w) refl)
 
 -- the row's memory is there
-low : (g : _) (c : In_ok-switch g) → c.args.row < length c.args.self.now.rows.items
+low : (g : _) (c : After-switch g) → c.args.row < length c.args.self.now.rows.items
 low g c =
     let was = c.requires.rests in
     memory_there c.args.self.now.half.store.catalogue.rows _ _ was.0.rows was.1.stands.rows c.args.row (slice_get_within c.args.self.now.half.store.catalogue.rows c.args.row c.requires.state.row c.requires.state.here)
 
 pub index_mut-requires : goal.index_mut-requires
-index_mut-requires g c = let there = low g (goal.at.index_mut-requires g c).In_ok-switch in search rules
+index_mut-requires g c = let there = low g (goal.at.index_mut-requires g c).After-switch in search rules
 
 pub returns : goal.returns
 returns g c =
     let w = memory_in c.args.self.now in
     let after : InMemory = record w { kept = slice_set w.kept c.args.row c.clear.new.memory } in
-    let there = read_at w.kept c.args.row c.index_mut.result.now c.index_mut.ensures.value (low g (goal.at.returns g c).In_ok-switch) in
+    let there = read_at w.kept c.args.row c.index_mut.result.now c.index_mut.ensures.value (low g (goal.at.returns g c).After-switch) in
     let clears : ClearsRow {A = Unit {0}} c.args.row w after (Ok tt) =
     λ memory here. ap (λ (x : RowMemory). let cleared_one : InMemory = record w { kept = slice_set w.kept c.args.row x } in cleared_one) (c.clear.ensures ∙ ap cleared (same_Some c.index_mut.result.now memory (sym there ∙ here))) in
     subst (λ (x : Result (Unit {0}) DiskErr). ClearsRow c.args.row w after x → Changed g.D.Disk.tells (SetsState c.args.row (to_of c.args.switch)) (parts g.D.Disk c.args.self.now) (parts_beside g.D.Disk c.switch.new.self after) x) c.in_ok-switch.was (c.switch.ensures w after) clears

@@ -3,8 +3,8 @@ use Rattle.std.specs.BTreeMap.{get}
 use Rattle.std.specs.Ordering.{nat_cmp}
 use Rattle.std.proofs.lemmas.Result.{err_from_is_err_and}
 use Rattle.tier_store.specs.Beginning.{SaysBegun}
-use Rattle.tier_store.specs.declared.moving.MoveBegun as own
-use Rattle.tier_store.specs.declared.moving.MoveBegun.TheVariants as begun
+use Rattle.tier_store.specs.declared.moving.StoreMove as own
+use Rattle.tier_store.specs.declared.moving.StoreMove.TheVariants as begun
 use Rattle.act_model.specs.Machine.{Machine}
 use Rattle.archive_core.specs.Parts.{InMemory, parts_beside}
 use Rattle.archive_core.specs.Stands.{Rests}
@@ -23,10 +23,10 @@ returns-in_err-m-in-Begun-clause-spent g c =
     rw e.1 (λ w m r. slots_stand g.D.Disk.tells (parts_beside g.D.Disk c.args.self.now w) m c.begin.new.self.slots.items c.in_err-m-in-Begun.ensures.unchanged r)
 
 -- what the stores say of what is held
-said : (g : _) (w : InMemory) (c : In_ok-begun g) (m : Machine) (r : Rests g.D.Disk.tells (parts_beside g.D.Disk c.args.self.now w) m) (given : own.MoveBegun) → c.in_ok-begun.begun ≡ given
+said : (g : _) (w : InMemory) (c : In_ok-begun g) (m : Machine) (r : Rests g.D.Disk.tells (parts_beside g.D.Disk c.args.self.now w) m) (given : own.StoreMove) → c.in_ok-begun.begun ≡ given
     → SaysBegun g.D.Disk.tells (c.from.result - 1) c.rule_at-rule.result (get nat_cmp c.in_ok-running.running) c.args.self.now.store.manifests.items given r.stands.store.before
 said g w c m r given is =
-    subst (λ (b : own.MoveBegun). SaysBegun g.D.Disk.tells (c.from.result - 1) c.rule_at-rule.result (get nat_cmp c.in_ok-running.running) c.args.self.now.store.manifests.items b r.stands.store.before) is
+    subst (λ (b : own.StoreMove). SaysBegun g.D.Disk.tells (c.from.result - 1) c.rule_at-rule.result (get nat_cmp c.in_ok-running.running) c.args.self.now.store.manifests.items b r.stands.store.before) is
     (c.in_ok-begun.ensures.says r.stands.store.before (rests_has g.D.Disk.tells (parts_beside g.D.Disk c.args.self.now w) m r))
 
 pub returns-in-Begun-clause-begins : goal.returns-in-Begun-clause-begins

@@ -4,7 +4,7 @@ use Rattle.tier_store.specs.Opening.{end_of_answer}
 use Rattle.tier_store.specs.Pinned.{SeenAll, PinsStand, seen_all}
 use Rattle.tier_store.specs.Pinning.{SaysPinned}
 use Rattle.tier_store.specs.Telling.{SaysOf}
-use Rattle.act_model.specs.Pin.{Pins}
+use Rattle.act_model.specs.Pin.{MakesPin}
 use Rattle.act_model.specs.Reply.{reply_of}
 use Rattle.act_model.specs.declared.acts.Act.TheVariants.{Pin}
 use Rattle.archive_core.specs.Acting.{Asked}
@@ -32,7 +32,7 @@ returns-clause-asked g c = λ w row named tail.
     let same = still g (goal.at.returns-clause-asked g c).After-pin w in
     let given = reply_of g.D.Reader.ReadAt.tells g.D.Reader.ReadAt.bytes g.D.Reader.ReadAt.faults c.pin.result in
     let alone = reads_none g.D.Disk.tells q (record q { pinned = pinned }) refl in
-    subst (λ (all : SeenAll). Asked g.D.Disk.tells (Pins c.args.who c.args.name.now c.args.query) q given (record q { at = all.stores; limbo = all.limbo; pinned = pinned })) (sym same) (record {
+    subst (λ (all : SeenAll). Asked g.D.Disk.tells (MakesPin c.args.who c.args.name.now c.args.query) q given (record q { at = all.stores; limbo = all.limbo; pinned = pinned })) (sym same) (record {
       asks = λ m r.
           let has = rests_has g.D.Disk.tells q m r in
           let says = subst (λ (xs : List Sample). SaysOf (SaysPinned {R = g.row.D-Reader.Denot} c.args.who c.args.name.now c.args.query xs q.pinned pinned) (end_of_answer c.pin.result) r.stands.store.before) tail (call.says r.stands.store.before has) in

@@ -1,9 +1,9 @@
 use Rattle.std.proofs.Common.{◌≡◌, inl, inr, Some, sym, subst, arith}
 use Rattle.std.specs.Prelude.{OnOk}
-use Rattle.gate_journal.specs.Standing.{standing}
+use Rattle.gate_journal.specs.DiskShown.{shown_by}
 use Rattle.store_manifest.specs.declared.entry.Entry.{Entry}
 use Rattle.etl_mover.specs.declared.copying.Start.{Start}
-use Rattle.etl_mover.specs.Move.{MoveState, IsMove}
+use Rattle.etl_mover.specs.Move.{Moving, IsMove}
 use Rattle.etl_mover.specs.Step.{Advances, CopiesPart, source_file, target_file}
 use Rattle.etl_mover.specs.Writing.{LeavesFile}
 use Rattle.etl_mover.proofs.Steps.{finish_keeps, advances_covered, by_one, ends_covered, still_running, reads_none, reads_leave}
@@ -18,13 +18,13 @@ copy_part-requires-clause-room g c tells n some = (c.requires.can tells).target 
 pub returns-in-Some-clause-copies : goal.returns-in-Some-clause-copies
 returns-in-Some-clause-copies g c tells part start b goes is =
     by_one c.args.self.now c.args.revived c.args.part.now part c.in-Some.start start
-    (λ (q : Entry) (t : Start). g.D.Disk.files c.args.disk.now (source_file c.args.self.now q) ≡ Some b → OnOk c.copy_part.result (CopiesPart c.args.self.now c.copy_part.new.self t q c.args.from c.args.len 1_048_576 b (g.D.Disk.files c.args.disk.now) (standing g.D.Disk c.copy_part.new.disk)))
+    (λ (q : Entry) (t : Start). g.D.Disk.files c.args.disk.now (source_file c.args.self.now q) ≡ Some b → OnOk c.copy_part.result (CopiesPart c.args.self.now c.copy_part.new.self t q c.args.from c.args.len 1_048_576 b (g.D.Disk.files c.args.disk.now) (shown_by g.D.Disk c.copy_part.new.disk)))
     c.in-Some.ensures.goes goes (c.copy_part.ensures.copies tells b) is
 
 pub returns-in-Some-clause-leaves : goal.returns-in-Some-clause-leaves
 returns-in-Some-clause-leaves g c tells part start goes =
     by_one c.args.self.now c.args.revived c.args.part.now part c.in-Some.start start
-    (λ (q : Entry) (t : Start). LeavesFile (target_file c.args.self.now t) t.at (standing g.D.Disk c.args.disk.now) (standing g.D.Disk c.copy_part.new.disk))
+    (λ (q : Entry) (t : Start). LeavesFile (target_file c.args.self.now t) t.at (shown_by g.D.Disk c.args.disk.now) (shown_by g.D.Disk c.copy_part.new.disk))
     c.in-Some.ensures.goes goes (c.copy_part.ensures.leaves tells)
 
 pub returns-in-Some-clause-nowhere : goal.returns-in-Some-clause-nowhere
@@ -43,8 +43,8 @@ pub returns-in-None-clause-copies : goal.returns-in-None-clause-copies
 returns-in-None-clause-copies g c tells part start b goes is =
     elim (c.left.ensures.none c.in-None.is) [
       | inl same ↦
-          let at = standing g.D.Disk c.args.disk.now in
-          subst (λ (m : MoveState). CopiesPart c.args.self.now m start part c.args.from c.args.len 1_048_576 b at.files at) (sym c.finish.ensures.finished)
+          let at = shown_by g.D.Disk c.args.disk.now in
+          subst (λ (m : Moving). CopiesPart c.args.self.now m start part c.args.from c.args.len 1_048_576 b at.files at) (sym c.finish.ensures.finished)
           (ends_covered c.args.self.now start c.args.part.now part c.args.from c.args.len 1_048_576 b at same)
       | inr never ↦ absurd (never part start goes)
     ]
@@ -59,7 +59,7 @@ pub returns-in-None-clause-running : goal.returns-in-None-clause-running
 returns-in-None-clause-running g c fine is = subst (IsMove fine) (sym c.finish.ensures.finished) (finish_keeps fine c.args.self.now c.args.part.now c.args.len is c.requires.next)
 
 pub returns-in-None-clause-advances : goal.returns-in-None-clause-advances
-returns-in-None-clause-advances g c = subst (λ (m : MoveState). Advances c.args.self.now m c.args.revived c.args.len) (sym c.finish.ensures.finished) (advances_covered c.args.self.now c.args.revived c.args.part.now c.args.len c.requires.next)
+returns-in-None-clause-advances g c = subst (λ (m : Moving). Advances c.args.self.now m c.args.revived c.args.len) (sym c.finish.ensures.finished) (advances_covered c.args.self.now c.args.revived c.args.part.now c.args.len c.requires.next)
 
 pub returns-in-None-clause-done : goal.returns-in-None-clause-done
 returns-in-None-clause-done g c = c.finish.ensures.done

@@ -3,7 +3,7 @@ use Rattle.std.specs.Prelude.{All}
 use Rattle.std.proofs.lemmas.Result.{err_from_is_err_and}
 use Rattle.std.proofs.lemmas.List.{length-map}
 use Rattle.gate_journal.specs.Generations.{AtOwn}
-use Rattle.gate_journal.specs.Standing.{standing}
+use Rattle.gate_journal.specs.DiskShown.{shown_by}
 use Rattle.disk_model.specs.declared.disk.DiskErr.{DiskErr}
 use Rattle.disk_model.proofs.Passing.{passes_none}
 use Rattle.partition_names.specs.declared.granularity.Granularity.{Granularity}
@@ -44,9 +44,9 @@ returns-in_err-changes-clause-relists g c tells catalogue shelf held ahead has i
     let m = c.args.dest.now in
     let disk = c.args.disk.now in
     let p = err_from_is_err_and c.from_residual.result c.from_residual.ensures.1 in
-    let none = nothing_listed catalogue m shelf (standing g.D.Disk disk) held ahead has.stored in
-    subst (λ (r : Result Unit DiskErr). Relists catalogue m m shelf (g.D.Disk.past disk) (standing g.D.Disk disk) held ahead (published r m.journal.sound)) (sym p.1)
-    (subst (λ (b : Bool). Relists catalogue m m shelf (g.D.Disk.past disk) (standing g.D.Disk disk) held ahead (published (Err p.0) b)) (sym c.requires.sound) none)
+    let none = nothing_listed catalogue m shelf (shown_by g.D.Disk disk) held ahead has.stored in
+    subst (λ (r : Result Unit DiskErr). Relists catalogue m m shelf (g.D.Disk.past disk) (shown_by g.D.Disk disk) held ahead (published r m.journal.sound)) (sym p.1)
+    (subst (λ (b : Bool). Relists catalogue m m shelf (g.D.Disk.past disk) (shown_by g.D.Disk disk) held ahead (published (Err p.0) b)) (sym c.requires.sound) none)
 
 pub returns-in_err-changes-clause-commits : goal.returns-in_err-changes-clause-commits
 returns-in_err-changes-clause-commits g c =
@@ -69,9 +69,9 @@ returns-in_err-relist-clause-relists g c tells catalogue shelf held ahead has is
     let disk = c.args.disk.now in
     let new = c.relist.new.disk in
     let p = err_from_is_err_and c.from_residual-in_err-relist.result c.from_residual-in_err-relist.ensures.1 in
-    let can = subst (CanRelist catalogue m shelf (standing g.D.Disk disk) held ahead) (sym (c.deref.ensures.value ∙ c.in_ok-changes.ensures)) (may_publish catalogue m shelf _ held ahead c.args.self.now has is) in
-    subst (λ (r : Result Unit DiskErr). Relists catalogue m made shelf (g.D.Disk.past disk) (standing g.D.Disk new) held ahead (published r made.journal.sound)) (sym p.1)
-    (failed_listing catalogue m made shelf (g.D.Disk.past disk) (standing g.D.Disk new) held ahead p.0 (c.relist.ensures.any_moment tells catalogue shelf held ahead can) (c.in_err-relist.ensures.unmade tells catalogue shelf held ahead can) (c.in_err-relist.ensures.in_doubt tells catalogue shelf held ahead can))
+    let can = subst (CanRelist catalogue m shelf (shown_by g.D.Disk disk) held ahead) (sym (c.deref.ensures.value ∙ c.in_ok-changes.ensures)) (may_publish catalogue m shelf _ held ahead c.args.self.now has is) in
+    subst (λ (r : Result Unit DiskErr). Relists catalogue m made shelf (g.D.Disk.past disk) (shown_by g.D.Disk new) held ahead (published r made.journal.sound)) (sym p.1)
+    (failed_listing catalogue m made shelf (g.D.Disk.past disk) (shown_by g.D.Disk new) held ahead p.0 (c.relist.ensures.any_moment tells catalogue shelf held ahead can) (c.in_err-relist.ensures.unmade tells catalogue shelf held ahead can) (c.in_err-relist.ensures.in_doubt tells catalogue shelf held ahead can))
 
 pub returns-in_err-relist-clause-commits : goal.returns-in_err-relist-clause-commits
 returns-in_err-relist-clause-commits g c =
@@ -90,7 +90,7 @@ pub returns-clause-relists : goal.returns-clause-relists
 returns-clause-relists g c tells catalogue shelf held ahead has is =
     let m = c.args.dest.now in
     let disk = c.args.disk.now in
-    let can = subst (CanRelist catalogue m shelf (standing g.D.Disk disk) held ahead) (sym (c.deref.ensures.value ∙ c.in_ok-changes.ensures)) (may_publish catalogue m shelf _ held ahead c.args.self.now has is) in
+    let can = subst (CanRelist catalogue m shelf (shown_by g.D.Disk disk) held ahead) (sym (c.deref.ensures.value ∙ c.in_ok-changes.ensures)) (may_publish catalogue m shelf _ held ahead c.args.self.now has is) in
     record {
       any_moment = c.relist.ensures.any_moment tells catalogue shelf held ahead can;
       stands = c.in_ok-relist.ensures.made tells catalogue shelf held ahead can;

@@ -5,7 +5,7 @@ use Rattle.gate_journal.specs.Journal.{JournalState, state_of, is_of_commit}
 use Rattle.gate_journal.specs.declared.journal.Pending.TheVariants.{Removal}
 use Rattle.gate_journal.specs.Generations.{generation_batches}
 use Rattle.gate_journal.specs.Plain.{PlainState}
-use Rattle.gate_journal.specs.Standing.{standing}
+use Rattle.gate_journal.specs.DiskShown.{shown_by}
 use Rattle.gate_journal.proofs.Checkpoints.{told_by_length, at_not_next, current_not_next, all_unopened, current_file, left_commits, left_goes, open_commits, open_goes, gone_commits, gone_over_goes, nothing_commits, nothing_goes}
 use Rattle.gate_journal.proofs.Committing.{sound_parts}
 use Rattle.gate_journal.proofs.Holding.{current_is_own}
@@ -17,8 +17,8 @@ switch-requires-clause-sound g c = (sound_parts c.self.inside.pending c.self.ins
 pub switch-requires-clause-apart : goal.switch-requires-clause-apart
 switch-requires-clause-apart g c tells =
     let s = rw (← c.self.view_is) at (c.requires.settled tells) in
-    let counted = told_by_length c.self.inside.at (standing g.D.Disk c.args.disk.now) s.1.generation c.len.result s.1.at c.len.ensures in
-    at_not_next _ (standing g.D.Disk c.args.disk.now) s.0 s.1 (c.len.result / 13 + 1) counted c.name-2.result.now c.generation_name.ensures.small (c.name-2.ensures ∙ ap (λ (j : PlainState). j.name) c.closed_at-next.ensures ∙ c.in_ok-name.ensures.named)
+    let counted = told_by_length c.self.inside.at (shown_by g.D.Disk c.args.disk.now) s.1.generation c.len.result s.1.at c.len.ensures in
+    at_not_next _ (shown_by g.D.Disk c.args.disk.now) s.0 s.1 (c.len.result / 13 + 1) counted c.name-2.result.now c.generation_name.ensures.small (c.name-2.ensures ∙ ap (λ (j : PlainState). j.name) c.closed_at-next.ensures ∙ c.in_ok-name.ensures.named)
 
 pub switch-requires-clause-settled : goal.switch-requires-clause-settled
 switch-requires-clause-settled g c tells = let s = rw (← c.self.view_is) at (c.requires.settled tells) in (generation_batches s.1.generation, s.1.at)
@@ -31,27 +31,27 @@ switch-requires-clause-unopened g c tells =
 pub returns-in_err-name-clause-commits : goal.returns-in_err-name-clause-commits
 returns-in_err-name-clause-commits g c =
     let p = err_from_is_err_and c.from_residual.result c.from_residual.ensures.1 in
-    rw (← c.self.view_is) (λ tells bs s. nothing_commits _ (standing g.D.Disk c.args.disk.now) bs (c.args.batch.now ∷ []) c.from_residual.result (p.1 ∙ ap (λ (e : DiskErr). Err e) p.2) s)
+    rw (← c.self.view_is) (λ tells bs s. nothing_commits _ (shown_by g.D.Disk c.args.disk.now) bs (c.args.batch.now ∷ []) c.from_residual.result (p.1 ∙ ap (λ (e : DiskErr). Err e) p.2) s)
 
 pub returns-in_err-name-clause-goes_over : goal.returns-in_err-name-clause-goes_over
 returns-in_err-name-clause-goes_over g c =
     let p = err_from_is_err_and c.from_residual.result c.from_residual.ensures.1 in
-    rw (← c.self.view_is) (λ tells k small_k is. nothing_goes k _ (standing g.D.Disk c.args.disk.now) c.from_residual.result (p.1 ∙ ap (λ (e : DiskErr). Err e) p.2))
+    rw (← c.self.view_is) (λ tells k small_k is. nothing_goes k _ (shown_by g.D.Disk c.args.disk.now) c.from_residual.result (p.1 ∙ ap (λ (e : DiskErr). Err e) p.2))
 
 pub returns-in_err-first_bytes-clause-commits : goal.returns-in_err-first_bytes-clause-commits
 returns-in_err-first_bytes-clause-commits g c =
     let p = err_from_is_err_and c.from_residual-in_err-first_bytes.result c.from_residual-in_err-first_bytes.ensures.1 in
-    rw (← c.self.view_is) (λ tells bs s. nothing_commits _ (standing g.D.Disk c.args.disk.now) bs (c.args.batch.now ∷ []) c.from_residual-in_err-first_bytes.result (p.1 ∙ ap (λ (e : DiskErr). Err e) p.2) s)
+    rw (← c.self.view_is) (λ tells bs s. nothing_commits _ (shown_by g.D.Disk c.args.disk.now) bs (c.args.batch.now ∷ []) c.from_residual-in_err-first_bytes.result (p.1 ∙ ap (λ (e : DiskErr). Err e) p.2) s)
 
 pub returns-in_err-first_bytes-clause-goes_over : goal.returns-in_err-first_bytes-clause-goes_over
 returns-in_err-first_bytes-clause-goes_over g c =
     let p = err_from_is_err_and c.from_residual-in_err-first_bytes.result c.from_residual-in_err-first_bytes.ensures.1 in
-    rw (← c.self.view_is) (λ tells k small_k is. nothing_goes k _ (standing g.D.Disk c.args.disk.now) c.from_residual-in_err-first_bytes.result (p.1 ∙ ap (λ (e : DiskErr). Err e) p.2))
+    rw (← c.self.view_is) (λ tells k small_k is. nothing_goes k _ (shown_by g.D.Disk c.args.disk.now) c.from_residual-in_err-first_bytes.result (p.1 ∙ ap (λ (e : DiskErr). Err e) p.2))
 
 pub returns-in-Err-Memory-clause-commits : goal.returns-in-Err-Memory-clause-commits
 returns-in-Err-Memory-clause-commits g c =
-    let was = standing g.D.Disk c.args.disk.now in
-    let mid = standing g.D.Disk c.switch.new.disk in
+    let was = shown_by g.D.Disk c.args.disk.now in
+    let mid = shown_by g.D.Disk c.switch.new.disk in
     let is = ap (λ (e : DiskErr). Err e) c.in-Err-Memory.field-0-is in
     let state = λ (a : PlainState). let x : JournalState = state_of c.self.inside.name a c.self.inside.current c.self.inside.pending in x in
     rw (← c.self.view_is) (λ tells bs s.
@@ -62,8 +62,8 @@ returns-in-Err-Memory-clause-commits g c =
 
 pub returns-in-Err-Memory-clause-goes_over : goal.returns-in-Err-Memory-clause-goes_over
 returns-in-Err-Memory-clause-goes_over g c =
-    let was = standing g.D.Disk c.args.disk.now in
-    let mid = standing g.D.Disk c.switch.new.disk in
+    let was = shown_by g.D.Disk c.args.disk.now in
+    let mid = shown_by g.D.Disk c.switch.new.disk in
     let is = ap (λ (e : DiskErr). Err e) c.in-Err-Memory.field-0-is in
     rw (← c.self.view_is) (λ tells k small_k current.
     let held = rw (← c.self.view_is) at (c.requires.settled tells) in
@@ -81,8 +81,8 @@ returns-in-Err-Memory-clause-memory g c = rw (← c.self.view_is) (λ failed.
 pub returns-in-Err-Fault-clause-commits : goal.returns-in-Err-Fault-clause-commits
 returns-in-Err-Fault-clause-commits g c =
     let sound = sound_parts c.self.inside.pending c.self.inside.at c.self.inside.current (rw (← c.self.view_is) at c.requires.sound) c.self.invariant in
-    let was = standing g.D.Disk c.args.disk.now in
-    let mid = standing g.D.Disk c.switch.new.disk in
+    let was = shown_by g.D.Disk c.args.disk.now in
+    let mid = shown_by g.D.Disk c.switch.new.disk in
     let is = ap (λ (e : DiskErr). Err e) c.in-Err-Fault.field-0-is in
     rw (← c.self.view_is) (λ tells bs s.
     open_commits _ was bs s (c.len.result / 13 + 1) (told_by_length c.self.inside.at was s.generation c.len.result s.at c.len.ensures) c.name-2.result.now
@@ -94,8 +94,8 @@ returns-in-Err-Fault-clause-commits g c =
 
 pub returns-in-Err-Fault-clause-goes_over : goal.returns-in-Err-Fault-clause-goes_over
 returns-in-Err-Fault-clause-goes_over g c =
-    let was = standing g.D.Disk c.args.disk.now in
-    let mid = standing g.D.Disk c.switch.new.disk in
+    let was = shown_by g.D.Disk c.args.disk.now in
+    let mid = shown_by g.D.Disk c.switch.new.disk in
     rw (← c.self.view_is) (λ tells k small_k current.
     let held = rw (← c.self.view_is) at (c.requires.settled tells) in
     let s = held.1 in
@@ -112,8 +112,8 @@ go_over-requires-clause-sound g c = c.in-Ok.ensures.sound
 
 pub go_over-requires-clause-file : goal.go_over-requires-clause-file
 go_over-requires-clause-file g c tells =
-    let was = standing g.D.Disk c.args.disk.now in
-    let mid = standing g.D.Disk c.switch.new.disk in
+    let was = shown_by g.D.Disk c.args.disk.now in
+    let mid = shown_by g.D.Disk c.switch.new.disk in
     let held = rw (← c.self.view_is) at (c.requires.settled tells) in
     let s = held.1 in
     current_file _ was held.0 s (c.len.result / 13 + 1) (told_by_length c.self.inside.at was s.generation c.len.result s.at c.len.ensures) c.name-2.result.now
@@ -123,8 +123,8 @@ go_over-requires-clause-file g c tells =
 
 pub go_over-requires-clause-unopened : goal.go_over-requires-clause-unopened
 go_over-requires-clause-unopened g c tells =
-    let was = standing g.D.Disk c.args.disk.now in
-    let mid = standing g.D.Disk c.switch.new.disk in
+    let was = shown_by g.D.Disk c.args.disk.now in
+    let mid = shown_by g.D.Disk c.switch.new.disk in
     let held = rw (← c.self.view_is) at (c.requires.settled tells) in
     let s = held.1 in
     all_unopened _ was held.0 s (c.len.result / 13 + 1) (told_by_length c.self.inside.at was s.generation c.len.result s.at c.len.ensures) c.name-2.result.now
@@ -134,9 +134,9 @@ go_over-requires-clause-unopened g c tells =
 
 pub returns-in-Ok-clause-commits : goal.returns-in-Ok-clause-commits
 returns-in-Ok-clause-commits g c =
-    let was = standing g.D.Disk c.args.disk.now in
-    let mid = standing g.D.Disk c.switch.new.disk in
-    let last = standing g.D.Disk c.go_over.new.disk in
+    let was = shown_by g.D.Disk c.args.disk.now in
+    let mid = shown_by g.D.Disk c.switch.new.disk in
+    let last = shown_by g.D.Disk c.go_over.new.disk in
     rw (← c.self.view_is) (λ tells bs s.
     gone_commits _ was bs s (c.len.result / 13 + 1) (told_by_length c.self.inside.at was s.generation c.len.result s.at c.len.ensures) c.name-2.result.now
     c.generation_name.ensures.small (c.name-2.ensures ∙ ap (λ (j : PlainState). j.name) c.closed_at-next.ensures ∙ c.in_ok-name.ensures.named) c.args.batch.now c.deref.result.now c.requires.not_long
@@ -149,9 +149,9 @@ returns-in-Ok-clause-commits g c =
 
 pub returns-in-Ok-clause-goes_over : goal.returns-in-Ok-clause-goes_over
 returns-in-Ok-clause-goes_over g c =
-    let was = standing g.D.Disk c.args.disk.now in
-    let mid = standing g.D.Disk c.switch.new.disk in
-    let last = standing g.D.Disk c.go_over.new.disk in
+    let was = shown_by g.D.Disk c.args.disk.now in
+    let mid = shown_by g.D.Disk c.switch.new.disk in
+    let last = shown_by g.D.Disk c.go_over.new.disk in
     rw (← c.self.view_is) (λ tells k small_k current.
     let held = rw (← c.self.view_is) at (c.requires.settled tells) in
     let s = held.1 in
@@ -166,7 +166,7 @@ returns-in-Ok-clause-goes_over g c =
 
 pub returns-in-Ok-clause-bytes : goal.returns-in-Ok-clause-bytes
 returns-in-Ok-clause-bytes g c tells =
-    let was = standing g.D.Disk c.args.disk.now in
+    let was = shown_by g.D.Disk c.args.disk.now in
     let held = rw (← c.self.view_is) at (c.requires.settled tells) in
     let s = held.1 in
     let counted = told_by_length c.self.inside.at was s.generation c.len.result s.at c.len.ensures in

@@ -6,7 +6,7 @@ use Rattle.gate_journal.specs.Journal.{JournalState, state_of, is_of_commit, is_
 use Rattle.gate_journal.specs.declared.journal.Pending.{Pending}
 use Rattle.gate_journal.specs.declared.journal.Pending.TheVariants.{Nothing}
 use Rattle.gate_journal.specs.Generations.{generation_batches}
-use Rattle.gate_journal.specs.Standing.{standing}
+use Rattle.gate_journal.specs.DiskShown.{shown_by}
 use Rattle.gate_journal.proofs.Results.{on_err_always}
 use Rattle.gate_journal.proofs.Deciding.{half_switched, unswitched_reviews, still_reviews, not_switched, over_reviews, half_over_reviews}
 use Rattle.gate_journal.proofs.Removing.{none_before}
@@ -24,7 +24,7 @@ review-requires-clause-in_doubt g c tells =
     let before = d.0 in
     let after = d.1 in
     let w = d.2 in
-    let half = half_switched (state_of c.self.inside.name c.self.inside.at c.self.inside.current c.self.inside.pending) (standing g.D.Disk c.args.disk.now) before after next w (sym c.is_sound.ensures ∙ c.if-is_sound.false) in
+    let half = half_switched (state_of c.self.inside.name c.self.inside.at c.self.inside.current c.self.inside.pending) (shown_by g.D.Disk c.args.disk.now) before after next w (sym c.is_sound.ensures ∙ c.if-is_sound.false) in
     ((generation_batches w.generation), (to_le_bytes w64 (w.generation + 1)), half.at)
 
 pub go_over-requires-clause-pending : goal.go_over-requires-clause-pending
@@ -47,13 +47,13 @@ go_over-requires-clause-unopened g c tells =
 
 pub returns-then-is_sound-clause-reviews : goal.returns-then-is_sound-clause-reviews
 returns-then-is_sound-clause-reviews g c =
-    let was = standing g.D.Disk c.args.disk.now in
+    let was = shown_by g.D.Disk c.args.disk.now in
     rw (← c.self.view_is) (λ tells next is before after w. unswitched_reviews (state_of c.self.inside.name c.self.inside.at c.self.inside.current c.self.inside.pending) was before after next w Nothing is (sym c.is_sound.ensures ∙ c.if-is_sound.true))
 
 pub returns-in_err-review-clause-reviews : goal.returns-in_err-review-clause-reviews
 returns-in_err-review-clause-reviews g c =
-    let was = standing g.D.Disk c.args.disk.now in
-    let mid = standing g.D.Disk c.review.new.disk in
+    let was = shown_by g.D.Disk c.args.disk.now in
+    let mid = shown_by g.D.Disk c.review.new.disk in
     let p = err_from_is_err_and c.from_residual.result c.from_residual.ensures.1 in
     rw (← c.self.view_is) (λ tells next is before after w.
     let half = half_switched (state_of c.self.inside.name c.self.inside.at c.self.inside.current c.self.inside.pending) was before after next w (sym c.is_sound.ensures ∙ c.if-is_sound.false) in
@@ -62,8 +62,8 @@ returns-in_err-review-clause-reviews g c =
 
 pub returns-then-not-branch-clause-reviews : goal.returns-then-not-branch-clause-reviews
 returns-then-not-branch-clause-reviews g c =
-    let was = standing g.D.Disk c.args.disk.now in
-    let mid = standing g.D.Disk c.review.new.disk in
+    let was = shown_by g.D.Disk c.args.disk.now in
+    let mid = shown_by g.D.Disk c.review.new.disk in
     rw (← c.self.view_is) (λ tells next is before after w.
     let half = half_switched (state_of c.self.inside.name c.self.inside.at c.self.inside.current c.self.inside.pending) was before after next w (sym c.is_sound.ensures ∙ c.if-is_sound.false) in
     not_switched (state_of c.self.inside.name c.self.inside.at c.self.inside.current c.self.inside.pending) was before after next w is half c.review.new.self mid c.review.ensures.name (c.review.ensures.same tells) (c.review.ensures.opened tells) (c.review.ensures.any_moment tells)
@@ -71,9 +71,9 @@ returns-then-not-branch-clause-reviews g c =
 
 pub returns-clause-reviews : goal.returns-clause-reviews
 returns-clause-reviews g c =
-    let was = standing g.D.Disk c.args.disk.now in
-    let mid = standing g.D.Disk c.review.new.disk in
-    let last = standing g.D.Disk c.go_over.new.disk in
+    let was = shown_by g.D.Disk c.args.disk.now in
+    let mid = shown_by g.D.Disk c.review.new.disk in
+    let last = shown_by g.D.Disk c.go_over.new.disk in
     rw (← c.self.view_is) (λ tells next is before after w.
     let half = half_switched (state_of c.self.inside.name c.self.inside.at c.self.inside.current c.self.inside.pending) was before after next w (sym c.is_sound.ensures ∙ c.if-is_sound.false) in
     over_reviews (state_of c.self.inside.name c.self.inside.at c.self.inside.current c.self.inside.pending) was before after next w is half c.review.new.self mid c.review.ensures.name (c.review.ensures.same tells) (c.review.ensures.opened tells) (c.review.ensures.any_moment tells)
@@ -83,9 +83,9 @@ returns-clause-reviews g c =
 
 pub returns-in_err-go_over-clause-reviews : goal.returns-in_err-go_over-clause-reviews
 returns-in_err-go_over-clause-reviews g c =
-    let was = standing g.D.Disk c.args.disk.now in
-    let mid = standing g.D.Disk c.review.new.disk in
-    let last = standing g.D.Disk c.go_over.new.disk in
+    let was = shown_by g.D.Disk c.args.disk.now in
+    let mid = shown_by g.D.Disk c.review.new.disk in
+    let last = shown_by g.D.Disk c.go_over.new.disk in
     let p = err_from_is_err_and c.from_residual-in_err-go_over.result c.from_residual-in_err-go_over.ensures.1 in
     rw (← c.self.view_is) (λ tells next is before after w.
     let half = half_switched (state_of c.self.inside.name c.self.inside.at c.self.inside.current c.self.inside.pending) was before after next w (sym c.is_sound.ensures ∙ c.if-is_sound.false) in
@@ -129,11 +129,11 @@ returns-then-not-branch-clause-cleared g c tells next is before after w told = a
 
 pub returns-clause-cleared : goal.returns-clause-cleared
 returns-clause-cleared g c =
-    let was = standing g.D.Disk c.args.disk.now in
+    let was = shown_by g.D.Disk c.args.disk.now in
     rw (← c.self.view_is) (λ tells next is before after w told.
     let half = half_switched (state_of c.self.inside.name c.self.inside.at c.self.inside.current c.self.inside.pending) was before after next w (sym c.is_sound.ensures ∙ c.if-is_sound.false) in
-    subst (λ (j : JournalState). HasNoneBefore j (standing g.D.Disk c.go_over.new.disk)) (sym (c.in_ok-go_over.ensures.over next is))
-    (none_before (state_of c.self.inside.name c.review.new.self next Nothing) (standing g.D.Disk c.go_over.new.disk) w.generation c.self.inside.current.name half.small half.named w.named.current (c.in_ok-go_over.ensures.gone tells)))
+    subst (λ (j : JournalState). HasNoneBefore j (shown_by g.D.Disk c.go_over.new.disk)) (sym (c.in_ok-go_over.ensures.over next is))
+    (none_before (state_of c.self.inside.name c.review.new.self next Nothing) (shown_by g.D.Disk c.go_over.new.disk) w.generation c.self.inside.current.name half.small half.named w.named.current (c.in_ok-go_over.ensures.gone tells)))
 
 pub returns-then-is_sound-clause-any_moment : goal.returns-then-is_sound-clause-any_moment
 returns-then-is_sound-clause-any_moment g c = rw (← c.self.view_is) (λ tells. anyhow_none _ (g.D.Disk.past c.args.disk.now))

@@ -3,7 +3,7 @@ use Rattle.disk_model.specs.Files.{Files, Name}
 use Rattle.disk_model.specs.Files.{Content}
 use Rattle.gate_journal.specs.Batches.{HasBatches}
 use Rattle.gate_journal.specs.Plain.{PlainState}
-use Rattle.gate_journal.specs.Standing.{standing}
+use Rattle.gate_journal.specs.DiskShown.{shown_by}
 use Rattle.gate_journal.proofs.Begin.{begun, begun_made, walked, begun_settled, loaded_settled, short_batches}
 use Rattle.gate_journal.proofs.plain.PlainJournal.load_into.Goals as goal
 
@@ -33,7 +33,7 @@ returns-then-size-lt2-clause-took g c = (
       let same = ap (λ (f : Name → ℕ). f name) (c.write_synced.ensures.opened tells) in
       let unopened : g.D.Disk.opened c.write_synced.new.disk name ≡ 0 = omega (arith, same, c.present.ensures.no_more tells, c.requires.unopened tells) in (
         short_batches (g.D.Disk.files c.args.disk.now name) [] (c.in_ok-size.ensures.short tells c.if-size-lt2.true) refl,
-        begun_settled c.closed_at.result name c.in_ok-size.size (g.D.Disk.files c.present.new.disk) (standing g.D.Disk c.write_synced.new.disk)
+        begun_settled c.closed_at.result name c.in_ok-size.size (g.D.Disk.files c.present.new.disk) (shown_by g.D.Disk c.write_synced.new.disk)
             (ap (λ (j : PlainState). j.name) c.closed_at.ensures ∙ c.in_ok-own.ensures) (ap (λ (j : PlainState). j.place) c.closed_at.ensures)
             (c.in_ok-size.ensures.file tells) (c.in_ok-write_synced.ensures.written tells) (c.in_ok-write_synced.ensures.durable tells) unopened,
       ),
@@ -54,7 +54,7 @@ returns-clause-took g c =
           let loaded = took.2 tells file.bytes file.file in
           let P : Content → Type 0 = λ content. HasBatches content took.0 in (
             subst P (sym seen) (inr loaded.0),
-            loaded_settled c.closed_at-2.result name (g.D.Disk.files c.args.disk.now) (g.D.Disk.files c.present.new.disk) (g.D.Disk.past c.present.new.disk) (standing g.D.Disk c.walk.new.disk)
+            loaded_settled c.closed_at-2.result name (g.D.Disk.files c.args.disk.now) (g.D.Disk.files c.present.new.disk) (g.D.Disk.past c.present.new.disk) (shown_by g.D.Disk c.walk.new.disk)
                 file.bytes took.0 (ap (λ (j : PlainState). j.name) c.closed_at-2.ensures ∙ c.in_ok-own.ensures) seen long.0 (c.walk.ensures.same tells) long.1 (c.walk.ensures.crash tells)
                 loaded.0 (ap (λ (j : PlainState). j.place) c.closed_at-2.ensures ∙ loaded.1) unopened,
           ),

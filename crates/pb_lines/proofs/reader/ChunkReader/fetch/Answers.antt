@@ -1,5 +1,5 @@
 use Rattle.std.proofs.Common.{subst, refl, sym, ap, ◌∙◌, Some}
-use Rattle.edge_io.specs.Lines.{Reader, Reads, ahead}
+use Rattle.edge_io.specs.Lines.{LineReader, Reads, ahead}
 use Rattle.edge_io.specs.declared.lines.LineRead.{LineRead}
 use Rattle.edge_io.specs.declared.lines.LineRead.TheVariants as read
 use Rattle.pb_lines.specs.declared.fault.ChunkFault.TheVariants.{Torn, LineTooLong, InputTooLong}
@@ -15,7 +15,7 @@ returns-in-End-clause-item g c =
     let old = c.args.self.now in
     let l = c.next.new.self in
     let stop = c.self.invariant.goes_on (ap (λ (v : Chunks). v.refused) view ∙ c.requires) in
-    let R : Reader → Type 0 = λ r. Reads r l (ahead r (left c.args.source.now)) (ahead l (left c.next.new.source)) read.End in
+    let R : LineReader → Type 0 = λ r. Reads r l (ahead r (left c.args.source.now)) (ahead l (left c.next.new.source)) read.End in
     let h = subst R (ap (λ (v : Chunks). v.lines) view) (when_none c.self.inside.lines.stop (R c.self.inside.lines) stop c.in-End.ensures.read) in
     let E : Chunks → Type 0 = λ v. EndsStream v c.end.new.self c.end.result in
     let ends = subst E (ap (λ (v : Chunks). record v { lines = l }) view) c.end.ensures.ends in
@@ -27,7 +27,7 @@ returns-in-End-clause-lines g c =
     let view = c.self.view_is in
     let l = c.next.new.self in
     let stop = c.self.invariant.goes_on (ap (λ (v : Chunks). v.refused) view ∙ c.requires) in
-    let R : Reader → Type 0 = λ r. Reads r l (ahead r (left c.args.source.now)) (ahead l (left c.next.new.source)) read.End in
+    let R : LineReader → Type 0 = λ r. Reads r l (ahead r (left c.args.source.now)) (ahead l (left c.next.new.source)) read.End in
     let h = subst R (ap (λ (v : Chunks). v.lines) view) (when_none c.self.inside.lines.stop (R c.self.inside.lines) stop c.in-End.ensures.read) in
     let E : Chunks → Type 0 = λ v. EndsStream v c.end.new.self c.end.result in
     let ends = subst E (ap (λ (v : Chunks). record v { lines = l }) view) c.end.ensures.ends in
@@ -39,7 +39,7 @@ returns-in-SourceFault-clause-lines g c =
     let view = c.self.view_is in
     let l = c.next.new.self in
     let stop = c.self.invariant.goes_on (ap (λ (v : Chunks). v.refused) view ∙ c.requires) in
-    let R : Reader → Type 0 = λ r. Reads r l (ahead r (left c.args.source.now)) (ahead l (left c.next.new.source)) read.SourceFault in
+    let R : LineReader → Type 0 = λ r. Reads r l (ahead r (left c.args.source.now)) (ahead l (left c.next.new.source)) read.SourceFault in
     let h = subst R (ap (λ (v : Chunks). v.lines) view) (when_none c.self.inside.lines.stop (R c.self.inside.lines) stop c.in-SourceFault.ensures.read) in
     let idle = ap (λ (v : Chunks). v.pending) (sym view) ∙ c.if-self.false in
     none_taken c.args.self.now _ l idle h.0 c.if-self.false refl
@@ -50,7 +50,7 @@ returns-in-Memory-clause-lines g c =
     let view = c.self.view_is in
     let l = c.next.new.self in
     let stop = c.self.invariant.goes_on (ap (λ (v : Chunks). v.refused) view ∙ c.requires) in
-    let R : Reader → Type 0 = λ r. Reads r l (ahead r (left c.args.source.now)) (ahead l (left c.next.new.source)) read.Memory in
+    let R : LineReader → Type 0 = λ r. Reads r l (ahead r (left c.args.source.now)) (ahead l (left c.next.new.source)) read.Memory in
     let h = subst R (ap (λ (v : Chunks). v.lines) view) (when_none c.self.inside.lines.stop (R c.self.inside.lines) stop c.in-Memory.ensures.read) in
     let idle = ap (λ (v : Chunks). v.pending) (sym view) ∙ c.if-self.false in
     none_taken c.args.self.now _ l idle h.0 c.if-self.false refl
@@ -65,7 +65,7 @@ returns-clause-item g c =
     let after = left c.next.new.source in
     let stop = c.self.invariant.goes_on (ap (λ (v : Chunks). v.refused) view ∙ c.requires) in
     let idle = ap (λ (v : Chunks). v.pending) (sym view) ∙ c.if-self.false in
-    let R : LineRead → Reader → Type 0 = λ ending r. Reads r l (ahead r before) (ahead l after) ending in
+    let R : LineRead → LineReader → Type 0 = λ ending r. Reads r l (ahead r before) (ahead l after) ending in
     elim c.match-next.branch [
       | in-Torn w ↦
           let h = subst (R read.Torn) (ap (λ (v : Chunks). v.lines) view) (when_none c.self.inside.lines.stop (R read.Torn c.self.inside.lines) stop w.in-Torn.ensures.read) in
@@ -88,7 +88,7 @@ returns-clause-lines g c =
     let after = left c.next.new.source in
     let stop = c.self.invariant.goes_on (ap (λ (v : Chunks). v.refused) view ∙ c.requires) in
     let idle = ap (λ (v : Chunks). v.pending) (sym view) ∙ c.if-self.false in
-    let R : LineRead → Reader → Type 0 = λ ending r. Reads r l (ahead r before) (ahead l after) ending in
+    let R : LineRead → LineReader → Type 0 = λ ending r. Reads r l (ahead r before) (ahead l after) ending in
     elim c.match-next.branch [
       | in-Torn w ↦
           let h = subst (R read.Torn) (ap (λ (v : Chunks). v.lines) view) (when_none c.self.inside.lines.stop (R read.Torn c.self.inside.lines) stop w.in-Torn.ensures.read) in

@@ -2,7 +2,7 @@ use Rattle.std.proofs.Common.{◌≡◌, ℕ, List, Result, refl, Ok, Err, OnOk,
 use Rattle.std.proofs.lemmas.Result.{err_from_is_err_and}
 use Rattle.disk_model.specs.declared.disk.DiskErr.TheVariants.{Fault, Memory}
 use Rattle.gate_journal.specs.Kept.{IsKept}
-use Rattle.gate_journal.specs.Standing.{standing}
+use Rattle.gate_journal.specs.DiskShown.{shown_by}
 use Rattle.pv_catalog.specs.declared.error.RenameErr.{RenameErr}
 use Rattle.pv_catalog.specs.declared.error.RenameErr.TheVariants.{Disk}
 use Rattle.pv_catalog.specs.Catalogue.{CatalogueState, CommitsRows, RefusesName}
@@ -47,17 +47,17 @@ returns-in_err-id-clause-commits g c =
     let p = err_from_is_err_and c.from_residual.result c.from_residual.ensures.1 in
     let failed_so : Result ℕ RenameErr = Err p.0 in
     rw (← c.self.view_is, p.1) (λ tells.
-    let Kept : List Row → Type 0 = λ l. IsKept IsCatalogue c.self.inside.journal (standing g.D.Disk c.args.disk.now) l in
-    nothing_commits IsCatalogue c.self.inside.table.rows _ _ _ c.self.inside.journal c.self.inside.journal (OnOk failed_so) (failed_so ≡ Err (Disk Fault)) (failed_so ≡ Err (Disk Memory)) (standing g.D.Disk c.args.disk.now) (stored tells)
+    let Kept : List Row → Type 0 = λ l. IsKept IsCatalogue c.self.inside.journal (shown_by g.D.Disk c.args.disk.now) l in
+    nothing_commits IsCatalogue c.self.inside.table.rows _ _ _ c.self.inside.journal c.self.inside.journal (OnOk failed_so) (failed_so ≡ Err (Disk Fault)) (failed_so ≡ Err (Disk Memory)) (shown_by g.D.Disk c.args.disk.now) (stored tells)
     (subst Kept (sym c.propose_name.ensures.rows) (stored tells)) tt (λ fault. never_name_fault c.self.inside.table.rows c.args.old c.args.name.now c.in_err-id.field-0.0 c.in_err-id.ensures.refusal (cc (p.2, fault))))
 
 pub returns-in_err-id-clause-one_file : goal.returns-in_err-id-clause-one_file
-returns-in_err-id-clause-one_file g c = rw (← c.self.view_is) (λ tells. nothing_grows c.self.inside.journal.current.name (standing g.D.Disk c.args.disk.now))
+returns-in_err-id-clause-one_file g c = rw (← c.self.view_is) (λ tells. nothing_grows c.self.inside.journal.current.name (shown_by g.D.Disk c.args.disk.now))
 
 pub returns-in_err-make-clause-commits : goal.returns-in_err-make-clause-commits
 returns-in_err-make-clause-commits g c =
-    let was = standing g.D.Disk c.args.disk.now in
-    let now = standing g.D.Disk c.make.new.disk in
+    let was = shown_by g.D.Disk c.args.disk.now in
+    let now = shown_by g.D.Disk c.make.new.disk in
     let Change : List Row → List Row → Type 0 =
     λ rows next. CommitsRows next (OnOk c.make.result) (IsErrOf c.make.result Fault) (IsErrOf c.make.result Memory) (record { journal = c.self.inside.journal; rows = rows; next = next }) c.make.new.self was now in
     let Rows : List Row → Type 0 = λ rows. Change rows c.propose_name.new.self.next in
@@ -70,8 +70,8 @@ returns-in_err-make-clause-commits g c =
 
 pub returns-clause-commits : goal.returns-clause-commits
 returns-clause-commits g c =
-    let was = standing g.D.Disk c.args.disk.now in
-    let now = standing g.D.Disk c.make.new.disk in
+    let was = shown_by g.D.Disk c.args.disk.now in
+    let now = shown_by g.D.Disk c.make.new.disk in
     let Change : List Row → List Row → Type 0 =
     λ rows next. CommitsRows next (OnOk c.make.result) (IsErrOf c.make.result Fault) (IsErrOf c.make.result Memory) (record { journal = c.self.inside.journal; rows = rows; next = next }) c.make.new.self was now in
     let Rows : List Row → Type 0 = λ rows. Change rows c.propose_name.new.self.next in

@@ -1,7 +1,7 @@
 use Rattle.std.proofs.Common.{refl, subst, arith, [], ◌∷◌, ◌+◌, ◌-◌, List}
 use Rattle.act_model.specs.declared.acts.Act.TheVariants.{OpenPiece}
 use Rattle.act_model.specs.declared.acts.Answer.TheVariants.{NoPin, NotYours, NoPiece, DiskFault, Memory}
-use Rattle.act_model.specs.Reply.{Opened}
+use Rattle.act_model.specs.Reply.{OpenedFile}
 use Rattle.stream_merge.specs.Pieces.{NamedBytes}
 use Rattle.retrieval_query.specs.Openings.{LeftOf}
 use Rattle.retrieval_query.proofs.Steps.{opens_some, opens_fresh}
@@ -43,7 +43,7 @@ returns-in-Ok-Piece-clause-opens g c tells ps left =
     let p = c.args.self.now in
     let w = c.in-Ok-Piece in
     let made = rw w.field-0-is at w.ensures.asked.done in
-    let reader : Opened = record { tells = R.tells; bytes = R.bytes w.reader; faults = R.faults w.reader } in
+    let reader : OpenedFile = record { tells = R.tells; bytes = R.bytes w.reader; faults = R.faults w.reader } in
     let o = left_opened A.number A.between A.stands g.met.A.Actor.legal g.met.A.Actor.sound g.met.A.Actor.number_stays p.actor.now c.ask_open_piece.new.actor p.pin p.next p.left (p.next + 1) (p.left - 1) ps reader w.name w.head_len w.len left made refl (omega (arith, c.if-self-eq0.false)) in
     record { rest = o.0; first = o.1; head = o.2; others = o.3 }
 
@@ -54,7 +54,7 @@ returns-in-Ok-Piece-clause-bytes g c tells =
     let p = c.args.self.now in
     let w = c.in-Ok-Piece in
     let made = rw w.field-0-is at w.ensures.asked.done in
-    let reader : Opened = record { tells = R.tells; bytes = R.bytes w.reader; faults = R.faults w.reader } in
+    let reader : OpenedFile = record { tells = R.tells; bytes = R.bytes w.reader; faults = R.faults w.reader } in
     (opens_fresh A.number A.between A.stands g.met.A.Actor.legal g.met.A.Actor.sound p.actor.now c.ask_open_piece.new.actor p.pin p.next p.left reader w.name w.head_len w.len c.requires.may made).1 tells
 
 pub returns-in-Ok-Piece-clause-fresh : goal.returns-in-Ok-Piece-clause-fresh
@@ -64,7 +64,7 @@ returns-in-Ok-Piece-clause-fresh g c =
     let p = c.args.self.now in
     let w = c.in-Ok-Piece in
     let made = rw w.field-0-is at w.ensures.asked.done in
-    let reader : Opened = record { tells = R.tells; bytes = R.bytes w.reader; faults = R.faults w.reader } in
+    let reader : OpenedFile = record { tells = R.tells; bytes = R.bytes w.reader; faults = R.faults w.reader } in
     (opens_fresh A.number A.between A.stands g.met.A.Actor.legal g.met.A.Actor.sound p.actor.now c.ask_open_piece.new.actor p.pin p.next p.left reader w.name w.head_len w.len c.requires.may made).0
 
 pub returns-in-Ok-Piece-clause-leads : goal.returns-in-Ok-Piece-clause-leads

@@ -2,7 +2,7 @@ use Rattle.std.proofs.Common.{◌≡◌, ◌≤◌, ap, sym, subst, arith}
 use Rattle.series_model.specs.declared.sample.Sample.{Sample}
 use Rattle.series_model.specs.declared.sample.Query.{Query}
 use Rattle.act_model.specs.Event.{IsEvent}
-use Rattle.sample_bins.specs.declared.beginning.Begun.{Begun}
+use Rattle.sample_bins.specs.declared.beginning.BegunText.{BegunText}
 use Rattle.sample_bins.specs.declared.kept.Kept.{Kept}
 use Rattle.sample_bins.specs.declared.op.Op.{Op}
 use Rattle.sample_bins.specs.Coming.{due}
@@ -16,7 +16,7 @@ returns-in_err-give_due-clause-broken g c before subject xs more events h =
     let O = g.O.Out in
     let self = c.args.self.now in
     let s : Sample = record { t = c.args.t; line = c.args.line.now } in
-    let asked : c.in-Some.begun.query ≡ subject.query = ap (λ (b : Begun). b.query) (begun_is c.in-Some.begun _ self.begun subject c.in-Some.is h.1.asked) in
+    let asked : c.in-Some.begun.query ≡ subject.query = ap (λ (b : BegunText). b.query) (begun_is c.in-Some.begun _ self.begun subject c.in-Some.is h.1.asked) in
     let low : subject.query.from ≤ s.t = omega (arith, ap (λ (q : Query). q.from) asked, c.if-t-begun.false) in
     let high : s.t ≤ subject.query.to = omega (arith, ap (λ (q : Query). q.to) asked, c.if-t-begun-2.false) in
     let mine = c.requires.event in
@@ -34,7 +34,7 @@ returns-in_default-keep-clause-broken g c before subject xs more events h =
     let O = g.O.Out in
     let self = c.args.self.now in
     let s : Sample = record { t = c.args.t; line = c.args.line.now } in
-    let asked : c.in-Some.begun.query ≡ subject.query = ap (λ (b : Begun). b.query) (begun_is c.in-Some.begun _ self.begun subject c.in-Some.is h.1.asked) in
+    let asked : c.in-Some.begun.query ≡ subject.query = ap (λ (b : BegunText). b.query) (begun_is c.in-Some.begun _ self.begun subject c.in-Some.is h.1.asked) in
     let low : subject.query.from ≤ s.t = omega (arith, ap (λ (q : Query). q.from) asked, c.if-t-begun.false) in
     let high : s.t ≤ subject.query.to = omega (arith, ap (λ (q : Query). q.to) asked, c.if-t-begun-2.false) in
     let mine = c.requires.event in

@@ -2,7 +2,7 @@ use Rattle.std.proofs.Common.{◌≡◌, ℕ, ◌+◌, sym, ◌∙◌, ap, subst
 use Rattle.std.proofs.lemmas.Result.{on_ok_weaker, err_from_is_err_and}
 use Rattle.disk_model.specs.declared.disk.DiskErr.{DiskErr}
 use Rattle.gate_journal.specs.Kept as journal
-use Rattle.gate_journal.specs.Standing.{standing}
+use Rattle.gate_journal.specs.DiskShown.{shown_by}
 use Rattle.store_manifest.specs.declared.entry.Entry.{Entry}
 use Rattle.store_manifest.specs.Batches.{batch_of, whole, Configured}
 use Rattle.store_manifest.specs.Entries.{all_changed}
@@ -14,7 +14,7 @@ use Rattle.store_manifest.proofs.manifest.Manifest.commit.Goals as goal
 pub shorten-requires-clause-kept : goal.shorten-requires-clause-kept
 shorten-requires-clause-kept g c tells =
     let kept = rw (← c.self.view_is) at c.requires.kept in
-    let P : List Entry → Type 0 = λ l. journal.IsKept (Configured c.self.inside.granularity) c.self.inside.journal (standing g.D.Disk c.args.disk.now) l in
+    let P : List Entry → Type 0 = λ l. journal.IsKept (Configured c.self.inside.granularity) c.self.inside.journal (shown_by g.D.Disk c.args.disk.now) l in
     subst P (sym c.in_ok-prepare.ensures.entries) (kept tells)
 
 pub add-requires-clause-sound : goal.add-requires-clause-sound
@@ -45,15 +45,15 @@ returns-clause-short g c =
 pub returns-then-is_empty-clause-commits : goal.returns-then-is_empty-clause-commits
 returns-then-is_empty-clause-commits g c tells =
     let was = c.args.self.now in
-    let at = standing g.D.Disk c.args.disk.now in
+    let at = shown_by g.D.Disk c.args.disk.now in
     commits_folds was.granularity was.journal was.entries was _ (Ok tt) at at (nothing_configured was.granularity was.journal was.entries was _ (Ok tt) at (c.requires.kept tells) (c.requires.kept tells) (λ fault. cc fault))
 
 pub returns-in_err-prepare-clause-commits : goal.returns-in_err-prepare-clause-commits
 returns-in_err-prepare-clause-commits g c =
     let kept = rw (← c.self.view_is) at c.requires.kept in
     let p = err_from_is_err_and c.from_residual.result c.from_residual.ensures.1 in
-    let Kept : List Entry → Type 0 = λ l. journal.IsKept (Configured c.self.inside.granularity) c.self.inside.journal (standing g.D.Disk c.args.disk.now) l in
-    let at = standing g.D.Disk c.args.disk.now in
+    let Kept : List Entry → Type 0 = λ l. journal.IsKept (Configured c.self.inside.granularity) c.self.inside.journal (shown_by g.D.Disk c.args.disk.now) l in
+    let at = shown_by g.D.Disk c.args.disk.now in
     rw (← c.self.view_is) (λ tells. commits_folds c.self.inside.granularity c.self.inside.journal _ _ _ c.from_residual.result at at
     (nothing_configured c.self.inside.granularity c.self.inside.journal _ _ _ c.from_residual.result at (kept tells) (subst Kept (sym c.prepare.ensures.entries) (kept tells)) (λ fault. cc (p.1, p.2, fault))))
 
@@ -62,10 +62,10 @@ returns-in_err-shorten-clause-commits g c =
     let p = err_from_is_err_and c.from_residual-in_err-shorten.result c.from_residual-in_err-shorten.ensures.1 in
     let Entries : List Entry → Type 0 =
     λ l. CommitsEntries Configured l c.shorten.result (record { journal = c.self.inside.journal; granularity = c.self.inside.granularity; entries = l; next = next_of c.prepare.new.self })
-    c.shorten.new.self (standing g.D.Disk c.args.disk.now) (standing g.D.Disk c.shorten.new.disk) in
-    rw (← c.self.view_is) (λ tells. commits_folds c.self.inside.granularity c.self.inside.journal _ _ _ c.from_residual-in_err-shorten.result (standing g.D.Disk c.args.disk.now) (standing g.D.Disk c.shorten.new.disk)
+    c.shorten.new.self (shown_by g.D.Disk c.args.disk.now) (shown_by g.D.Disk c.shorten.new.disk) in
+    rw (← c.self.view_is) (λ tells. commits_folds c.self.inside.granularity c.self.inside.journal _ _ _ c.from_residual-in_err-shorten.result (shown_by g.D.Disk c.args.disk.now) (shown_by g.D.Disk c.shorten.new.disk)
     (short_commits (record { journal = c.self.inside.journal; granularity = c.self.inside.granularity; entries = entries_of c.self.inside.listing.lists.listed.entries; next = next_of c.self.inside.listing })
-    (all_changed (entries_of c.self.inside.listing.lists.listed.entries) c.args.changes.now) (next_of c.prepare.new.self) c.shorten.new.self (standing g.D.Disk c.args.disk.now) (standing g.D.Disk c.shorten.new.disk) c.shorten.result
+    (all_changed (entries_of c.self.inside.listing.lists.listed.entries) c.args.changes.now) (next_of c.prepare.new.self) c.shorten.new.self (shown_by g.D.Disk c.args.disk.now) (shown_by g.D.Disk c.shorten.new.disk) c.shorten.result
     (subst Entries c.in_ok-prepare.ensures.entries (c.shorten.ensures.commits tells))
     c.from_residual-in_err-shorten.result _ p.1 (c.in_err-shorten.was ∙ ap (λ (e : DiskErr). Err e) (sym p.2))))
 
@@ -74,12 +74,12 @@ returns-clause-commits g c =
     let state = c.shorten.ensures.state in
     let Entries : List Entry → Type 0 =
     λ l. CommitsEntries Configured l c.shorten.result (record { journal = c.self.inside.journal; granularity = c.self.inside.granularity; entries = l; next = next_of c.prepare.new.self })
-    c.shorten.new.self (standing g.D.Disk c.args.disk.now) (standing g.D.Disk c.shorten.new.disk) in
-    rw (← c.self.view_is) (λ tells. commits_folds c.self.inside.granularity c.self.inside.journal _ _ _ c.add.result (standing g.D.Disk c.args.disk.now) (standing g.D.Disk c.add.new.disk)
+    c.shorten.new.self (shown_by g.D.Disk c.args.disk.now) (shown_by g.D.Disk c.shorten.new.disk) in
+    rw (← c.self.view_is) (λ tells. commits_folds c.self.inside.granularity c.self.inside.journal _ _ _ c.add.result (shown_by g.D.Disk c.args.disk.now) (shown_by g.D.Disk c.add.new.disk)
     (both_commits (record { journal = c.self.inside.journal; granularity = c.self.inside.granularity; entries = entries_of c.self.inside.listing.lists.listed.entries; next = next_of c.self.inside.listing })
-    (all_changed (entries_of c.self.inside.listing.lists.listed.entries) c.args.changes.now) (next_of c.prepare.new.self) c.shorten.new.self (standing g.D.Disk c.args.disk.now) (standing g.D.Disk c.shorten.new.disk) c.shorten.result
+    (all_changed (entries_of c.self.inside.listing.lists.listed.entries) c.args.changes.now) (next_of c.prepare.new.self) c.shorten.new.self (shown_by g.D.Disk c.args.disk.now) (shown_by g.D.Disk c.shorten.new.disk) c.shorten.result
     (subst Entries c.in_ok-prepare.ensures.entries (c.shorten.ensures.commits tells))
-    c.add.result c.add.new.self (standing g.D.Disk c.add.new.disk) state.0 state.1 (state.2 ∙ c.in_ok-prepare.ensures.entries) (state.3 ∙ c.in_ok-prepare.ensures.next) (c.add.ensures.commits tells)))
+    c.add.result c.add.new.self (shown_by g.D.Disk c.add.new.disk) state.0 state.1 (state.2 ∙ c.in_ok-prepare.ensures.entries) (state.3 ∙ c.in_ok-prepare.ensures.next) (c.add.ensures.commits tells)))
 
 pub returns-in_err-shorten-clause-untouched : goal.returns-in_err-shorten-clause-untouched
 returns-in_err-shorten-clause-untouched g c =

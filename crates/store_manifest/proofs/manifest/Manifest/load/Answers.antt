@@ -1,7 +1,7 @@
 use Rattle.std.proofs.Common.{◌≡◌, List, refl, sym, subst}
 use Rattle.disk_model.specs.Files.{Name}
 use Rattle.gate_journal.specs.Generations.{HasBatchesOf}
-use Rattle.gate_journal.specs.Standing.{standing}
+use Rattle.gate_journal.specs.DiskShown.{shown_by}
 use Rattle.partition_names.specs.declared.granularity.Granularity.{Granularity}
 use Rattle.store_manifest.specs.declared.entry.Entry.{Entry}
 use Rattle.gate_journal.proofs.Results.{if_ok}
@@ -34,26 +34,26 @@ returns-clause-reads g c tells = load_reads c.args.g _ _ c.in_ok-name.ensures _ 
 pub returns-in_err-manifest-in-Nothing-clause-any_moment : goal.returns-in_err-manifest-in-Nothing-clause-any_moment
 returns-in_err-manifest-in-Nothing-clause-any_moment g c tells =
     let took = c.in_ok-journal.ensures.took in
-    first_moment c.args.g _ _ c.in_ok-name.ensures c.in_ok-journal.journal c.in_ok-journal.ensures.journal.0 (standing g.D.Disk c.load_into.new.disk) took.0
+    first_moment c.args.g _ _ c.in_ok-name.ensures c.in_ok-journal.journal c.in_ok-journal.ensures.journal.0 (shown_by g.D.Disk c.load_into.new.disk) took.0
     (nothing_folded took.0 _ c.in-Nothing.is took.1) (took.2 tells).1 _ _ (c.load_into.ensures.any_moment tells) (c.configure.ensures.any_moment tells)
 
 pub returns-in-Nothing-clause-any_moment : goal.returns-in-Nothing-clause-any_moment
 returns-in-Nothing-clause-any_moment g c tells =
     let took = c.in_ok-journal.ensures.took in
-    first_moment c.args.g _ _ c.in_ok-name.ensures c.in_ok-journal.journal c.in_ok-journal.ensures.journal.0 (standing g.D.Disk c.load_into.new.disk) took.0
+    first_moment c.args.g _ _ c.in_ok-name.ensures c.in_ok-journal.journal c.in_ok-journal.ensures.journal.0 (shown_by g.D.Disk c.load_into.new.disk) took.0
     (nothing_folded took.0 _ c.in-Nothing.is took.1) (took.2 tells).1 _ _ (c.load_into.ensures.any_moment tells) (c.configure.ensures.any_moment tells)
 
 pub returns-in_err-manifest-in-Nothing-clause-reads : goal.returns-in_err-manifest-in-Nothing-clause-reads
 returns-in_err-manifest-in-Nothing-clause-reads g c tells =
     let took = c.in_ok-journal.ensures.took in
-    first_reads c.args.g _ _ c.in_ok-name.ensures c.in_ok-journal.journal c.in_ok-journal.ensures.journal.0 (standing g.D.Disk c.load_into.new.disk) took.0
+    first_reads c.args.g _ _ c.in_ok-name.ensures c.in_ok-journal.journal c.in_ok-journal.ensures.journal.0 (shown_by g.D.Disk c.load_into.new.disk) took.0
     (nothing_folded took.0 _ c.in-Nothing.is took.1) (took.2 tells).1 (g.D.Disk.files c.args.disk.now) (g.D.Disk.files c.configure.new.disk) (g.D.Disk.past c.configure.new.disk) (c.load_into.ensures.kept tells) (took.2 tells).0
     (c.configure.ensures.any_moment tells) (g.met.D.Disk.seen c.configure.new.disk tells) (c.configure.ensures.elsewhere tells)
 
 pub returns-in-Nothing-clause-reads : goal.returns-in-Nothing-clause-reads
 returns-in-Nothing-clause-reads g c tells =
     let took = c.in_ok-journal.ensures.took in
-    first_reads c.args.g _ _ c.in_ok-name.ensures c.in_ok-journal.journal c.in_ok-journal.ensures.journal.0 (standing g.D.Disk c.load_into.new.disk) took.0
+    first_reads c.args.g _ _ c.in_ok-name.ensures c.in_ok-journal.journal c.in_ok-journal.ensures.journal.0 (shown_by g.D.Disk c.load_into.new.disk) took.0
     (nothing_folded took.0 _ c.in-Nothing.is took.1) (took.2 tells).1 (g.D.Disk.files c.args.disk.now) (g.D.Disk.files c.configure.new.disk) (g.D.Disk.past c.configure.new.disk) (c.load_into.ensures.kept tells) (took.2 tells).0
     (c.configure.ensures.any_moment tells) (g.met.D.Disk.seen c.configure.new.disk tells) (c.configure.ensures.elsewhere tells)
 
@@ -99,7 +99,7 @@ returns-in-Good-clause-kept g c tells =
     if_ok c.opened.result (λ m good.
     let granularity : c.in-Good.kept ≡ c.args.g = cc good.2 in
     let entries : m.entries ≡ entries_of c.in-Good.lists.listed.entries = rw c.in-Good.is at good.3 in
-    load_kept m c.args.g c.in-Good.kept c.in_ok-journal.journal (standing g.D.Disk c.load_into.new.disk) took.0 (entries_of c.in-Good.lists.listed.entries)
+    load_kept m c.args.g c.in-Good.kept c.in_ok-journal.journal (shown_by g.D.Disk c.load_into.new.disk) took.0 (entries_of c.in-Good.lists.listed.entries)
     good.0 good.1 granularity entries (took.2 tells).1 folded.1) c.opened.ensures.good
 
 pub returns-in-Good-clause-entries : goal.returns-in-Good-clause-entries

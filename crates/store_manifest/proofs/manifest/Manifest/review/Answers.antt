@@ -1,5 +1,5 @@
 use Rattle.std.proofs.Common.{◌≡◌, ◌⊎◌, Bool, true, false, cond, sym, subst}
-use Rattle.gate_journal.specs.Standing.{standing}
+use Rattle.gate_journal.specs.DiskShown.{shown_by}
 use Rattle.store_manifest.specs.Batches.{Configured}
 use Rattle.store_manifest.specs.Listing.{entries_of, next_of}
 use Rattle.store_manifest.specs.Manifest.{ManifestState, IsKept}
@@ -22,8 +22,8 @@ returns-else-branch-clause-kept g c tells =
     let is : c.else-branch.self ≡ after = elim c.else-branch.branch [ else-branch-via-then-branch+else-of_commit w ↦ w.self-is | else-branch-via-else-branch w ↦ w.self-is ] in
     let which : ((c.in_ok-review.field-0 ≡ true) × (c.is_commit_open-of_commit.result ≡ false)) ⊎ (c.in_ok-review.field-0 ≡ false) = c.else-branch.either in
     let Q : Bool → Type 0 = λ b. Configured after.granularity u.after (cond b after.next after.entries) in
-    let R : ManifestState → Type 0 = λ m. IsKept m (standing g.D.Disk c.review.new.disk) in
-    subst R (sym is) (review_kept after.granularity c.is_commit_open-of_commit.result c.in_ok-review.field-0 after.journal (standing g.D.Disk c.review.new.disk) u.before u.after after.entries after.next u.means
+    let R : ManifestState → Type 0 = λ m. IsKept m (shown_by g.D.Disk c.review.new.disk) in
+    subst R (sym is) (review_kept after.granularity c.is_commit_open-of_commit.result c.in_ok-review.field-0 after.journal (shown_by g.D.Disk c.review.new.disk) u.before u.after after.entries after.next u.means
     (subst Q (sym c.is_commit_open-of_commit.ensures) u.means_after) (c.in_ok-review.ensures.reviews tells u.before u.after u.undecided).made (c.in_ok-review.ensures.reviews tells u.before u.after u.undecided).unmade which)
 
 pub returns-else-branch-clause-any_moment : goal.returns-else-branch-clause-any_moment

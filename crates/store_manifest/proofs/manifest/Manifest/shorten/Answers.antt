@@ -1,6 +1,6 @@
 use Rattle.std.proofs.Common.{◌≡◌, true, false, length, Ok, sym, ◌∙◌, ap, arith}
 use Rattle.std.proofs.lemmas.Result.{err_from_is_err_and}
-use Rattle.gate_journal.specs.Standing.{standing}
+use Rattle.gate_journal.specs.DiskShown.{shown_by}
 use Rattle.store_manifest.specs.Batches.{whole}
 use Rattle.store_manifest.proofs.Committing.{whole_commits, nothing_configured}
 use Rattle.store_manifest.proofs.WholeBatch.{whole_length, long_so, so_long}
@@ -23,18 +23,18 @@ returns-clause-commits g c =
     rw (← c.self.view_is) (λ tells.
     let k = kept tells in
     whole_commits c.self.inside.granularity k.batches _ _ c.deref.result.now (c.deref.ensures.value ∙ c.in_ok-encode_whole.ensures ∙ ap (λ l. whole c.self.inside.granularity l) c.all-2.ensures) k.means c.self.inside.journal
-    c.checkpoint.new.self c.checkpoint.result (standing g.D.Disk c.args.disk.now) (standing g.D.Disk c.checkpoint.new.disk) c.checkpoint.ensures.of_checkpoint (c.checkpoint.ensures.commits tells k.batches k.settled))
+    c.checkpoint.new.self c.checkpoint.result (shown_by g.D.Disk c.args.disk.now) (shown_by g.D.Disk c.checkpoint.new.disk) c.checkpoint.ensures.of_checkpoint (c.checkpoint.ensures.commits tells k.batches k.settled))
 
 pub returns-then-not-is_long-clause-commits : goal.returns-then-not-is_long-clause-commits
 returns-then-not-is_long-clause-commits g c =
     let kept = rw (← c.self.view_is) at c.requires.kept in
-    rw (← c.self.view_is) (λ tells. nothing_configured c.self.inside.granularity c.self.inside.journal _ _ _ (Ok tt) (standing g.D.Disk c.args.disk.now) (kept tells) (kept tells) (λ fault. cc fault))
+    rw (← c.self.view_is) (λ tells. nothing_configured c.self.inside.granularity c.self.inside.journal _ _ _ (Ok tt) (shown_by g.D.Disk c.args.disk.now) (kept tells) (kept tells) (λ fault. cc fault))
 
 pub returns-in_err-encode_whole-clause-commits : goal.returns-in_err-encode_whole-clause-commits
 returns-in_err-encode_whole-clause-commits g c =
     let kept = rw (← c.self.view_is) at c.requires.kept in
     let p = err_from_is_err_and c.from_residual.result c.from_residual.ensures.1 in
-    rw (← c.self.view_is) (λ tells. nothing_configured c.self.inside.granularity c.self.inside.journal _ _ _ c.from_residual.result (standing g.D.Disk c.args.disk.now) (kept tells) (kept tells) (λ fault. cc (p.1, p.2, fault)))
+    rw (← c.self.view_is) (λ tells. nothing_configured c.self.inside.granularity c.self.inside.journal _ _ _ c.from_residual.result (shown_by g.D.Disk c.args.disk.now) (kept tells) (kept tells) (λ fault. cc (p.1, p.2, fault)))
 
 pub returns-then-not-is_long-clause-begun : goal.returns-then-not-is_long-clause-begun
 returns-then-not-is_long-clause-begun g c =

@@ -5,7 +5,7 @@ use Rattle.series_model.specs.declared.sample.Sample.{Sample}
 use Rattle.series_model.specs.declared.sample.Query.{Query}
 use Rattle.pb_wire.specs.declared.payload.PayloadType.{PayloadType}
 use Rattle.pb_file.specs.Walk.{behind}
-use Rattle.stream_merge.specs.declared.source.Source.{Source}
+use Rattle.stream_merge.specs.declared.source.SampleSource.{SampleSource}
 use Rattle.stream_merge.specs.declared.pieces.Merged.TheVariants.{Line, End}
 use Rattle.stream_merge.specs.Reading.{IsSampleOf}
 use Rattle.stream_merge.specs.Beginning.{early_count}
@@ -26,19 +26,19 @@ returns-then-is_due-clause-lines g c tells ps xs is rest =
     due_answers g.R.ReadAt.bytes (g.P.Pieces.left c.args.pieces.now) m c.give_due.new.self m.source.ty ps xs c.give_due.new.line.items c.give_due.result is rest e.rest.1 e.rest.0 e.rest.2 e.none (c.is_due.ensures.due c.if-is_due.true) c.requires.going.kept e.line e.end e.whole
 
 pub returns-then-is_due-clause-same : goal.returns-then-is_due-clause-same
-returns-then-is_due-clause-same g c = let e = c.give_due.ensures in (e.rest.0, ap (λ (v : Source g.row.R.Denot). v.tail) e.rest.1)
+returns-then-is_due-clause-same g c = let e = c.give_due.ensures in (e.rest.0, ap (λ (v : SampleSource g.row.R.Denot). v.tail) e.rest.1)
 
 pub returns-in-End-clause-same : goal.returns-in-End-clause-same
 returns-in-End-clause-same g c =
     let e = c.give_kept.ensures in
     let inv = c.samples.invariant in
-    (e.rest.0 ∙ inv.same.0, ap (λ (v : Source g.row.R.Denot). v.tail) e.rest.1 ∙ c.in-End.ensures.same.1 ∙ inv.tail)
+    (e.rest.0 ∙ inv.same.0, ap (λ (v : SampleSource g.row.R.Denot). v.tail) e.rest.1 ∙ c.in-End.ensures.same.1 ∙ inv.tail)
 
 pub returns-then-t-self-clause-same : goal.returns-then-t-self-clause-same
 returns-then-t-self-clause-same g c =
     let e = c.give.ensures in
     let inv = c.samples.invariant in
-    (e.rest.0 ∙ inv.same.0, ap (λ (v : Source g.row.R.Denot). v.tail) e.rest.1 ∙ c.in-Line.ensures.same.1 ∙ inv.tail)
+    (e.rest.0 ∙ inv.same.0, ap (λ (v : SampleSource g.row.R.Denot). v.tail) e.rest.1 ∙ c.in-Line.ensures.same.1 ∙ inv.tail)
 
 pub returns-then-is_due-clause-reads : goal.returns-then-is_due-clause-reads
 returns-then-is_due-clause-reads g c tells ps given has =
@@ -270,12 +270,12 @@ samples-preserved g c =
     let left = P.left c.pull.new.pieces in
     let T : PayloadType → Type 0 = λ ty. IsSampleOf ty x in
     let since : (P.count c.pull.new.pieces < P.count c.args.pieces.now) ⊎ Grew R.faults first m.source.piece = since_more (λ (h : P.count c.samples.pieces < P.count c.args.pieces.now). omega (arith, h, e.count)) inv.since in
-    let S : Source g.row.R.Denot → Type 0 = λ v. (P.count c.pull.new.pieces < P.count c.args.pieces.now) ⊎ Grew R.faults first v.piece in
+    let S : SampleSource g.row.R.Denot → Type 0 = λ v. (P.count c.pull.new.pieces < P.count c.args.pieces.now) ⊎ Grew R.faults first v.piece in
     record {
       going = going_at R.tells R.bytes m m₂ s k.rest.1 e.same.0 e.same.1 (e.ready tt) inv.going (kept_now s.ty m₂.last m₂.kept m₂.kept_line.items t c.pull.new.line.items k.some k.rest.2 k.kept (subst T (sym e.same.0) (e.event t refl)));
       early = early_at m₂.kept t m.query.from m₂.query.from k.some (ap (λ (v : Query). v.from) k.rest.0) c.if-t-self.false;
-      same = (k.rest.0 ∙ inv.same.0, ap (λ (v : Source g.row.R.Denot). v.ty) k.rest.1 ∙ e.same.0 ∙ inv.same.1);
-      tail = ap (λ (v : Source g.row.R.Denot). v.tail) k.rest.1 ∙ e.same.1 ∙ inv.tail;
+      same = (k.rest.0 ∙ inv.same.0, ap (λ (v : SampleSource g.row.R.Denot). v.ty) k.rest.1 ∙ e.same.0 ∙ inv.same.1);
+      tail = ap (λ (v : SampleSource g.row.R.Denot). v.tail) k.rest.1 ∙ e.same.1 ∙ inv.tail;
       reads = λ tells ps given has.
           let on = inv.reads tells ps given has in
           let n = P.count c.samples.pieces in
@@ -302,28 +302,28 @@ samples-preserved g c =
       since = subst S (sym k.rest.1) (since_through R.faults first m.source.piece s.piece _ _ (λ (h : P.count c.pull.new.pieces < P.count c.samples.pieces). omega (arith, h, inv.count)) (e.grew t refl) since);
       faults = omega (arith, e.faults, inv.faults);
       count = omega (arith, e.count, inv.count);
-      went = goes_still R.tells R.bytes P.opened P.failed c.args.pieces.now c.pull.new.pieces first s.piece m₂.source.piece (goes_joined R.tells R.bytes P.opened P.failed g.met.P.Pieces.opened_on c.args.pieces.now c.samples.pieces c.pull.new.pieces first m.source.piece s.piece inv.went e.went) (λ tells. ap (λ (v : Source g.row.R.Denot). open_pieces R.bytes v.piece) k.rest.1);
+      went = goes_still R.tells R.bytes P.opened P.failed c.args.pieces.now c.pull.new.pieces first s.piece m₂.source.piece (goes_joined R.tells R.bytes P.opened P.failed g.met.P.Pieces.opened_on c.args.pieces.now c.samples.pieces c.pull.new.pieces first m.source.piece s.piece inv.went e.went) (λ tells. ap (λ (v : SampleSource g.row.R.Denot). open_pieces R.bytes v.piece) k.rest.1);
       low = omega (arith, inv.low, next_low m.source.ty m.last m.kept m.kept_line.items t inv.going.kept (c.is_later.ensures.0 c.if-not-is_later.false), kept_low m₂.last m₂.kept t k.some);
-      smaller = omega (arith, e.smaller t refl, inv.smaller, ap (λ (v : Source g.row.R.Denot). unread (P.count c.pull.new.pieces) v) k.rest.1, count_le m₂.kept);
+      smaller = omega (arith, e.smaller t refl, inv.smaller, ap (λ (v : SampleSource g.row.R.Denot). unread (P.count c.pull.new.pieces) v) k.rest.1, count_le m₂.kept);
     }
 
 pub returns-then-is_due-clause-smaller : goal.returns-then-is_due-clause-smaller
 returns-then-is_due-clause-smaller g c t is =
     let m = c.args.self.now in
     let e = c.give_due.ensures in
-    omega (arith, due_count m.kept m.query.from (c.is_due.ensures.due c.if-is_due.true), ap kept_count e.none, ap (λ (v : Source g.row.R.Denot). unread (g.P.Pieces.count c.args.pieces.now) v) e.rest.1)
+    omega (arith, due_count m.kept m.query.from (c.is_due.ensures.due c.if-is_due.true), ap kept_count e.none, ap (λ (v : SampleSource g.row.R.Denot). unread (g.P.Pieces.count c.args.pieces.now) v) e.rest.1)
 
 pub returns-in-End-clause-smaller : goal.returns-in-End-clause-smaller
 returns-in-End-clause-smaller g c t is =
     let m = c.samples.self in
     let e = c.give_kept.ensures in
-    omega (arith, kept_length m.kept m.kept_line.items _ (e.line t is), ap kept_count e.none, ap (λ (v : Source g.row.R.Denot). unread (g.P.Pieces.count c.pull.new.pieces) v) e.rest.1, c.in-End.ensures.no_more refl, c.samples.invariant.smaller)
+    omega (arith, kept_length m.kept m.kept_line.items _ (e.line t is), ap kept_count e.none, ap (λ (v : SampleSource g.row.R.Denot). unread (g.P.Pieces.count c.pull.new.pieces) v) e.rest.1, c.in-End.ensures.no_more refl, c.samples.invariant.smaller)
 
 pub returns-then-t-self-clause-smaller : goal.returns-then-t-self-clause-smaller
 returns-then-t-self-clause-smaller g c at is =
     let m = c.samples.self in
     let e = c.give.ensures in
-    omega (arith, gives_count m.query.to m.kept c.in-Line.t c.give.new.self.kept c.give.result e.gives, ap (λ (v : Source g.row.R.Denot). unread (g.P.Pieces.count c.pull.new.pieces) v) e.rest.1, c.in-Line.ensures.smaller c.in-Line.t refl, c.samples.invariant.smaller)
+    omega (arith, gives_count m.query.to m.kept c.in-Line.t c.give.new.self.kept c.give.result e.gives, ap (λ (v : SampleSource g.row.R.Denot). unread (g.P.Pieces.count c.pull.new.pieces) v) e.rest.1, c.in-Line.ensures.smaller c.in-Line.t refl, c.samples.invariant.smaller)
 
 -- WHAT BECAME OF THE PIECES
 
@@ -361,7 +361,7 @@ returns-then-is_due-clause-went g c =
     let e = c.give_due.ensures in
     let m = c.args.self.now in
     went_given R.tells R.bytes P.opened P.failed m.source.ty c.args.pieces.now c.args.pieces.now m.source.piece c.give_due.new.self.source.piece c.give_due.result e.whole
-    (goes_nowhere R.tells R.bytes P.opened P.failed g.met.P.Pieces.none_opened c.args.pieces.now m.source.piece c.give_due.new.self.source.piece (ap (λ (v : Source g.row.R.Denot). v.piece) e.rest.1))
+    (goes_nowhere R.tells R.bytes P.opened P.failed g.met.P.Pieces.none_opened c.args.pieces.now m.source.piece c.give_due.new.self.source.piece (ap (λ (v : SampleSource g.row.R.Denot). v.piece) e.rest.1))
 
 pub returns-in-End-clause-went : goal.returns-in-End-clause-went
 returns-in-End-clause-went g c =
@@ -372,7 +372,7 @@ returns-in-End-clause-went g c =
     let inv = c.samples.invariant in
     let now = c.give_kept.new.self.source.piece in
     went_given R.tells R.bytes P.opened P.failed c.args.self.now.source.ty c.args.pieces.now c.pull.new.pieces first now c.give_kept.result e.whole
-    (goes_still R.tells R.bytes P.opened P.failed c.args.pieces.now c.pull.new.pieces first c.pull.new.self.piece now (goes_joined R.tells R.bytes P.opened P.failed g.met.P.Pieces.opened_on c.args.pieces.now c.samples.pieces c.pull.new.pieces first c.samples.self.source.piece c.pull.new.self.piece inv.went c.in-End.ensures.went) (λ tells. ap (λ (v : Source g.row.R.Denot). open_pieces R.bytes v.piece) e.rest.1))
+    (goes_still R.tells R.bytes P.opened P.failed c.args.pieces.now c.pull.new.pieces first c.pull.new.self.piece now (goes_joined R.tells R.bytes P.opened P.failed g.met.P.Pieces.opened_on c.args.pieces.now c.samples.pieces c.pull.new.pieces first c.samples.self.source.piece c.pull.new.self.piece inv.went c.in-End.ensures.went) (λ tells. ap (λ (v : SampleSource g.row.R.Denot). open_pieces R.bytes v.piece) e.rest.1))
 
 pub returns-then-t-self-clause-went : goal.returns-then-t-self-clause-went
 returns-then-t-self-clause-went g c =
@@ -384,7 +384,7 @@ returns-then-t-self-clause-went g c =
     let inv = c.samples.invariant in
     let now = c.give.new.self.source.piece in
     went_given R.tells R.bytes P.opened P.failed c.args.self.now.source.ty c.args.pieces.now c.pull.new.pieces first now c.give.result (gives_given m.query.to m.kept c.in-Line.t c.give.new.self.kept c.give.result e.gives)
-    (goes_still R.tells R.bytes P.opened P.failed c.args.pieces.now c.pull.new.pieces first c.pull.new.self.piece now (goes_joined R.tells R.bytes P.opened P.failed g.met.P.Pieces.opened_on c.args.pieces.now c.samples.pieces c.pull.new.pieces first m.source.piece c.pull.new.self.piece inv.went c.in-Line.ensures.went) (λ tells. ap (λ (v : Source g.row.R.Denot). open_pieces R.bytes v.piece) e.rest.1))
+    (goes_still R.tells R.bytes P.opened P.failed c.args.pieces.now c.pull.new.pieces first c.pull.new.self.piece now (goes_joined R.tells R.bytes P.opened P.failed g.met.P.Pieces.opened_on c.args.pieces.now c.samples.pieces c.pull.new.pieces first m.source.piece c.pull.new.self.piece inv.went c.in-Line.ensures.went) (λ tells. ap (λ (v : SampleSource g.row.R.Denot). open_pieces R.bytes v.piece) e.rest.1))
 
 -- EACH LINE IS LATER
 

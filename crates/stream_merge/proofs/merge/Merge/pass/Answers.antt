@@ -1,6 +1,6 @@
 use Rattle.std.proofs.Common.{◌≡◌, ℕ, ◌++◌, ◌∷◌, [], List, Some, length, sym, ap, ◌∙◌, subst}
 use Rattle.stream_merge.specs.declared.merge.Merge.{Merge}
-use Rattle.stream_merge.specs.declared.source.Source.{Source}
+use Rattle.stream_merge.specs.declared.source.SampleSource.{SampleSource}
 use Rattle.stream_merge.specs.Source.{passed}
 use Rattle.stream_merge.specs.Merging.{GoesBehind}
 use Rattle.stream_merge.specs.Reads.{HasGiven}
@@ -13,7 +13,7 @@ returns g c =
     let m = c.args.self.now in
     let t = c.args.t in
     let is : (line : List ℕ) → c.args.len ≡ length line → record m { last = Some t; source = c.pass.new.self } ≡ merge_behind m t line = λ line long.
-    ap (λ (s : Source g.row.R.Denot). record m { last = Some t; source = s }) (c.pass.ensures.passed ∙ ap (λ (n : ℕ). record m.source { piece = passed m.source.piece t n }) long) in
+    ap (λ (s : SampleSource g.row.R.Denot). record m { last = Some t; source = s }) (c.pass.ensures.passed ∙ ap (λ (n : ℕ). record m.source { piece = passed m.source.piece t n }) long) in
     record {
       behind = λ line h long.
           let B : Merge g.row.R.Denot → Type 0 = λ v. GoesBehind R.tells R.bytes m t line v in

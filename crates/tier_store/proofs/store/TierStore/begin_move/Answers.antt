@@ -2,7 +2,7 @@ use Rattle.std.proofs.Common.{ℕ, ◌+◌, List, length, refl, ap, subst, arith
 use Rattle.std.specs.BTreeMap.{get}
 use Rattle.std.specs.Ordering.{nat_cmp}
 use Rattle.std.specs.Prelude.{Option}
-use Rattle.gate_journal.specs.Standing.{standing}
+use Rattle.gate_journal.specs.DiskShown.{shown_by}
 use Rattle.pv_catalog.specs.declared.row.Row.{Row}
 use Rattle.tier_store.specs.Beginning.{IsBegun}
 use Rattle.tier_store.specs.Seen.{seen_on}
@@ -22,7 +22,7 @@ pub returns-clause-says : goal.returns-clause-says
 returns-clause-says g c held has =
     let self = c.args.self.now in
     let disk = g.D.Disk in
-    let at = seen_on (standing disk) disk.faults self.catalogue self.manifests.items self.disk in
+    let at = seen_on (shown_by disk) disk.faults self.catalogue self.manifests.items self.disk in
     let source = c.manifest-source.result.now in
     let destination = c.manifest-destination.result.now in
     let running : ℕ → Option ℕ = get nat_cmp c.args.running.now in

@@ -2,7 +2,7 @@ use Rattle.std.proofs.Common.{inl, inr, Err, Option, ◌+◌, ◌∙◌, ap, sub
 use Rattle.std.proofs.lemmas.Result.{err_from_is_err_and}
 use Rattle.std.specs.Prelude.{IfSome, IsTrue}
 use Rattle.disk_model.specs.declared.disk.DiskErr.{DiskErr}
-use Rattle.gate_journal.specs.Standing.{standing}
+use Rattle.gate_journal.specs.DiskShown.{shown_by}
 use Rattle.etl_mover.specs.Step.{Advances, CanCopy, CanRevive}
 use Rattle.store_manifest.specs.declared.entry.Entry.{Entry}
 use Rattle.tier_store.specs.Pinned.{beside, seen_all}
@@ -32,7 +32,7 @@ copy-requires-clause-head g c part next =
     let self = c.args.self.now in
     let runs = c.requires.runs in
     let to = manifest_of self.manifests.items (c.args.place + 1) c.args.moving.now.granularity runs.3.runs.to_coarse in
-    head_low (standing disk) disk.faults disk.tells self.catalogue self.manifests.items self.limbo.items c.args.place to.0 to.1 self.disk (λ told. g.met.D.Disk.seen self.disk told) (reviving c.args.moving.now c.args.revived) runs.0 runs.1 runs.2 runs.3 c.args.line.name c.args.line.at c.args.line.len runs.4 part next
+    head_low (shown_by disk) disk.faults disk.tells self.catalogue self.manifests.items self.limbo.items c.args.place to.0 to.1 self.disk (λ told. g.met.D.Disk.seen self.disk told) (reviving c.args.moving.now c.args.revived) runs.0 runs.1 runs.2 runs.3 c.args.line.name c.args.line.at c.args.line.len runs.4 part next
 
 pub copy-requires-clause-revived : goal.copy-requires-clause-revived
 copy-requires-clause-revived g c =
@@ -48,7 +48,7 @@ copy-requires-clause-can g c tells =
     let to = manifest_of self.manifests.items (c.args.place + 1) c.args.moving.now.granularity runs.3.runs.to_coarse in
     subst (λ (o : Option Entry). CanCopy c.args.moving.now o line.len (disk.files self.disk) (disk.opened self.disk)) (sym c.as_ref.ensures.value)
     (can_go self.limbo.items (c.args.place + 2) runs.3.runs.fine c.args.moving.now c.args.revived line.len (disk.files self.disk) (disk.opened self.disk) c.requires.goes runs.3.runs.running
-    (can_copy (standing disk) disk.faults disk.tells self.catalogue self.manifests.items self.limbo.items c.args.place to.0 to.1 self.disk (λ told. g.met.D.Disk.seen self.disk told) (reviving c.args.moving.now c.args.revived) runs.0 runs.1 runs.2 runs.3 line.name line.at line.len runs.4 tells))
+    (can_copy (shown_by disk) disk.faults disk.tells self.catalogue self.manifests.items self.limbo.items c.args.place to.0 to.1 self.disk (λ told. g.met.D.Disk.seen self.disk told) (reviving c.args.moving.now c.args.revived) runs.0 runs.1 runs.2 runs.3 line.name line.at line.len runs.4 tells))
 
 -- what the move's call does, whatever it answers
 did : (g : _) (c : After-copy g) → Went c.args.place g.D.Disk.tells (seen_all g.D.Disk c.args.self.now) (beside (seen_by g.D.Disk c.args.self.now.catalogue c.args.self.now.manifests.items c.copy.new.disk) c.args.self.now.limbo.items) c.args.moving.now c.args.revived (g.D.Disk.faults c.args.self.now.disk) (g.D.Disk.faults c.copy.new.disk)
@@ -57,7 +57,7 @@ did g c =
     let self = c.args.self.now in
     let move = c.args.moving.now in
     let lent = c.as_ref.ensures.value in
-    went (standing disk) disk.faults disk.tells self.catalogue self.manifests.items self.limbo.items c.args.place self.disk c.copy.new.disk (λ told. g.met.D.Disk.seen self.disk told) move c.args.revived c.args.line.name c.args.line.at c.args.line.len c.requires.runs c.requires.stands c.requires.goes
+    went (shown_by disk) disk.faults disk.tells self.catalogue self.manifests.items self.limbo.items c.args.place self.disk c.copy.new.disk (λ told. g.met.D.Disk.seen self.disk told) move c.args.revived c.args.line.name c.args.line.at c.args.line.len c.requires.runs c.requires.stands c.requires.goes
     (either_it move _ c.args.revived lent c.args.line.at c.args.line.len c.copy.ensures.either) (λ told p start goes. leaves_it move _ c.args.revived lent (IsTrue disk.tells) _ c.copy.ensures.leaves told p start goes)
     (λ told never. nowhere_it move _ c.args.revived lent (IsTrue disk.tells) _ c.copy.ensures.nowhere told never) c.copy.ensures.faults
 
@@ -83,7 +83,7 @@ returns-then-not-is_revived-clause-copies g c files held has is line =
     let now = c.last_moment-now.ensures in
     record {
       stays = (did g (goal.at.returns-then-not-is_revived-clause-copies g c).After-copy).stays files held has is;
-      says = go_damaged (standing disk) disk.faults disk.tells self.catalogue self.manifests.items self.limbo.items c.args.place self.disk c.copy.new.disk (λ told. g.met.D.Disk.seen self.disk told) move c.args.revived c.args.line.name c.args.line.at c.args.line.len c.requires.runs c.requires.stands c.requires.goes
+      says = go_damaged (shown_by disk) disk.faults disk.tells self.catalogue self.manifests.items self.limbo.items c.args.place self.disk c.copy.new.disk (λ told. g.met.D.Disk.seen self.disk told) move c.args.revived c.args.line.name c.args.line.at c.args.line.len c.requires.runs c.requires.stands c.requires.goes
           (either_it move _ c.args.revived lent c.args.line.at c.args.line.len c.copy.ensures.either) (λ told p start goes. leaves_it move _ c.args.revived lent (IsTrue disk.tells) _ c.copy.ensures.leaves told p start goes)
           (λ told never. nowhere_it move _ c.args.revived lent (IsTrue disk.tells) _ c.copy.ensures.nowhere told never) 1_048_576 c.copy.new.self (subst (λ (o : Option Entry). Advances move c.copy.new.self o c.args.line.len) lent c.in_ok-copied.ensures.advances)
           (λ told p start bytes goes file. copies_it move _ c.args.revived lent (IsTrue disk.tells) (disk.files self.disk) _ c.in_ok-copied.ensures.copies told p start bytes goes file) files held has is line
@@ -108,7 +108,7 @@ returns-in-More-clause-copies g c files held has is line =
     let less = c.is_ahead.ensures.ahead c.if-not-is_ahead.false in
     record {
       stays = (did g (goal.at.returns-in-More-clause-copies g c).After-copy).stays files held has is;
-      says = go_more (standing disk) disk.faults disk.tells self.catalogue self.manifests.items self.limbo.items c.args.place self.disk c.copy.new.disk (λ told. g.met.D.Disk.seen self.disk told) move c.args.revived c.args.line.name c.args.line.at c.args.line.len c.requires.runs c.requires.stands c.requires.goes
+      says = go_more (shown_by disk) disk.faults disk.tells self.catalogue self.manifests.items self.limbo.items c.args.place self.disk c.copy.new.disk (λ told. g.met.D.Disk.seen self.disk told) move c.args.revived c.args.line.name c.args.line.at c.args.line.len c.requires.runs c.requires.stands c.requires.goes
           (either_it move _ c.args.revived lent c.args.line.at c.args.line.len c.copy.ensures.either) (λ told p start goes. leaves_it move _ c.args.revived lent (IsTrue disk.tells) _ c.copy.ensures.leaves told p start goes)
           (λ told never. nowhere_it move _ c.args.revived lent (IsTrue disk.tells) _ c.copy.ensures.nowhere told never) 1_048_576 c.copy.new.self (subst (λ (o : Option Entry). Advances move c.copy.new.self o c.args.line.len) lent c.in_ok-copied.ensures.advances)
           (λ told p start bytes goes file. copies_it move _ c.args.revived lent (IsTrue disk.tells) (disk.files self.disk) _ c.in_ok-copied.ensures.copies told p start bytes goes file) files held has is line
@@ -130,7 +130,7 @@ returns-clause-copies g c files held has is line =
     let less = c.is_ahead.ensures.ahead c.if-not-is_ahead.false in
     record {
       stays = (did g (goal.at.returns-clause-copies g c).After-copy).stays files held has is;
-      says = go_all (standing disk) disk.faults disk.tells self.catalogue self.manifests.items self.limbo.items c.args.place self.disk c.copy.new.disk (λ told. g.met.D.Disk.seen self.disk told) move c.args.revived c.args.line.name c.args.line.at c.args.line.len c.requires.runs c.requires.stands c.requires.goes
+      says = go_all (shown_by disk) disk.faults disk.tells self.catalogue self.manifests.items self.limbo.items c.args.place self.disk c.copy.new.disk (λ told. g.met.D.Disk.seen self.disk told) move c.args.revived c.args.line.name c.args.line.at c.args.line.len c.requires.runs c.requires.stands c.requires.goes
           (either_it move _ c.args.revived lent c.args.line.at c.args.line.len c.copy.ensures.either) (λ told p start goes. leaves_it move _ c.args.revived lent (IsTrue disk.tells) _ c.copy.ensures.leaves told p start goes)
           (λ told never. nowhere_it move _ c.args.revived lent (IsTrue disk.tells) _ c.copy.ensures.nowhere told never) 1_048_576 c.copy.new.self (subst (λ (o : Option Entry). Advances move c.copy.new.self o c.args.line.len) lent c.in_ok-copied.ensures.advances)
           (λ told p start bytes goes file. copies_it move _ c.args.revived lent (IsTrue disk.tells) (disk.files self.disk) _ c.in_ok-copied.ensures.copies told p start bytes goes file) files held has is line
@@ -152,7 +152,7 @@ wrote g c tells =
     let part = next_part disk.tells (seen_all disk self) c.args.place (reviving move c.args.revived) runs.0 runs.1 runs.2 runs.3 in
     let running = plain runs.3.runs.fine move c.args.revived runs.3.runs.running in
     let to = manifest_of self.manifests.items (c.args.place + 1) move.granularity runs.3.runs.to_coarse in
-    let can = can_copy (standing disk) disk.faults disk.tells self.catalogue self.manifests.items self.limbo.items c.args.place to.0 to.1 self.disk (λ told. g.met.D.Disk.seen self.disk told) (reviving move c.args.revived) runs.0 runs.1 runs.2 runs.3 line.name line.at line.len runs.4 tells in
+    let can = can_copy (shown_by disk) disk.faults disk.tells self.catalogue self.manifests.items self.limbo.items c.args.place to.0 to.1 self.disk (λ told. g.met.D.Disk.seen self.disk told) (reviving move c.args.revived) runs.0 runs.1 runs.2 runs.3 line.name line.at line.len runs.4 tells in
     step_targets runs.3.runs.fine move c.copy.new.self _ part.0 line.at line.len _ _ running (c.copy.ensures.running runs.3.runs.fine running) c.in_ok-copied.ensures.advances part.1 (c.copy.ensures.either part.0 part.1 runs.4.low) (can.source part.0 part.1) (c.copy.ensures.leaves tells) (c.in_ok-copied.ensures.copies tells) (c.copy.ensures.nowhere tells)
 
 pub returns-then-not-is_revived-clause-targets : goal.returns-then-not-is_revived-clause-targets

@@ -3,7 +3,7 @@ use Rattle.std.specs.Prelude.{IfOk, IsTrue, OnErr, OnOk, Result, nat_eq}
 use Rattle.std.proofs.lemmas.Bool.{eqb-true}
 use Rattle.std.proofs.lemmas.List.{length-map}
 use Rattle.disk_model.specs.declared.disk.DiskErr.{DiskErr}
-use Rattle.etl_mover.specs.Move.{MoveState, of_series, part_file}
+use Rattle.etl_mover.specs.Move.{Moving, of_series, part_file}
 use Rattle.durable_write.specs.Ends.{end_of_disk}
 use Rattle.durable_write.specs.Held.{Filed}
 use Rattle.tier_store.specs.Change.{Has}
@@ -79,7 +79,7 @@ go_back-requires g c =
     let own = source g.D.Disk.tells _ c.args.place c.args.moving.now runs.0 runs.2 runs.3 (further c.args.place g.D.Disk.tells _ c.args.moving.now runs.0 runs.2 runs.4.0) in
     let low = (c.requires.covered own.0 own.1).low in
     let same : c.copy_at.new.moving ≡ c.pass_to.new.moving = subst (λ (r : Result CopyEnd DiskErr). OnErr r (c.copy_at.new.moving ≡ c.pass_to.new.moving)) c.in-Err.is c.copy_at.ensures.unchanged in
-    let at = ap (λ (x : MoveState). x.at) same in
+    let at = ap (λ (x : Moving). x.at) same in
     omega (arith, at, low, c.pass_to.ensures.at, c.copied_parts-first.ensures)
 
 pub returns-in-Ok-clause-copies : goal.returns-in-Ok-clause-copies
@@ -122,7 +122,7 @@ returns-in-Err-clause-copies g c files retired held has among line =
     let new = seen_all g.D.Disk c.copy_at.new.self in
     let then = subst (λ (r : Result CopyEnd DiskErr). OnErr r (CopiesFurther c.args.place tells new (reviving mid c.revival-revived.result) t.those held)) c.in-Err.is step.still in
     let same : c.copy_at.new.moving ≡ mid = subst (λ (r : Result CopyEnd DiskErr). OnErr r (c.copy_at.new.moving ≡ mid)) c.in-Err.is c.copy_at.ensures.unchanged in
-    let back = c.go_back.ensures ∙ (ap (λ (x : MoveState). record x { at = c.copied_parts-first.result }) same ∙ ap (λ (k : ℕ). record mid { at = k }) c.copied_parts-first.ensures) in
+    let back = c.go_back.ensures ∙ (ap (λ (x : Moving). record x { at = c.copied_parts-first.result }) same ∙ ap (λ (k : ℕ). record mid { at = k }) c.copied_parts-first.ensures) in
     record {
       stays = step.stays;
       says = tt;
@@ -139,5 +139,5 @@ returns-in-Err-clause-one g c =
     let runs = c.requires.runs in
     let own = source g.D.Disk.tells _ c.args.place c.args.moving.now runs.0 runs.2 runs.3 (further c.args.place g.D.Disk.tells _ c.args.moving.now runs.0 runs.2 runs.4.0) in
     let low = (c.requires.covered own.0 own.1).low in
-    let at = ap (λ (x : MoveState). x.at) c.go_back.ensures in
+    let at = ap (λ (x : Moving). x.at) c.go_back.ensures in
     omega (arith, low, at, c.copied_parts-first.ensures)

@@ -6,7 +6,7 @@ use Rattle.pv_catalog.specs.Catalogue.{CatalogueState}
 use Rattle.pv_catalog.specs.declared.row.Row.{Row}
 use Rattle.series_model.specs.Series.{over}
 use Rattle.series_model.specs.declared.sample.Sample.{Sample}
-use Rattle.gate_journal.specs.Standing.{standing}
+use Rattle.gate_journal.specs.DiskShown.{shown_by}
 use Rattle.store_manifest.specs.Manifest.{ManifestState}
 use Rattle.durable_write.specs.Held.{entry_of}
 use Rattle.durable_write.specs.Plan.{of_row}
@@ -22,7 +22,7 @@ returns-clause-described g c held has =
     let self = c.args.self.now in
     let disk = g.D.Disk in
     let row = c.args.row in
-    let at = seen_on (standing disk) disk.faults self.catalogue self.manifests.items self.disk in
+    let at = seen_on (shown_by disk) disk.faults self.catalogue self.manifests.items self.disk in
     let same = c.in_ok-durable.ensures.same in
     let rows : c.rows.result.now ≡ self.catalogue.rows = c.rows.ensures.value ∙ ap (λ (s : CatalogueState). s.rows) same.0 in
     let low : row < length c.rows.result.now = subst (λ (rs : List Row). row < length rs) (sym rows) c.requires.row in

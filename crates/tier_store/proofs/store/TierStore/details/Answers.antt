@@ -1,5 +1,5 @@
 use Rattle.std.proofs.Common.{refl, ap, subst}
-use Rattle.gate_journal.specs.Standing.{standing}
+use Rattle.gate_journal.specs.DiskShown.{shown_by}
 use Rattle.tier_store.specs.Change.{Has, OnlyReads}
 use Rattle.tier_store.specs.Opening.{answer_of, end_of_answer}
 use Rattle.tier_store.specs.Seen.{Seen, seen}
@@ -21,8 +21,8 @@ returns-clause-kept g c held has =
     let disk = g.D.Disk in
     let says = c.describe_named.ensures in
     subst (λ (s : Seen). Has disk.tells s held)
-    (same_seen (standing disk) disk.faults old.catalogue new.catalogue old.manifests.items new.manifests.items new.disk new.disk says.same.0 (ap (λ m. m.items) says.same.1) refl)
-    (has_read (standing disk) disk.faults disk.tells old.catalogue old.manifests.items old.disk new.disk says.reads held has)
+    (same_seen (shown_by disk) disk.faults old.catalogue new.catalogue old.manifests.items new.manifests.items new.disk new.disk says.same.0 (ap (λ m. m.items) says.same.1) refl)
+    (has_read (shown_by disk) disk.faults disk.tells old.catalogue old.manifests.items old.disk new.disk says.reads held has)
 
 pub returns-clause-reads : goal.returns-clause-reads
 returns-clause-reads g c =

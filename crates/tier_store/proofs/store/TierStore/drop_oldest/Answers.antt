@@ -3,7 +3,7 @@ use Rattle.std.specs.Prelude.{Result, Some, slice_get}
 use Rattle.std.proofs.lemmas.Result.{err_from_is_err_and}
 use Rattle.disk_model.specs.Files.{Name}
 use Rattle.disk_model.specs.declared.disk.DiskErr.{DiskErr}
-use Rattle.gate_journal.specs.Standing.{standing}
+use Rattle.gate_journal.specs.DiskShown.{shown_by}
 use Rattle.store_manifest.proofs.Written.{batch_length}
 use Rattle.store_manifest.specs.Entries.{AllCanFollow}
 use Rattle.durable_write.specs.Ends.{end_of_disk}
@@ -49,7 +49,7 @@ relist-requires-clause-can g c tells =
       (c.args.place + 1, self.catalogue.rows),
       tier c.args.place was.0,
       holding c.args.place was.0 (can g at was.0 was.1).0,
-      can_relist (standing g.D.Disk) g.D.Disk.faults g.D.Disk.tells c.args.self.now.catalogue c.args.self.now.manifests.items c.args.place c.index_mut.result.now c.index_mut.result.now (here g at) self.disk self.disk c.args.drops.now (can g at) was.0 was.1 tells,
+      can_relist (shown_by g.D.Disk) g.D.Disk.faults g.D.Disk.tells c.args.self.now.catalogue c.args.self.now.manifests.items c.args.place c.index_mut.result.now c.index_mut.result.now (here g at) self.disk self.disk c.args.drops.now (can g at) was.0 was.1 tells,
     )
 
 pub returns-clause-changes : goal.returns-clause-changes
@@ -58,8 +58,8 @@ returns-clause-changes g c =
     let was = c.requires.has in
     let says = c.relist.ensures in
     let at = (goal.at.returns-clause-changes g c).After-index_mut in
-    call_done (standing g.D.Disk) g.D.Disk.faults g.D.Disk.tells c.args.self.now.catalogue c.args.self.now.manifests.items c.args.place c.index_mut.result.now c.relist.new.manifest (here g at) self.disk c.relist.new.disk c.args.drops.now (can g at) says.state.0 says.any_moment
-    (λ tells. beside_all (standing g.D.Disk) g.D.Disk.faults g.D.Disk.tells c.args.self.now.catalogue c.args.self.now.manifests.items c.args.place c.index_mut.result.now c.relist.new.manifest (here g at) self.disk c.relist.new.disk c.args.drops.now (can g at) was.0 was.1 tells (says.frame tells) (says.elsewhere tells) (says.no_more tells))
+    call_done (shown_by g.D.Disk) g.D.Disk.faults g.D.Disk.tells c.args.self.now.catalogue c.args.self.now.manifests.items c.args.place c.index_mut.result.now c.relist.new.manifest (here g at) self.disk c.relist.new.disk c.args.drops.now (can g at) says.state.0 says.any_moment
+    (λ tells. beside_all (shown_by g.D.Disk) g.D.Disk.faults g.D.Disk.tells c.args.self.now.catalogue c.args.self.now.manifests.items c.args.place c.index_mut.result.now c.relist.new.manifest (here g at) self.disk c.relist.new.disk c.args.drops.now (can g at) was.0 was.1 tells (says.frame tells) (says.elsewhere tells) (says.no_more tells))
     says.faults (dropping c.args.place c.args.row c.args.n) (λ held has. refl) (λ held has. tt) c.in_ok-relist.ensures.entries c.in_ok-relist.ensures.sound c.in_ok-relist.ensures.made
 
 pub returns-in_err-relist-clause-changes : goal.returns-in_err-relist-clause-changes
@@ -70,8 +70,8 @@ returns-in_err-relist-clause-changes g c =
     let at = (goal.at.returns-in_err-relist-clause-changes g c).After-index_mut in
     let failed = c.in_err-relist in
     let p = err_from_is_err_and c.from_residual.result c.from_residual.ensures.1 in
-    call_cut (standing g.D.Disk) g.D.Disk.faults g.D.Disk.tells c.args.self.now.catalogue c.args.self.now.manifests.items c.args.place c.index_mut.result.now c.relist.new.manifest (here g at) self.disk c.relist.new.disk c.args.drops.now (can g at) says.state.0 says.any_moment
-    (λ tells. beside_all (standing g.D.Disk) g.D.Disk.faults g.D.Disk.tells c.args.self.now.catalogue c.args.self.now.manifests.items c.args.place c.index_mut.result.now c.relist.new.manifest (here g at) self.disk c.relist.new.disk c.args.drops.now (can g at) was.0 was.1 tells (says.frame tells) (says.elsewhere tells) (says.no_more tells))
+    call_cut (shown_by g.D.Disk) g.D.Disk.faults g.D.Disk.tells c.args.self.now.catalogue c.args.self.now.manifests.items c.args.place c.index_mut.result.now c.relist.new.manifest (here g at) self.disk c.relist.new.disk c.args.drops.now (can g at) says.state.0 says.any_moment
+    (λ tells. beside_all (shown_by g.D.Disk) g.D.Disk.faults g.D.Disk.tells c.args.self.now.catalogue c.args.self.now.manifests.items c.args.place c.index_mut.result.now c.relist.new.manifest (here g at) self.disk c.relist.new.disk c.args.drops.now (can g at) was.0 was.1 tells (says.frame tells) (says.elsewhere tells) (says.no_more tells))
     says.faults (dropping c.args.place c.args.row c.args.n) (λ held has. refl) (λ held has. tt) failed.ensures.unchanged failed.ensures.next failed.ensures.unmade failed.ensures.in_doubt failed.field-0.0 _ (ap (λ (r : Result (Unit {0}) DiskErr). end_of_disk r) (p.1 ∙ ap (λ (x : DiskErr). Err x) p.2))
     (λ is. says.memory (failed.was ∙ ap (λ (x : DiskErr). Err x) is)) (λ is. says.cause (failed.was ∙ ap (λ (x : DiskErr). Err x) is))
 

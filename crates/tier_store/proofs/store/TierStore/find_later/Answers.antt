@@ -3,7 +3,7 @@ use Rattle.std.proofs.lemmas.List.Elements.{All-contains}
 use Rattle.std.proofs.lemmas.Result.{err_from_is_err_and}
 use Rattle.disk_model.specs.Files.{HasFile, Name}
 use Rattle.disk_model.specs.declared.disk.DiskErr.{DiskErr}
-use Rattle.gate_journal.specs.Standing.{standing}
+use Rattle.gate_journal.specs.DiskShown.{shown_by}
 use Rattle.pb_lines.specs.File.{IsFile}
 use Rattle.pv_catalog.specs.declared.row.Row.{Row}
 use Rattle.store_manifest.specs.declared.entry.Entry.{Entry}
@@ -52,11 +52,11 @@ looked g c =
     let self = c.args.self.now in
     let says = c.find_next.ensures in
     record {
-      kept = has_read (standing disk) disk.faults disk.tells self.catalogue self.manifests.items self.disk c.find_next.new.disk says.reads;
+      kept = has_read (shown_by disk) disk.faults disk.tells self.catalogue self.manifests.items self.disk c.find_next.new.disk says.reads;
       catalogue = refl;
       manifests = refl;
       limbo = refl;
-      shown = read_shown (standing disk) disk.faults disk.tells self.catalogue self.manifests.items self.limbo.items self.disk c.find_next.new.disk (λ tells. (says.reads tells).same);
+      shown = read_shown (shown_by disk) disk.faults disk.tells self.catalogue self.manifests.items self.limbo.items self.disk c.find_next.new.disk (λ tells. (says.reads tells).same);
       leaves = read_leaves disk.tells _ _ refl (λ tells. (says.reads tells).same) (λ tells. (says.reads tells).same_opened) (λ tells. (says.reads tells).any_moment);
       opened = λ tells. (says.reads tells).same_opened;
       reads = only_reads disk.tells _ _ c.find_next.result (λ tells. (says.reads tells).same) (λ tells. (says.reads tells).any_moment) says.faults says.cause;

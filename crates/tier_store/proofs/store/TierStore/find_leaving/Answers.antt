@@ -1,7 +1,7 @@
 use Rattle.std.proofs.Common.{[], refl, subst, sym}
 use Rattle.std.specs.Prelude.{IfOk}
 use Rattle.disk_model.specs.Files.{Files}
-use Rattle.gate_journal.specs.Standing.{standing}
+use Rattle.gate_journal.specs.DiskShown.{shown_by}
 use Rattle.tier_store.specs.Limbo.{AreRemovable, IsLeftOver, IsUseless}
 use Rattle.tier_store.proofs.ReadCalls.{if_ok_to, reads_look}
 use Rattle.tier_store.proofs.RunningMoves.{read_names}
@@ -22,7 +22,7 @@ pub returns-clause-looks : goal.returns-clause-looks
 returns-clause-looks g c =
     let self = c.args.self.now in
     let disk = g.D.Disk in
-    reads_look (standing disk) disk.faults disk.tells self.catalogue self.manifests.items self.limbo.items self.disk c.find_removable.new.disk c.find_removable.result c.find_removable.ensures.reads c.find_removable.ensures.faults c.find_removable.ensures.cause
+    reads_look (shown_by disk) disk.faults disk.tells self.catalogue self.manifests.items self.limbo.items self.disk c.find_removable.new.disk c.find_removable.result c.find_removable.ensures.reads c.find_removable.ensures.faults c.find_removable.ensures.cause
 
 pub returns-clause-later : goal.returns-clause-later
 returns-clause-later g c names numbered =

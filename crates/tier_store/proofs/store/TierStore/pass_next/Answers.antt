@@ -1,8 +1,8 @@
 use Rattle.std.proofs.Common.{Err, None, ◌∙◌, ap, sym, arith}
 use Rattle.std.proofs.lemmas.Result.{err_from_is_err_and}
 use Rattle.disk_model.specs.declared.disk.DiskErr.{DiskErr}
-use Rattle.gate_journal.specs.Standing.{standing}
-use Rattle.etl_mover.specs.Move.{MoveState}
+use Rattle.gate_journal.specs.DiskShown.{shown_by}
+use Rattle.etl_mover.specs.Move.{Moving}
 use Rattle.tier_store.specs.Pinned.{beside}
 use Rattle.tier_store.specs.Seen.{granularities, seen_on}
 use Rattle.tier_store.proofs.CopySteps.{copies_on, copies_or_on, err_says, looks_ends, looks_err}
@@ -68,7 +68,7 @@ pub returns-else-at-part-clause-finds : goal.returns-else-at-part-clause-finds
 returns-else-at-part-clause-finds g c files held has is =
     let disk = g.D.Disk in
     let self = c.args.self.now in
-    let old = beside (seen_on (standing disk) disk.faults self.catalogue self.manifests.items self.disk) self.limbo.items in
+    let old = beside (seen_on (shown_by disk) disk.faults self.catalogue self.manifests.items self.disk) self.limbo.items in
     let looks = c.in_ok-part.ensures.looks in
     let move = c.args.moving.now in
     let part = next_part disk.tells old c.args.place move files held has (further c.args.place disk.tells old move files held is) in (
@@ -83,7 +83,7 @@ returns-else-at-part-clause-passes g c =
     let disk = g.D.Disk in
     let self = c.args.self.now in
     let runs = c.requires.runs in
-    let old = beside (seen_on (standing disk) disk.faults self.catalogue self.manifests.items self.disk) self.limbo.items in
+    let old = beside (seen_on (shown_by disk) disk.faults self.catalogue self.manifests.items self.disk) self.limbo.items in
     let part = next_part disk.tells old c.args.place c.args.moving.now runs.0 runs.1 runs.2 (further c.args.place disk.tells old c.args.moving.now runs.0 runs.1 runs.3) in
     passes_finished c.args.moving.now c.pass.new.self part.0 c.in_ok-part.part.len (c.pass.ensures.passed part.0 part.1)
 
@@ -92,9 +92,9 @@ returns-else-at-part-clause-further g c is =
     let disk = g.D.Disk in
     let self = c.args.self.now in
     let runs = c.requires.runs in
-    let old = beside (seen_on (standing disk) disk.faults self.catalogue self.manifests.items self.disk) self.limbo.items in
+    let old = beside (seen_on (shown_by disk) disk.faults self.catalogue self.manifests.items self.disk) self.limbo.items in
     let part = next_part disk.tells old c.args.place c.args.moving.now runs.0 runs.1 runs.2 (further c.args.place disk.tells old c.args.moving.now runs.0 runs.1 runs.3) in
-    ap (λ (x : MoveState). x.at) (c.pass.ensures.passed part.0 part.1)
+    ap (λ (x : Moving). x.at) (c.pass.ensures.passed part.0 part.1)
 
 pub returns-else-at-part-clause-looks : goal.returns-else-at-part-clause-looks
 returns-else-at-part-clause-looks g c = looks_ends g.D.Disk.tells _ _ _ _ (λ failed. failed) c.in_ok-part.ensures.looks

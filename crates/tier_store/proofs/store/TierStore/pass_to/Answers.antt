@@ -1,6 +1,6 @@
 use Rattle.std.proofs.Common.{refl, sym, ◌∙◌, ap, arith}
-use Rattle.gate_journal.specs.Standing.{standing}
-use Rattle.etl_mover.specs.Move.{MoveState}
+use Rattle.gate_journal.specs.DiskShown.{shown_by}
+use Rattle.etl_mover.specs.Move.{Moving}
 use Rattle.store_manifest.specs.declared.entry.Entry.{Entry}
 use Rattle.tier_store.specs.Pinned.{beside}
 use Rattle.tier_store.specs.Seen.{seen_on}
@@ -28,7 +28,7 @@ pub loop-moving-smaller : goal.loop-moving-smaller
 loop-moving-smaller g c =
     let runs = c.requires.runs in
     let part = next_part g.D.Disk.tells _ c.args.place c.loop-moving.moving runs.0 runs.1 runs.2 (c.loop-moving.invariant.further runs.0 runs.1 runs.2 runs.3) in
-    let more = ap (λ (x : MoveState). x.at) (c.pass.ensures.passed part.0 part.1) in
+    let more = ap (λ (x : Moving). x.at) (c.pass.ensures.passed part.0 part.1) in
     omega (arith, more, c.loop-moving-test.true, c.copied_parts.ensures)
 
 pub loop-moving-preserved : goal.loop-moving-preserved
@@ -36,12 +36,12 @@ loop-moving-preserved g c =
     let disk = g.D.Disk in
     let self = c.args.self.now in
     let runs = c.requires.runs in
-    let all = beside (seen_on (standing disk) disk.faults self.catalogue self.manifests.items self.disk) self.limbo.items in
+    let all = beside (seen_on (shown_by disk) disk.faults self.catalogue self.manifests.items self.disk) self.limbo.items in
     let move = c.loop-moving.moving in
     let inv = c.loop-moving.invariant in
     let part = next_part disk.tells all c.args.place move runs.0 runs.1 runs.2 (inv.further runs.0 runs.1 runs.2 runs.3) in
     let passed = c.pass.ensures.passed part.0 part.1 in
-    let more = ap (λ (x : MoveState). x.at) passed in
+    let more = ap (λ (x : Moving). x.at) passed in
     let long = inv.passes.long in
     record {
       further = λ files held has is.

@@ -1,5 +1,5 @@
 use Rattle.std.proofs.Common.{ap, subst}
-use Rattle.gate_journal.specs.Standing.{standing}
+use Rattle.gate_journal.specs.DiskShown.{shown_by}
 use Rattle.tier_store.specs.Opening.{end_of_answer}
 use Rattle.tier_store.specs.Pinned.{PinsStand, SeenAll}
 use Rattle.tier_store.specs.Seen.{seen}
@@ -32,5 +32,5 @@ returns-clause-stand g c stand =
     let same = told.same in
     let held = c.requires.has in
     subst (λ (s : SeenAll). PinsStand disk.tells s new.pinned)
-    (same_all (seen disk old) _ old.limbo.items new.limbo.items (same_seen (standing disk) disk.faults old.catalogue new.catalogue old.manifests.items new.manifests.items old.disk new.disk same.0 (ap (λ m. m.items) same.1) same.2) (ap (λ l. l.items) told.limbo))
+    (same_all (seen disk old) _ old.limbo.items new.limbo.items (same_seen (shown_by disk) disk.faults old.catalogue new.catalogue old.manifests.items new.manifests.items old.disk new.disk same.0 (ap (λ m. m.items) same.1) same.2) (ap (λ l. l.items) told.limbo))
     (stands disk.tells (seen disk old) held.0 c.args.who c.args.name.now c.args.query c.args.tail old.pinned new.pinned held.1 old.limbo.items c.pin_named.result told.pinned told.memory stand)

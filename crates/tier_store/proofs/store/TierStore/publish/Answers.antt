@@ -2,7 +2,7 @@ use Rattle.std.proofs.Common.{◌≡◌, ◌<◌, ◌+◌, Some, length, ap, ref
 use Rattle.disk_model.proofs.Passing.{passes_weaker}
 use Rattle.disk_model.specs.Files.{Name}
 use Rattle.gate_journal.specs.Generations.{AtOwn}
-use Rattle.gate_journal.specs.Standing.{standing}
+use Rattle.gate_journal.specs.DiskShown.{shown_by}
 use Rattle.pv_catalog.proofs.Standing.{keeps_same}
 use Rattle.durable_write.specs.Ends.{end_of_disk}
 use Rattle.durable_write.specs.Flush.{with_files}
@@ -65,7 +65,7 @@ returns-clause-changes g c files =
     let says = c.publish.ensures in
     let at = seen g.D.Disk c.args.self.now in
     let here = here g (goal.at.returns-clause-changes g c).After-index_mut in
-    publish_ends (standing g.D.Disk) g.D.Disk.faults g.D.Disk.tells self.catalogue self.manifests.items self.limbo.items c.args.place m c.publish.new.dest here self.disk c.publish.new.disk (λ tells. g.met.D.Disk.seen self.disk tells) c.args.moving.now files
+    publish_ends (shown_by g.D.Disk) g.D.Disk.faults g.D.Disk.tells self.catalogue self.manifests.items self.limbo.items c.args.place m c.publish.new.dest here self.disk c.publish.new.disk (λ tells. g.met.D.Disk.seen self.disk tells) c.args.moving.now files
     c.publish.result says.commits says.relists
     (λ tells. on_store g.D.Disk.tells at runs.1 c.args.place m here runs.2 tells _ (passes_weaker (AtOwn m.journal.name Anything) (Beside (c.args.place + 1) m.journal.name) _ _ (says.frame tells) (λ a x was step n other apart. step.elsewhere n apart)) (λ n other apart. says.elsewhere tells n apart) (says.no_more tells))
     says.faults (λ is. says.memory is) (λ is. says.cause is)

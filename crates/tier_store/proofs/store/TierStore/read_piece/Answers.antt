@@ -2,7 +2,7 @@ use Rattle.std.proofs.Common.{◌≡◌, ◌≤◌, max, Some, ◌∙◌, ap, su
 use Rattle.std.specs.Prelude.{IsTrue, slice_get}
 use Rattle.pins.specs.declared.piece.PinnedFile.{PinnedFile}
 use Rattle.std.specs.FinMap.{get}
-use Rattle.gate_journal.specs.Standing.{standing}
+use Rattle.gate_journal.specs.DiskShown.{shown_by}
 use Rattle.pins.specs.Pieces.{asked}
 use Rattle.tier_store.specs.Change.{IsOpen}
 use Rattle.tier_store.specs.Limbo.{LimboStands}
@@ -27,18 +27,18 @@ abbrev Most : (g : _) → After-open_file g → Type 0
 Most g c = IsTrue g.D.Disk.tells → g.D.Disk.opened c.open_file.new.self c.in_ok-name.name ≤ max (g.D.Disk.opened c.args.self.now.disk c.in_ok-name.name) c.in-Some.piece.now.len
 
 runs_on : (g : _) (c : After-open_file g) → Most g c → KeepsBeside g.D.Disk.tells (seen_all g.D.Disk c.args.self.now) (beside (seen_by g.D.Disk c.args.self.now.catalogue c.args.self.now.manifests.items c.open_file.new.self) c.args.self.now.limbo.items)
-runs_on g c most = let self = c.args.self.now in opened_beside (standing g.D.Disk) g.D.Disk.faults g.D.Disk.tells self.catalogue self.manifests.items self.limbo.items self.disk c.open_file.new.self c.in_ok-name.name c.in-Some.piece.now.len (there g c) c.open_file.ensures.crash c.open_file.ensures.same most c.open_file.ensures.others
+runs_on g c most = let self = c.args.self.now in opened_beside (shown_by g.D.Disk) g.D.Disk.faults g.D.Disk.tells self.catalogue self.manifests.items self.limbo.items self.disk c.open_file.new.self c.in_ok-name.name c.in-Some.piece.now.len (there g c) c.open_file.ensures.crash c.open_file.ensures.same most c.open_file.ensures.others
 
 stays_open : (g : _) (c : After-open_file g) → Most g c → (before after : Stores) → IsOpen g.D.Disk.tells (seen g.D.Disk c.args.self.now) before after → IsOpen g.D.Disk.tells (seen_by g.D.Disk c.args.self.now.catalogue c.args.self.now.manifests.items c.open_file.new.self) before after
 stays_open g c most before after was =
     let self = c.args.self.now in
-    piece_opened (standing g.D.Disk) g.D.Disk.faults g.D.Disk.tells self.catalogue self.manifests.items self.disk c.open_file.new.self c.in_ok-name.name c.in-Some.piece.now.len (numbered _ c.in_ok-name.name c.in-Some.piece.now.len (there g c)) c.open_file.ensures.crash c.open_file.ensures.same most c.open_file.ensures.others self.limbo.items before after (there g c) was
+    piece_opened (shown_by g.D.Disk) g.D.Disk.faults g.D.Disk.tells self.catalogue self.manifests.items self.disk c.open_file.new.self c.in_ok-name.name c.in-Some.piece.now.len (numbered _ c.in_ok-name.name c.in-Some.piece.now.len (there g c)) c.open_file.ensures.crash c.open_file.ensures.same most c.open_file.ensures.others self.limbo.items before after (there g c) was
 
 stays_whole : (g : _) (c : After-open_file g) → Most g c → LimboStands (seen g.D.Disk c.args.self.now) c.args.self.now.limbo.items → KeepsWhole g.D.Disk.tells (seen_all g.D.Disk c.args.self.now) (beside (seen_by g.D.Disk c.args.self.now.catalogue c.args.self.now.manifests.items c.open_file.new.self) c.args.self.now.limbo.items)
 stays_whole g c most stand i stands files low whole =
     let self = c.args.self.now in
     let was = c.requires.begun in
-    opened_whole (standing g.D.Disk) g.D.Disk.faults g.D.Disk.tells self.catalogue self.manifests.items self.limbo.items self.disk c.open_file.new.self c.in_ok-name.name c.in-Some.piece.now.len (there g c) c.open_file.ensures.crash c.open_file.ensures.same most c.open_file.ensures.others was.0 was.1 was.2 stand i low stands files whole
+    opened_whole (shown_by g.D.Disk) g.D.Disk.faults g.D.Disk.tells self.catalogue self.manifests.items self.limbo.items self.disk c.open_file.new.self c.in_ok-name.name c.in-Some.piece.now.len (there g c) c.open_file.ensures.crash c.open_file.ensures.same most c.open_file.ensures.others was.0 was.1 was.2 stand i low stands files whole
 
 pub open_file-requires : goal.open_file-requires
 open_file-requires g c told =

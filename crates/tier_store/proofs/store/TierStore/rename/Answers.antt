@@ -1,5 +1,5 @@
 use Rattle.std.proofs.Common.{refl}
-use Rattle.gate_journal.specs.Standing.{standing}
+use Rattle.gate_journal.specs.DiskShown.{shown_by}
 use Rattle.durable_write.specs.Ends.{end_of_rename}
 use Rattle.tier_store.specs.Change.{renaming}
 use Rattle.tier_store.proofs.RowCalls.{rename_changes}
@@ -11,7 +11,7 @@ pub returns-clause-changes : goal.returns-clause-changes
 returns-clause-changes g c =
     let self = c.args.self.now in
     let says = c.rename.ensures in
-    rename_changes (standing g.D.Disk) g.D.Disk.faults g.D.Disk.tells self.catalogue c.rename.new.self self.manifests.items self.disk c.rename.new.disk c.args.row c.requires.row c.args.name.now c.rename.result
+    rename_changes (shown_by g.D.Disk) g.D.Disk.faults g.D.Disk.tells self.catalogue c.rename.new.self self.manifests.items self.disk c.rename.new.disk c.args.row c.requires.row c.args.name.now c.rename.result
     says.name (λ tells. (says.commits tells).any_moment) (λ tells. (says.commits tells).elsewhere) (λ tells. (says.one_file tells).opened) says.faults says.exactly
     says.id says.rows says.sound (λ tells. (says.commits tells).made) says.refusal says.kept (λ tells. (says.commits tells).doubt) says.next says.fault says.memory
 

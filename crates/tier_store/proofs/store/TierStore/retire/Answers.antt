@@ -16,7 +16,7 @@ use Rattle.durable_write.proofs.Staying.{rose_after}
 use Rattle.tier_store.specs.Change.{Changes, Has}
 use Rattle.tier_store.specs.Limbo.{LimboStands, NamesDiffer, AreRemovable, IsUseless, IsListedName, IsKeptName, LeaveListed, Stay, AreFree}
 use Rattle.disk_model.specs.Past.{Only}
-use Rattle.gate_journal.specs.Standing.{standing}
+use Rattle.gate_journal.specs.DiskShown.{shown_by}
 use Rattle.tier_store.specs.Retiring.{AreApart, HandedOver, HasNotGrown, oldest, oldest_entries, drop_entry, retired_of, dropping, without_oldest, Remain, Stays, IsFree, names_in}
 use Rattle.tier_store.specs.Revival.{KeepsWholeOf}
 use Rattle.tier_store.specs.Seen.{Seen, seen}
@@ -60,7 +60,7 @@ handed g c =
     let self = c.args.self.now in
     let hand = c.hand_over.new.self in
     let same = c.hand_over.ensures.same in
-    same_seen (standing g.D.Disk) g.D.Disk.faults self.catalogue hand.catalogue self.manifests.items hand.manifests.items self.disk hand.disk same.0 (ap (λ v. v.items) same.1) same.2
+    same_seen (shown_by g.D.Disk) g.D.Disk.faults self.catalogue hand.catalogue self.manifests.items hand.manifests.items self.disk hand.disk same.0 (ap (λ v. v.items) same.1) same.2
 
 -- WHEN THEY ARE DROPPED
 
@@ -72,7 +72,7 @@ memory_is g c =
     let self = c.args.self.now in
     let hand = c.hand_over.new.self in
     let same = c.hand_over.ensures.same in
-    same_seen (standing g.D.Disk) g.D.Disk.faults self.catalogue hand.catalogue self.manifests.items hand.manifests.items self.disk hand.disk same.0 (ap (λ v. v.items) same.1) same.2
+    same_seen (shown_by g.D.Disk) g.D.Disk.faults self.catalogue hand.catalogue self.manifests.items hand.manifests.items self.disk hand.disk same.0 (ap (λ v. v.items) same.1) same.2
 
 leaving_are : (g : _) (c : After-drop_asked g) → c.in_ok-leaving.leaving.files.items ≡ map (retired_of (c.args.place + 1, c.args.self.now.catalogue.rows)) (oldest_entries c.args.row (length c.args.published.now) c.index.result.now.entries)
 leaving_are g c = c.in_ok-leaving.ensures.files c.index.result.now (there g c)

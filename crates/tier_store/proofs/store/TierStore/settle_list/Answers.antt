@@ -5,7 +5,7 @@ use Rattle.disk_model.specs.declared.disk.DiskErr.{DiskErr}
 use Rattle.disk_model.proofs.Passing.{passes_weaker}
 use Rattle.gate_journal.specs.Generations.{AtOwn}
 use Rattle.gate_journal.specs.Kept.{SaysEither}
-use Rattle.gate_journal.specs.Standing.{standing}
+use Rattle.gate_journal.specs.DiskShown.{shown_by}
 use Rattle.gate_journal.proofs.Owning.{own_store}
 use Rattle.store_manifest.specs.Batches.{Configured}
 use Rattle.durable_write.proofs.Staying.{alone}
@@ -54,7 +54,7 @@ returns-clause-settled g c before after was =
     let at = (goal.at.returns-clause-settled g c).After-index_mut in
     let says = c.review.ensures in
     let settled = c.in_ok-review.ensures in
-    list_settled (standing g.D.Disk) g.D.Disk.faults g.D.Disk.tells self.disk c.review.new.disk self.catalogue self.manifests.items before after c.args.i c.index_mut.result.now c.review.new.self (here g at) says.state.0 says.state.1 (λ tells. alone c.index_mut.result.now.journal.name (Says g at) _ _ (says.any_moment tells) (says.elsewhere tells) (returns-clause-opened g c tells))
+    list_settled (shown_by g.D.Disk) g.D.Disk.faults g.D.Disk.tells self.disk c.review.new.disk self.catalogue self.manifests.items before after c.args.i c.index_mut.result.now c.review.new.self (here g at) says.state.0 says.state.1 (λ tells. alone c.index_mut.result.now.journal.name (Says g at) _ _ (says.any_moment tells) (says.elsewhere tells) (returns-clause-opened g c tells))
     (unsound g at) settled.sound was settled.entries settled.kept
 
 pub returns-in_err-review-clause-still : goal.returns-in_err-review-clause-still
@@ -64,7 +64,7 @@ returns-in_err-review-clause-still g c before after was =
     let says = c.review.ensures in
     let still = c.in_err-review.ensures.still in
     let p = err_from_is_err_and c.from_residual.result c.from_residual.ensures.1 in
-    rw p.1 (list_open (standing g.D.Disk) g.D.Disk.faults g.D.Disk.tells self.disk c.review.new.disk self.catalogue self.manifests.items before after c.args.i c.index_mut.result.now c.review.new.self (here g at) says.state.0 says.state.1 (λ tells. alone c.index_mut.result.now.journal.name (Says g at) _ _ (says.any_moment tells) (says.elsewhere tells) (returns-in_err-review-clause-opened g c tells))
+    rw p.1 (list_open (shown_by g.D.Disk) g.D.Disk.faults g.D.Disk.tells self.disk c.review.new.disk self.catalogue self.manifests.items before after c.args.i c.index_mut.result.now c.review.new.self (here g at) says.state.0 says.state.1 (λ tells. alone c.index_mut.result.now.journal.name (Says g at) _ _ (says.any_moment tells) (says.elsewhere tells) (returns-in_err-review-clause-opened g c tells))
     (unsound g at) still.0 was still.1 still.2 c.in_err-review.ensures.doubtful)
 
 pub returns-clause-granularity : goal.returns-clause-granularity

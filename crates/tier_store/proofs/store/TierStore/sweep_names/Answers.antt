@@ -1,5 +1,5 @@
 use Rattle.std.proofs.Common.{List, refl, subst}
-use Rattle.gate_journal.specs.Standing.{standing}
+use Rattle.gate_journal.specs.DiskShown.{shown_by}
 use Rattle.pv_catalog.proofs.Standing.{keeps_same}
 use Rattle.store_manifest.specs.Entries.{InOrder}
 use Rattle.store_manifest.specs.Manifest.{ManifestState}
@@ -33,7 +33,7 @@ returns-clause-changes g c =
     let retired = c.leave_listed.new.limbo.items in
     let new = c.clear_limbo.new.disk in
     let at = (goal.at.returns-clause-changes g c).After-leave_listed in
-    swept_changes g.D.Disk.tells (seen g.D.Disk c.args.self.now) self.pinned c.args.copied.now self.limbo.items retired c.requires.stands (unlisted g at) (standing g.D.Disk new) (g.D.Disk.faults new) c.clear_limbo.ensures.removes (Done c.clear_limbo.result) c.clear_limbo.ensures.faults (λ failed. absurd failed)
+    swept_changes g.D.Disk.tells (seen g.D.Disk c.args.self.now) self.pinned c.args.copied.now self.limbo.items retired c.requires.stands (unlisted g at) (shown_by g.D.Disk new) (g.D.Disk.faults new) c.clear_limbo.ensures.removes (Done c.clear_limbo.result) c.clear_limbo.ensures.faults (λ failed. absurd failed)
 
 pub returns-clause-swept : goal.returns-clause-swept
 returns-clause-swept g c =
@@ -41,7 +41,7 @@ returns-clause-swept g c =
     let retired = c.leave_listed.new.limbo.items in
     let new = c.clear_limbo.new.disk in
     let at = (goal.at.returns-clause-swept g c).After-leave_listed in
-    swept_files g.D.Disk.tells (seen g.D.Disk c.args.self.now) self.pinned c.args.copied.now self.limbo.items retired c.requires.stands (unlisted g at) (standing g.D.Disk new) (g.D.Disk.faults new) c.clear_limbo.ensures.removes c.clear_limbo.new.limbo.items c.clear_limbo.result.files c.clear_limbo.ensures.needed c.clear_limbo.ensures.count
+    swept_files g.D.Disk.tells (seen g.D.Disk c.args.self.now) self.pinned c.args.copied.now self.limbo.items retired c.requires.stands (unlisted g at) (shown_by g.D.Disk new) (g.D.Disk.faults new) c.clear_limbo.ensures.removes c.clear_limbo.new.limbo.items c.clear_limbo.result.files c.clear_limbo.ensures.needed c.clear_limbo.ensures.count
 
 pub returns-clause-gone : goal.returns-clause-gone
 returns-clause-gone g c told =
@@ -49,7 +49,7 @@ returns-clause-gone g c told =
     let retired = c.leave_listed.new.limbo.items in
     let new = c.clear_limbo.new.disk in
     let at = (goal.at.returns-clause-gone g c).After-leave_listed in
-    on_ok c.clear_limbo.result.removed _ _ (are_gone g.D.Disk.tells (seen g.D.Disk c.args.self.now) self.pinned c.args.copied.now self.limbo.items retired c.requires.stands (unlisted g at) (standing g.D.Disk new) (g.D.Disk.faults new) c.clear_limbo.ensures.removes) (c.clear_limbo.ensures.gone told)
+    on_ok c.clear_limbo.result.removed _ _ (are_gone g.D.Disk.tells (seen g.D.Disk c.args.self.now) self.pinned c.args.copied.now self.limbo.items retired c.requires.stands (unlisted g at) (shown_by g.D.Disk new) (g.D.Disk.faults new) c.clear_limbo.ensures.removes) (c.clear_limbo.ensures.gone told)
 
 pub returns-clause-leaves : goal.returns-clause-leaves
 returns-clause-leaves g c =
@@ -59,7 +59,7 @@ returns-clause-leaves g c =
     let at = (goal.at.returns-clause-leaves g c).After-leave_listed in
     let left = c.clear_limbo.new.limbo.items in
     let held = c.requires.has in
-    swept_leaves g.D.Disk.tells (seen g.D.Disk c.args.self.now) self.pinned c.args.copied.now self.limbo.items retired c.requires.stands (unlisted g at) (standing g.D.Disk new) (g.D.Disk.faults new) c.clear_limbo.ensures.removes held.0 left held.1 (needed_stays self.pinned c.args.copied.now retired left c.clear_limbo.ensures.needed)
+    swept_leaves g.D.Disk.tells (seen g.D.Disk c.args.self.now) self.pinned c.args.copied.now self.limbo.items retired c.requires.stands (unlisted g at) (shown_by g.D.Disk new) (g.D.Disk.faults new) c.clear_limbo.ensures.removes held.0 left held.1 (needed_stays self.pinned c.args.copied.now retired left c.clear_limbo.ensures.needed)
 
 pub returns-clause-stands : goal.returns-clause-stands
 returns-clause-stands g c =
@@ -68,7 +68,7 @@ returns-clause-stands g c =
     let new = c.clear_limbo.new.disk in
     let at = (goal.at.returns-clause-stands g c).After-leave_listed in
     let left = c.clear_limbo.new.limbo.items in
-    still_stands g.D.Disk.tells (seen g.D.Disk c.args.self.now) self.pinned c.args.copied.now self.limbo.items retired c.requires.stands (unlisted g at) (standing g.D.Disk new) (g.D.Disk.faults new) c.clear_limbo.ensures.removes left (none_came self.pinned c.args.copied.now retired left c.clear_limbo.ensures.needed)
+    still_stands g.D.Disk.tells (seen g.D.Disk c.args.self.now) self.pinned c.args.copied.now self.limbo.items retired c.requires.stands (unlisted g at) (shown_by g.D.Disk new) (g.D.Disk.faults new) c.clear_limbo.ensures.removes left (none_came self.pinned c.args.copied.now retired left c.clear_limbo.ensures.needed)
     (stay_differ (λ r. IsNeeded self.pinned c.args.copied.now r.name) (λ r. IsNeeded self.pinned c.args.copied.now r.name → ⊥) retired left c.clear_limbo.ensures.needed
     (stay_differ (λ r. IsListedName (seen g.D.Disk c.args.self.now) r.name → ⊥) (λ r. IsListedName (seen g.D.Disk c.args.self.now) r.name) self.limbo.items retired (unlisted g at) c.requires.stands.1))
 

@@ -1,5 +1,5 @@
 use Rattle.std.proofs.Common.{refl, ap, subst}
-use Rattle.gate_journal.specs.Standing.{standing}
+use Rattle.gate_journal.specs.DiskShown.{shown_by}
 use Rattle.tier_store.specs.Change.{Has}
 use Rattle.tier_store.specs.Seen.{Seen}
 use Rattle.tier_store.proofs.OnePlace.{only_reads}
@@ -18,8 +18,8 @@ returns-clause-kept g c held has =
     let disk = g.D.Disk in
     let told = c.tally_line.ensures in
     subst (λ (s : Seen). Has disk.tells s held)
-    (same_seen (standing disk) disk.faults old.catalogue new.catalogue old.manifests.items new.manifests.items new.disk new.disk told.same.0 (ap (λ m. m.items) told.same.1) refl)
-    (has_read (standing disk) disk.faults disk.tells old.catalogue old.manifests.items old.disk new.disk told.reads held has)
+    (same_seen (shown_by disk) disk.faults old.catalogue new.catalogue old.manifests.items new.manifests.items new.disk new.disk told.same.0 (ap (λ m. m.items) told.same.1) refl)
+    (has_read (shown_by disk) disk.faults disk.tells old.catalogue old.manifests.items old.disk new.disk told.reads held has)
 
 pub returns-clause-reads : goal.returns-clause-reads
 returns-clause-reads g c =

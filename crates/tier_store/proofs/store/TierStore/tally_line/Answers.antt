@@ -2,7 +2,7 @@ use Rattle.std.proofs.Common.{◌≡◌, ◌<◌, ◌++◌, ◌+◌, ℕ, List, 
 use Rattle.std.specs.Prelude.{All}
 use Rattle.std.specs.List.{flat_map}
 use Rattle.disk_model.proofs.Passing.{passes_none}
-use Rattle.gate_journal.specs.Standing.{standing}
+use Rattle.gate_journal.specs.DiskShown.{shown_by}
 use Rattle.pv_catalog.specs.Catalogue.{CatalogueState}
 use Rattle.pv_catalog.proofs.Lines.{line_low}
 use Rattle.series_model.specs.declared.sample.Sample.{Sample}
@@ -66,8 +66,8 @@ loop-id-preserved g c =
           (ends_both 0 (behind old.last) (behind new.last) before own inv.ends (subst (λ (l : List ManifestState). behind new.last ≡ end_of_files (behind old.last) (entries_in row l)) lists says.ends));
       kept = λ held has.
           subst (λ (s : Seen). Has disk.tells s held)
-          (same_seen (standing disk) disk.faults was.catalogue now.catalogue was.manifests.items now.manifests.items now.disk now.disk says.same.0 (ap (λ m. m.items) says.same.1) refl)
-          (has_read (standing disk) disk.faults disk.tells was.catalogue was.manifests.items was.disk now.disk says.reads held (inv.kept held has));
+          (same_seen (shown_by disk) disk.faults was.catalogue now.catalogue was.manifests.items now.manifests.items now.disk now.disk says.same.0 (ap (λ m. m.items) says.same.1) refl)
+          (has_read (shown_by disk) disk.faults disk.tells was.catalogue was.manifests.items was.disk now.disk says.reads held (inv.kept held has));
       same = (says.same.0 ∙ inv.same.0, says.same.1 ∙ inv.same.1, says.same.2 ∙ inv.same.2, says.same.3 ∙ inv.same.3);
       reads = λ told. then_reads _ _ _ (inv.reads told) (says.reads told);
       faults = omega (arith, inv.faults, says.faults);

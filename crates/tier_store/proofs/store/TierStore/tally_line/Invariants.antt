@@ -1,6 +1,6 @@
 use Rattle.std.proofs.Common.{◌≡◌, ◌≤◌, ℕ, List, [], take, IsTrue}
 use Rattle.std.specs.List.{flat_map}
-use Rattle.gate_journal.specs.Standing.{standing, ReadsDisk}
+use Rattle.gate_journal.specs.DiskShown.{shown_by, ReadsDisk}
 use Rattle.store_manifest.specs.declared.entry.Entry.{Entry}
 use Rattle.tier_store.specs.Change.{Has}
 use Rattle.tier_store.specs.Counting.{behind}
@@ -20,6 +20,6 @@ invariant-loop-id g l =
       ends : behind l.tally.last ≡ end_of_files 0 entries;
       kept : (held : Stores) → Has g.D.Disk.tells (seen g.D.Disk l.fn.self) held → Has g.D.Disk.tells (seen g.D.Disk l.self) held;
       same : (l.self.catalogue ≡ l.fn.self.catalogue) × (l.self.manifests ≡ l.fn.self.manifests) × (l.self.pinned ≡ l.fn.self.pinned) × (l.self.limbo ≡ l.fn.self.limbo);
-      reads : IsTrue g.D.Disk.tells → ReadsDisk (standing g.D.Disk l.fn.self.disk) (standing g.D.Disk l.self.disk);
+      reads : IsTrue g.D.Disk.tells → ReadsDisk (shown_by g.D.Disk l.fn.self.disk) (shown_by g.D.Disk l.self.disk);
       faults : g.D.Disk.faults l.fn.self.disk ≤ g.D.Disk.faults l.self.disk;
     }

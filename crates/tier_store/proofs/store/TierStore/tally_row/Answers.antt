@@ -3,7 +3,7 @@ use Rattle.std.specs.Prelude.{All, IfOk, slice_get}
 use Rattle.pv_catalog.specs.declared.row.Row.{Row}
 use Rattle.series_model.specs.Series.{over}
 use Rattle.series_model.specs.declared.sample.Sample.{Sample}
-use Rattle.gate_journal.specs.Standing.{standing}
+use Rattle.gate_journal.specs.DiskShown.{shown_by}
 use Rattle.store_manifest.specs.Manifest.{ManifestState}
 use Rattle.store_manifest.specs.declared.entry.Entry.{Entry}
 use Rattle.durable_write.specs.Held.{Shelf, samples_of}
@@ -49,7 +49,7 @@ pub add_files-requires-clause-there : goal.add_files-requires-clause-there
 add_files-requires-clause-there g c told =
     let self = c.args.self.now in
     let disk = g.D.Disk in
-    let at = seen_on (standing disk) disk.faults self.catalogue self.manifests.items self.disk in
+    let at = seen_on (shown_by disk) disk.faults self.catalogue self.manifests.items self.disk in
     let rows = c.rows-rows.result.now in
     let shelf : Shelf = (3, rows) in
     let entries = c.own_entries-long.ensures ∙ ap (λ (ms : List ManifestState). entries_of c.args.row (slice_get ms 2)) c.deref.ensures.value in
@@ -59,7 +59,7 @@ pub add_files-requires-2-clause-there : goal.add_files-requires-2-clause-there
 add_files-requires-2-clause-there g c told =
     let self = c.args.self.now in
     let disk = g.D.Disk in
-    let at = seen_on (standing disk) disk.faults self.catalogue self.manifests.items self.disk in
+    let at = seen_on (shown_by disk) disk.faults self.catalogue self.manifests.items self.disk in
     let rows = c.rows-rows.result.now in
     let shelf : Shelf = (2, rows) in
     let later = disk.files c.add_files.new.disk in
@@ -70,7 +70,7 @@ pub add_files-requires-3-clause-there : goal.add_files-requires-3-clause-there
 add_files-requires-3-clause-there g c told =
     let self = c.args.self.now in
     let disk = g.D.Disk in
-    let at = seen_on (standing disk) disk.faults self.catalogue self.manifests.items self.disk in
+    let at = seen_on (shown_by disk) disk.faults self.catalogue self.manifests.items self.disk in
     let rows = c.rows-rows.result.now in
     let shelf : Shelf = (1, rows) in
     let later = disk.files c.add_files-2.new.disk in
@@ -83,7 +83,7 @@ returns-clause-tally g c told held samples has stands was =
     let self = c.args.self.now in
     let disk = g.D.Disk in
     let row = c.args.row in
-    let at = seen_on (standing disk) disk.faults self.catalogue self.manifests.items self.disk in
+    let at = seen_on (shown_by disk) disk.faults self.catalogue self.manifests.items self.disk in
     let rows = c.rows-rows.result.now in
     let are_rows = c.rows-rows.ensures.value in
     let seen = g.met.D.Disk.seen self.disk told in

@@ -6,7 +6,7 @@ use Rattle.archive_core.specs.Parts.{parts}
 use Rattle.archive_core.specs.Stands.{Stands}
 use Rattle.archiver_appliance.specs.Serving.{ArchiveStep}
 use Rattle.archiver_appliance.proofs.Services.{gives_nothing, leaves_archive, turns_run_on}
-use Rattle.archiver_appliance.proofs.serving_all.serve_archive.Goals as goal
+use Rattle.archiver_appliance.proofs.service_run.serve_archive.Goals as goal
 
 pub serve_in_rooms-requires-clause-stands : goal.serve_in_rooms-requires-clause-stands
 serve_in_rooms-requires-clause-stands g c κs within =

@@ -3,7 +3,7 @@ use Rattle.std.proofs.lemmas.List.{length-take-le}
 use Rattle.series_model.specs.declared.sample.Sample.{Sample}
 use Rattle.pb_file.specs.Walk.{behind}
 use Rattle.pb_wire.specs.declared.payload.PayloadType.{PayloadType}
-use Rattle.stream_merge.specs.declared.source.Source.{Source}
+use Rattle.stream_merge.specs.declared.source.SampleSource.{SampleSource}
 use Rattle.stream_merge.specs.Pieces.{NamedBytes, Faulted, OutOfActs, OutOfMemory}
 use Rattle.stream_merge.specs.Reading.{IsSampleOf, AreSamplesOf, IsDamaged}
 use Rattle.stream_merge.specs.Source.{open_pieces, IsReady, Pulls}
@@ -12,7 +12,7 @@ use Rattle.stream_merge.proofs.Coming.{proceeds_first, proceeds_at, proceeds_end
 use Rattle.stream_merge.proofs.Went.{goes_nowhere, goes_opened, goes_none, went_open, went_begun, went_tail, failure_of}
 use Rattle.stream_merge.specs.Reads.{HasRead, HasReadOpen, PullsNext}
 use Rattle.stream_merge.proofs.SoFar.{read_ended, read_opened, read_same, reads_first, reads_then, pulls_more, pulls_of_tail, pulls_none}
-use Rattle.stream_merge.proofs.source.Source.pull.Goals as goal
+use Rattle.stream_merge.proofs.source.SampleSource.pull.Goals as goal
 
 pub returns-in_default : goal.returns-in_default
 returns-in_default g c =
@@ -27,16 +27,16 @@ returns-in_default g c =
     let left = P.left c.pieces.pieces in
     record {
       ready = given_ready r (IsReady R.tells R.bytes new.ty new.piece) e.ready (λ is. absurd (c.in_default.not-End is));
-      same = (ap (λ (x : Source g.row.R.Denot). x.ty) e.same ∙ inv.same.0, ap (λ (x : Source g.row.R.Denot). x.tail) e.same ∙ inv.same.1);
+      same = (ap (λ (x : SampleSource g.row.R.Denot). x.ty) e.same ∙ inv.same.0, ap (λ (x : SampleSource g.row.R.Denot). x.tail) e.same ∙ inv.same.1);
       lines = λ tells ps xs is coming placed.
           let n = behind c.args.last in
           let q = c.args.query in
           let room = c.args.steps.now + early_count q.from coming.here in
           let line = c.read_open.new.line.items in
-          let N : Source g.row.R.Denot → Type 0 = λ x. Pulls R.bytes left n q ps xs room x line c.read_open.new.steps r in
+          let N : SampleSource g.row.R.Denot → Type 0 = λ x. Pulls R.bytes left n q ps xs room x line c.read_open.new.steps r in
           subst N (sym e.same) (pulls_open R.bytes left n q ps xs room s new.piece c.pieces.steps c.read_open.new.steps line r (inv.lines tells ps xs is coming placed) (e.lines tells) e.one_step c.in_default.not-End);
       reads = λ tells ps read has.
-          let N : Source g.row.R.Denot → Type 0 = λ x. PullsNext R.bytes P.opened c.args.pieces.now ps c.pieces.pieces (P.count c.pieces.pieces) read x c.read_open.new.line.items r in
+          let N : SampleSource g.row.R.Denot → Type 0 = λ x. PullsNext R.bytes P.opened c.args.pieces.now ps c.pieces.pieces (P.count c.pieces.pieces) read x c.read_open.new.line.items r in
           subst N (sym e.same) (pulls_more R.bytes P.opened c.args.pieces.now c.pieces.pieces ps (P.count c.pieces.pieces) s new.piece read c.read_open.new.line.items r (e.stays tells) e.ends (e.reads tells) c.in_default.not-End (inv.reads tells ps read has));
       event = λ t is. let Q : PayloadType → Type 0 = λ ty. IsSampleOf ty (record { t = t; line = c.read_open.new.line.items }) in subst Q inv.same.0 (e.event t is);
       opens = λ tells ps is. opens_open R.bytes left first s.piece new.piece ps r (e.stays tells) c.in_default.not-End (inv.opens tells ps is);
@@ -69,7 +69,7 @@ pieces-preserved g c =
     let none : new.piece ≡ None = e.closed refl in
     record {
       ready = c.in-Ok.ensures.ready;
-      same = (ap (λ (x : Source g.row.R.Denot). x.ty) e.same ∙ inv.same.0, ap (λ (x : Source g.row.R.Denot). x.tail) e.same ∙ inv.same.1, ap (λ (x : Source g.row.R.Denot). x.at) e.same ∙ inv.same.2);
+      same = (ap (λ (x : SampleSource g.row.R.Denot). x.ty) e.same ∙ inv.same.0, ap (λ (x : SampleSource g.row.R.Denot). x.tail) e.same ∙ inv.same.1, ap (λ (x : SampleSource g.row.R.Denot). x.at) e.same ∙ inv.same.2);
       lines = λ tells ps xs is coming placed.
           let k = behind c.args.last in
           let q = c.args.query in
@@ -82,10 +82,10 @@ pieces-preserved g c =
           let on = inv.reads tells ps read has in
           let k = P.count c.pieces.pieces in
           let gone = record s { piece = new.piece } in
-          let back = ap (λ (x : Source g.row.R.Denot). record x { piece = Some p }) e.same in
+          let back = ap (λ (x : SampleSource g.row.R.Denot). record x { piece = Some p }) e.same in
           let fresh : HasReadOpen R.bytes s.ty (Some p) [] = (
           let Q : PayloadType → Type 0 = λ ty. HasReadOpen R.bytes ty (Some p) [] in
-          subst Q (ap (λ (x : Source g.row.R.Denot). x.ty) e.same) (c.in-Ok.ensures.unread tells)
+          subst Q (ap (λ (x : SampleSource g.row.R.Denot). x.ty) e.same) (c.in-Ok.ensures.unread tells)
           ) in
           reads_then R.bytes P.opened g.met.P.Pieces.opened_on c.args.pieces.now c.pieces.pieces c.open_next.new.self ps (n ∷ []) k (P.count c.open_next.new.self) s (record new { piece = Some p }) read read o.leads on
           (λ h. read_same R.bytes (record gone { piece = Some p }) (record new { piece = Some p }) (P.count c.open_next.new.self) (P.count c.open_next.new.self) ((ps ++ on.more) ++ n ∷ []) read back refl
@@ -118,7 +118,7 @@ returns-in-Err-clause-damaged g c tells ps is name at bad =
     let over = c.in-Piece.ensures.opens tells passed.rest passed.left_is in
     let found = c.open_at.ensures.damaged tells name at (err_is c.open_at.result c.in-Err.merged _ c.in-Err.is bad) in
     let Q : PayloadType → Type 0 = λ ty. IsDamaged ty all name at in
-    subst Q (ap (λ (x : Source g.row.R.Denot). x.ty) e.same ∙ inv.same.0) (damaged_in new.ty all passed.passed (n ∷ []) over.rest name at (passed_all R.bytes (P.left c.pieces.pieces) all new.piece none passed ∙ ap (λ (l : List NamedBytes). passed.passed ++ l) over.first) (damaged_one new.ty n name at found.0 found.1))
+    subst Q (ap (λ (x : SampleSource g.row.R.Denot). x.ty) e.same ∙ inv.same.0) (damaged_in new.ty all passed.passed (n ∷ []) over.rest name at (passed_all R.bytes (P.left c.pieces.pieces) all new.piece none passed ∙ ap (λ (l : List NamedBytes). passed.passed ++ l) over.first) (damaged_one new.ty n name at found.0 found.1))
 
 pub returns-in-Err-clause-failed : goal.returns-in-Err-clause-failed
 returns-in-Err-clause-failed g c failed is =
@@ -140,7 +140,7 @@ returns-in-NoMore-clause-lines g c tells ps xs is coming placed =
     let last = c.read_tail.new.self in
     let none : new.piece ≡ None = e.closed refl in
     let over = c.in-NoMore.ensures.opens tells a.still.pieces a.still.left_is in
-    pulls_tail R.bytes left (P.left c.open_next.new.self) k q ps xs room new last c.read_open.new.steps c.read_tail.new.line.items c.read_tail.result a none (ap (λ (x : Source g.row.R.Denot). x.piece) c.read_tail.ensures.same ∙ none) over.0 over.1 c.read_tail.ensures.line c.read_tail.ensures.end
+    pulls_tail R.bytes left (P.left c.open_next.new.self) k q ps xs room new last c.read_open.new.steps c.read_tail.new.line.items c.read_tail.result a none (ap (λ (x : SampleSource g.row.R.Denot). x.piece) c.read_tail.ensures.same ∙ none) over.0 over.1 c.read_tail.ensures.line c.read_tail.ensures.end
 
 pub returns-in-Err-clause-lines : goal.returns-in-Err-clause-lines
 returns-in-Err-clause-lines g c tells ps xs is coming placed =
@@ -230,7 +230,7 @@ returns-in-NoMore-clause-event g c t is =
     let new = c.read_open.new.self in
     let inv = c.pieces.invariant in
     let same = c.in-End.ensures.same in
-    let tail : new.tail ≡ c.args.self.now.tail = ap (λ (x : Source g.row.R.Denot). x.tail) same ∙ inv.same.1 in
+    let tail : new.tail ≡ c.args.self.now.tail = ap (λ (x : SampleSource g.row.R.Denot). x.tail) same ∙ inv.same.1 in
     let s : Sample = record { t = t; line = c.read_tail.new.line.items } in
     let P : _ → Type 0 = λ x. AreSamplesOf c.args.self.now.ty x.items in
     tail_event c.args.self.now.ty new.at new.tail.items _ s (subst P (sym tail) c.requires.tail) (c.read_tail.ensures.line t is)
@@ -249,7 +249,7 @@ returns-in-NoMore-clause-opens g c tells ps is =
     let passed = passes_end R.bytes (P.left c.pieces.pieces) all c.pieces.self.piece new.piece none (inv.opens tells ps is) in
     let over = c.in-NoMore.ensures.opens tells passed.rest passed.left_is in
     opens_any R.bytes left first last.piece ps c.read_tail.result
-    (passes_none R.bytes left all passed.passed passed.rest last.piece (ap (λ (x : Source g.row.R.Denot). x.piece) c.read_tail.ensures.same ∙ none) (passed_all R.bytes (P.left c.pieces.pieces) all new.piece none passed) over.0 over.1)
+    (passes_none R.bytes left all passed.passed passed.rest last.piece (ap (λ (x : SampleSource g.row.R.Denot). x.piece) c.read_tail.ensures.same ∙ none) (passed_all R.bytes (P.left c.pieces.pieces) all new.piece none passed) over.0 over.1)
 
 pub returns-in-NoMore-clause-no_more : goal.returns-in-NoMore-clause-no_more
 returns-in-NoMore-clause-no_more g c is =
@@ -283,7 +283,7 @@ returns-in-Err-clause-went g c =
     let s = c.pieces.self in
     let new = c.read_open.new.self in
     let n : NamedBytes = record { name = c.in-Piece.name; bytes = take c.in-Piece.len (R.bytes c.in-Piece.reader) } in
-    let ty : new.ty ≡ c.args.self.now.ty = ap (λ (x : Source g.row.R.Denot). x.ty) c.in-End.ensures.same ∙ inv.same.0 in
+    let ty : new.ty ≡ c.args.self.now.ty = ap (λ (x : SampleSource g.row.R.Denot). x.ty) c.in-End.ensures.same ∙ inv.same.0 in
     went_begun R.tells R.bytes P.opened P.failed g.met.P.Pieces.opened_on c.args.self.now.ty c.args.pieces.now c.pieces.pieces c.open_next.new.self c.args.self.now.piece s.piece new.piece n R.faults c.in-Err.merged inv.went c.in-Piece.ensures.leads
     (λ tells name at is.
     let found = c.open_at.ensures.damaged tells name at (err_is c.open_at.result c.in-Err.merged _ c.in-Err.is is) in
@@ -297,7 +297,7 @@ returns-in-NoMore-clause-went g c =
     let P = g.P.Pieces in
     let inv = c.pieces.invariant in
     let last = c.read_tail.new.self in
-    let none : last.piece ≡ None = ap (λ (x : Source g.row.R.Denot). x.piece) c.read_tail.ensures.same ∙ c.in-End.ensures.closed refl in
+    let none : last.piece ≡ None = ap (λ (x : SampleSource g.row.R.Denot). x.piece) c.read_tail.ensures.same ∙ c.in-End.ensures.closed refl in
     went_tail R.tells R.bytes P.opened P.failed g.met.P.Pieces.opened_on c.args.self.now.ty c.args.pieces.now c.open_next.new.self c.args.self.now.piece last.piece c.read_tail.result c.read_tail.ensures.whole
     (goes_none R.tells R.bytes P.opened P.failed g.met.P.Pieces.opened_on c.args.pieces.now c.pieces.pieces c.open_next.new.self c.args.self.now.piece c.pieces.self.piece last.piece inv.went c.in-NoMore.ensures.leads none)
 

@@ -6,7 +6,7 @@ use Rattle.stream_merge.specs.Source.{IsReady, Coming, Passes, GoesOn, open_piec
 use Rattle.stream_merge.specs.Beginning.{early_count, IsPlaced}
 use Rattle.stream_merge.specs.Reads.{HasRead, ReadsOn}
 use Rattle.stream_merge.proofs.Coming.{Proceeds}
-use Rattle.stream_merge.proofs.source.Source.pull.Given as goal
+use Rattle.stream_merge.proofs.source.SampleSource.pull.Given as goal
 
 abbrev pub invariant-pieces : goal.invariant-pieces
 invariant-pieces g l =

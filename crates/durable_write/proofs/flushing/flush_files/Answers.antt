@@ -8,7 +8,7 @@ use Rattle.durable_write.specs.Held.{Shelf, listing_of}
 use Rattle.durable_write.proofs.Written.{leads_behind, leaves_copied, still_copied, ahead_committed, ahead_long, can_relist_over, leaves_ahead}
 use Rattle.durable_write.proofs.Staying.{leaves_none, leaves_on, behind_none, sets_long, still_held, leaves_committed}
 use Rattle.durable_write.proofs.Commits.{all_follow, then_either, beside_none, beside_files, beside_commit}
-use Rattle.durable_write.proofs.flushing.flush_pieces.Goals as goal
+use Rattle.durable_write.proofs.flushing.flush_files.Goals as goal
 
 pub write_all-requires-clause-can : goal.write_all-requires-clause-can
 write_all-requires-clause-can g c tells =
@@ -55,11 +55,11 @@ returns-clause-frame g c tells =
 pub relist-requires-clause-follow : goal.relist-requires-clause-follow
 relist-requires-clause-follow g c =
     subst (λ (cs : List Change). AllCanFollow c.args.manifest.now.granularity c.args.manifest.now.entries cs) (sym (c.deref.ensures.value ∙ c.in_ok-changes.ensures))
-    (all_follow c.args.manifest.now.granularity c.args.pieces.now c.args.manifest.now.entries c.requires.parts)
+    (all_follow c.args.manifest.now.granularity c.args.writes.now c.args.manifest.now.entries c.requires.parts)
 
 pub relist-requires-clause-few : goal.relist-requires-clause-few
 relist-requires-clause-few g c =
-    let long : length (batch_of c.deref.result.now) ≡ length c.args.pieces.now * 49 = ap (λ (cs : List Change). length (batch_of cs)) (c.deref.ensures.value ∙ c.in_ok-changes.ensures) ∙ sets_long c.args.pieces.now in
+    let long : length (batch_of c.deref.result.now) ≡ length c.args.writes.now * 49 = ap (λ (cs : List Change). length (batch_of cs)) (c.deref.ensures.value ∙ c.in_ok-changes.ensures) ∙ sets_long c.args.writes.now in
     omega (arith, long, c.requires.few)
 
 pub relist-requires-clause-can : goal.relist-requires-clause-can
@@ -69,14 +69,14 @@ relist-requires-clause-can g c tells =
       (c.args.store, c.args.rows.now),
       is.1,
       with_files is.1 is.3,
-      can_relist_over is.0 c.args.manifest.now (c.args.store, c.args.rows.now) _ _ is.1 is.2 c.args.pieces.now is.3 c.deref.result.now is.4 is.5 (c.deref.ensures.value ∙ c.in_ok-changes.ensures)
+      can_relist_over is.0 c.args.manifest.now (c.args.store, c.args.rows.now) _ _ is.1 is.2 c.args.writes.now is.3 c.deref.result.now is.4 is.5 (c.deref.ensures.value ∙ c.in_ok-changes.ensures)
           (c.write_all.ensures.any_moment tells c.args.manifest.now.granularity is.2 is.3 is.4.safe is.5) (c.write_all.ensures.still tells c.args.manifest.now.granularity is.2 is.3 is.4.safe is.5) (c.write_all.ensures.elsewhere tells) (c.write_all.ensures.no_more tells) (c.in_ok-write_all.ensures.written tells c.args.manifest.now.granularity is.2 is.3 is.4.safe is.5),
     )
 
 pub returns-in_err-relist-clause-any_moment : goal.returns-in_err-relist-clause-any_moment
 returns-in_err-relist-clause-any_moment g c tells catalogue held ahead fs has makes =
     let behind = c.write_all.ensures.any_moment tells c.args.manifest.now.granularity ahead fs has.safe makes in
-    let can = can_relist_over catalogue c.args.manifest.now (c.args.store, c.args.rows.now) _ _ held ahead c.args.pieces.now fs c.deref.result.now has makes (c.deref.ensures.value ∙ c.in_ok-changes.ensures) behind
+    let can = can_relist_over catalogue c.args.manifest.now (c.args.store, c.args.rows.now) _ _ held ahead c.args.writes.now fs c.deref.result.now has makes (c.deref.ensures.value ∙ c.in_ok-changes.ensures) behind
     (c.write_all.ensures.still tells c.args.manifest.now.granularity ahead fs has.safe makes) (c.write_all.ensures.elsewhere tells) (c.write_all.ensures.no_more tells) (c.in_ok-write_all.ensures.written tells c.args.manifest.now.granularity ahead fs has.safe makes) in
     then_either c.args.manifest.now.granularity held (with_files held fs) (g.D.Disk.past c.args.disk.now) (g.D.Disk.past c.write_all.new.disk) (g.D.Disk.past c.relist.new.disk)
     (still_held catalogue c.args.manifest.now (c.args.store, c.args.rows.now) _ (g.D.Disk.past c.write_all.new.disk) held (with_files held fs) has.stored (leads_behind held ahead _ _ has.leads has.safe.safe behind)) (c.relist.ensures.any_moment tells catalogue (c.args.store, c.args.rows.now) held (with_files held fs) can)
@@ -84,7 +84,7 @@ returns-in_err-relist-clause-any_moment g c tells catalogue held ahead fs has ma
 pub returns-clause-any_moment : goal.returns-clause-any_moment
 returns-clause-any_moment g c tells catalogue held ahead fs has makes =
     let behind = c.write_all.ensures.any_moment tells c.args.manifest.now.granularity ahead fs has.safe makes in
-    let can = can_relist_over catalogue c.args.manifest.now (c.args.store, c.args.rows.now) _ _ held ahead c.args.pieces.now fs c.deref.result.now has makes (c.deref.ensures.value ∙ c.in_ok-changes.ensures) behind
+    let can = can_relist_over catalogue c.args.manifest.now (c.args.store, c.args.rows.now) _ _ held ahead c.args.writes.now fs c.deref.result.now has makes (c.deref.ensures.value ∙ c.in_ok-changes.ensures) behind
     (c.write_all.ensures.still tells c.args.manifest.now.granularity ahead fs has.safe makes) (c.write_all.ensures.elsewhere tells) (c.write_all.ensures.no_more tells) (c.in_ok-write_all.ensures.written tells c.args.manifest.now.granularity ahead fs has.safe makes) in
     then_either c.args.manifest.now.granularity held (with_files held fs) (g.D.Disk.past c.args.disk.now) (g.D.Disk.past c.write_all.new.disk) (g.D.Disk.past c.relist.new.disk)
     (still_held catalogue c.args.manifest.now (c.args.store, c.args.rows.now) _ (g.D.Disk.past c.write_all.new.disk) held (with_files held fs) has.stored (leads_behind held ahead _ _ has.leads has.safe.safe behind)) (c.relist.ensures.any_moment tells catalogue (c.args.store, c.args.rows.now) held (with_files held fs) can)
@@ -92,14 +92,14 @@ returns-clause-any_moment g c tells catalogue held ahead fs has makes =
 pub returns-clause-made : goal.returns-clause-made
 returns-clause-made g c tells catalogue held ahead fs has makes =
     let behind = c.write_all.ensures.any_moment tells c.args.manifest.now.granularity ahead fs has.safe makes in
-    let can = can_relist_over catalogue c.args.manifest.now (c.args.store, c.args.rows.now) _ _ held ahead c.args.pieces.now fs c.deref.result.now has makes (c.deref.ensures.value ∙ c.in_ok-changes.ensures) behind
+    let can = can_relist_over catalogue c.args.manifest.now (c.args.store, c.args.rows.now) _ _ held ahead c.args.writes.now fs c.deref.result.now has makes (c.deref.ensures.value ∙ c.in_ok-changes.ensures) behind
     (c.write_all.ensures.still tells c.args.manifest.now.granularity ahead fs has.safe makes) (c.write_all.ensures.elsewhere tells) (c.write_all.ensures.no_more tells) (c.in_ok-write_all.ensures.written tells c.args.manifest.now.granularity ahead fs has.safe makes) in
     c.in_ok-relist.ensures.made tells catalogue (c.args.store, c.args.rows.now) held (with_files held fs) can
 
 pub returns-in_err-relist-clause-unmade : goal.returns-in_err-relist-clause-unmade
 returns-in_err-relist-clause-unmade g c tells catalogue held ahead fs has makes =
     let behind = c.write_all.ensures.any_moment tells c.args.manifest.now.granularity ahead fs has.safe makes in
-    let can = can_relist_over catalogue c.args.manifest.now (c.args.store, c.args.rows.now) _ _ held ahead c.args.pieces.now fs c.deref.result.now has makes (c.deref.ensures.value ∙ c.in_ok-changes.ensures) behind
+    let can = can_relist_over catalogue c.args.manifest.now (c.args.store, c.args.rows.now) _ _ held ahead c.args.writes.now fs c.deref.result.now has makes (c.deref.ensures.value ∙ c.in_ok-changes.ensures) behind
     (c.write_all.ensures.still tells c.args.manifest.now.granularity ahead fs has.safe makes) (c.write_all.ensures.elsewhere tells) (c.write_all.ensures.no_more tells) (c.in_ok-write_all.ensures.written tells c.args.manifest.now.granularity ahead fs has.safe makes) in
     let p = err_from_is_err_and c.from_residual-in_err-relist.result c.from_residual-in_err-relist.ensures.1 in
     rw p.1 (c.in_err-relist.ensures.unmade tells catalogue (c.args.store, c.args.rows.now) held (with_files held fs) can)
@@ -107,7 +107,7 @@ returns-in_err-relist-clause-unmade g c tells catalogue held ahead fs has makes 
 pub returns-in_err-relist-clause-in_doubt : goal.returns-in_err-relist-clause-in_doubt
 returns-in_err-relist-clause-in_doubt g c tells catalogue held ahead fs has makes =
     let behind = c.write_all.ensures.any_moment tells c.args.manifest.now.granularity ahead fs has.safe makes in
-    let can = can_relist_over catalogue c.args.manifest.now (c.args.store, c.args.rows.now) _ _ held ahead c.args.pieces.now fs c.deref.result.now has makes (c.deref.ensures.value ∙ c.in_ok-changes.ensures) behind
+    let can = can_relist_over catalogue c.args.manifest.now (c.args.store, c.args.rows.now) _ _ held ahead c.args.writes.now fs c.deref.result.now has makes (c.deref.ensures.value ∙ c.in_ok-changes.ensures) behind
     (c.write_all.ensures.still tells c.args.manifest.now.granularity ahead fs has.safe makes) (c.write_all.ensures.elsewhere tells) (c.write_all.ensures.no_more tells) (c.in_ok-write_all.ensures.written tells c.args.manifest.now.granularity ahead fs has.safe makes) in
     let p = err_from_is_err_and c.from_residual-in_err-relist.result c.from_residual-in_err-relist.ensures.1 in
     rw p.1 (c.in_err-relist.ensures.in_doubt tells catalogue (c.args.store, c.args.rows.now) held (with_files held fs) can)

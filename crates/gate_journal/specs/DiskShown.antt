@@ -5,17 +5,17 @@ use Rattle.disk_model.specs.Files.{Name, Files}
 use Rattle.disk_model.specs.Past.{Past, Passes}
 
 -- what reads of a disk give, how far each name was opened, and what crashes leave
-pub record Standing : Type 1 where
+pub record DiskShown : Type 1 where
   pub files : Files
   pub opened : Name → ℕ
   pub past : Past
 
 -- a disk, by the members of its type
-abbrev pub standing : {D R : Type 0} → Ghosts D R → D → Standing
-standing {D} {R} disk d = record { files = disk.files d; opened = disk.opened d; past = disk.past d }
+abbrev pub shown_by : {D R : Type 0} → Ghosts D R → D → DiskShown
+shown_by {D} {R} disk d = record { files = disk.files d; opened = disk.opened d; past = disk.past d }
 
 -- the disk was only read
-pub record ReadsDisk (old new : Standing) : Type 0 where
+pub record ReadsDisk (old new : DiskShown) : Type 0 where
   pub same : new.files ≡ old.files
   pub same_opened : new.opened ≡ old.opened
   pub any_moment : Passes (λ a b. b ≡ a) old.past new.past

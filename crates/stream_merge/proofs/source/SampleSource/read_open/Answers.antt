@@ -7,7 +7,7 @@ use Rattle.pb_file.specs.Skip.{HasSkipped, GoesOnFrom}
 use Rattle.stream_merge.specs.declared.source.OpenPiece.{OpenPiece}
 use Rattle.stream_merge.proofs.Pulling.{begun, goes_on, same_len, begun_on, line_read, closed_line, closed_spent, closed_end, closed_fault, closed_damaged, no_line_left, read_bad, gives_now, reads_open, has_risen, open_damaged}
 use Rattle.stream_merge.proofs.SoFar.{none_open, read_of, one_read, end_is_read, next_none, end_of_open}
-use Rattle.stream_merge.proofs.source.Source.read_open.Goals as goal
+use Rattle.stream_merge.proofs.source.SampleSource.read_open.Goals as goal
 
 pub returns-in-Sample-clause-ready : goal.returns-in-Sample-clause-ready
 returns-in-Sample-clause-ready g c t is =

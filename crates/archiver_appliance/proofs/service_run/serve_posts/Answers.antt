@@ -14,7 +14,7 @@ use Rattle.archiver_appliance.specs.Serving.{IsUnserved, ServesFrom, ServesPosts
 use Rattle.archiver_appliance.proofs.Acting.{nested_in, unopened_back}
 use Rattle.archiver_appliance.proofs.Posts.{serves_nobody, serves_posts}
 use Rattle.archiver_appliance.proofs.Services.{gives_nothing, served_caused, served_counts, served_from, served_unopened, stands_with}
-use Rattle.archiver_appliance.proofs.serving_all.serve_posts.Goals as goal
+use Rattle.archiver_appliance.proofs.service_run.serve_posts.Goals as goal
 
 pub of-requires-clause-nested : goal.of-requires-clause-nested
 of-requires-clause-nested g c = nested_in g.D.Disk c.args.store c.requires.fresh

@@ -12,7 +12,7 @@ use Rattle.archiver_appliance.proofs.Posts.{door_left, posts_left}
 use Rattle.archiver_appliance.proofs.Sessions.{all_given}
 use Rattle.archiver_appliance.proofs.Services.{first_is_last, leaves_room, numbers_left, stands_first}
 use Rattle.archiver_appliance.proofs.Spending.{door_full}
-use Rattle.archiver_appliance.proofs.serving_all.serve_in_rooms.Goals as goal
+use Rattle.archiver_appliance.proofs.service_run.serve_in_rooms.Goals as goal
 
 pub serve_all-told-requires-clause-stands : goal.serve_all-told-requires-clause-stands
 serve_all-told-requires-clause-stands g c κs within =
