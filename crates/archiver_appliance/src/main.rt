@@ -37,6 +37,7 @@ use service::Post;
 use service_watch::{Doors, Log, Ports, ServiceDoor, Stop, Telling, Unbound, tell_plain, watch};
 use std::alloc::{AllocError, Global};
 use std::env::{self, VarError};
+use std::fs::{File, OpenOptions};
 use std::io::ErrorKind;
 use std::net::{Net, TcpListener, TcpStream};
 use std::process::ExitCode;
@@ -44,6 +45,7 @@ use std::sync::{Arc, Wait};
 use std::thread::{Threads, join};
 
 fn main(rt: HostRuntime) -> ExitCode {
+    let _nowhere = (open_nowhere(&rt), open_nowhere(&rt), open_nowhere(&rt));
     let ended = match prepare(&rt, &rt, &rt) {
         Ok((prepared, watched)) => match watched {
             Some(watched) => {
@@ -69,6 +71,20 @@ fn main(rt: HostRuntime) -> ExitCode {
         },
         Err(err) => Err(err),
     };
+    exit_code(&rt, ended)
+}
+
+// A file that is opened has the number of a standard stream that is closed. So three that lead nowhere are opened before
+// all others and held to the end: what is written to a closed stream reaches no file of the archive.
+fn open_nowhere(rt: &HostRuntime) -> Option<File> {
+    let opened = OpenOptions::new()
+        .read(true)
+        .write(true)
+        .open(rt, "/dev/null");
+    opened.ok()
+}
+
+fn exit_code(rt: &HostRuntime, ended: Result<u8, VarError>) -> ExitCode {
     match ended {
         Ok(number) => ExitCode::from(number),
         Err(err) => {
