@@ -26,7 +26,14 @@ def variant(type_name):
 
 
 def blob(data):
-    return f"Blob {{ bytes: {list(data)} }}"
+    return f"Blob {{ bytes: Long({list(data)}) }}"
+
+
+def copied(data):
+    """A copy of bytes: up to 30 stand in the blob itself, with zeros behind them."""
+    if len(data) > 30:
+        return blob(data)
+    return f"Blob {{ bytes: Short({list(data.ljust(30, bytes(1)))}, {len(data)}) }}"
 
 
 def blobs(items):
@@ -61,7 +68,7 @@ def event(type_number, one: Event):
 
 def header(one: Header):
     return (
-        f"PayloadInfo {{ ty: {variant(TYPE_NAMES[one.type])}, name: {blob(one.name)}, year: {one.year},"
+        f"PayloadInfo {{ ty: {variant(TYPE_NAMES[one.type])}, name: {copied(one.name)}, year: {one.year},"
         f" count: {some(one.count)}, headers: {pairs(one.headers)} }}"
     )
 
