@@ -37,7 +37,7 @@ use Rattle.tier_store.proofs.Places.{manifest_of}
 use Rattle.archive_core.specs.Memory.{AreRowsOf, IsCleared}
 use Rattle.archive_core.specs.Strays.{Tidies, ActsTidily}
 use Rattle.archive_core.specs.declared.memory.Doubt.{Doubt}
-use Rattle.archive_core.specs.declared.memory.RowMemory.{RowMemory}
+use Rattle.intake_half.specs.declared.memory.RowMemory.{RowMemory}
 use Rattle.disk_model.specs.declared.disk.DiskErr.{DiskErr}
 use Rattle.durable_write.proofs.Staying.{rose_after}
 use Rattle.act_model.specs.Outcome.{Acts, all_go, refused_at_once, refused, runs as runs_act, faults_first, faults_between, faults_within, wants_memory, wants_memory_settled}

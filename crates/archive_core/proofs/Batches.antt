@@ -15,6 +15,7 @@ use Rattle.tier_store.specs.Strays.{IsKnownName, IsStray, LeavesNoStray, MakesNo
 use Rattle.tier_store.specs.declared.removing.StoreSwept.{StoreSwept}
 use Rattle.tier_store.proofs.Strays.{fronts_strays, no_strays}
 use Rattle.act_model.specs.Reply.{reply_of}
+use Rattle.intake_half.proofs.Telling.{since_start}
 use Rattle.archive_core.specs.Ends.{disk_reply}
 use Rattle.archive_core.specs.Leaving.{ReadsAlone, files_of}
 use Rattle.archive_core.specs.Parts.{Parts}
@@ -52,7 +53,7 @@ use Rattle.act_model.proofs.MadeLaws.{ground}
 use Rattle.act_model.proofs.Puts.{put_rises}
 use Rattle.act_model.proofs.RowLaws.{fit_all, higher_cover}
 use Rattle.archive_core.specs.declared.memory.RowEnd.{RowEnd}
-use Rattle.archive_core.specs.declared.memory.RowMemory.{RowMemory}
+use Rattle.intake_half.specs.declared.memory.RowMemory.{RowMemory}
 use Rattle.archive_core.specs.Flushing.{ListsEnds, GivesUp}
 use Rattle.archive_core.specs.Memory.{AreRowsOf, row_end, row_ends}
 use Rattle.archive_core.specs.Opening.{end_at}
@@ -510,13 +511,6 @@ count_more k old new batch old_there new_there there more =
     omega (arith, was, now, parts, each, both)
 
 -- THE INTAKE GIVES UP A BATCH, PART BY PART
-
--- all samples are from 0 on
-pub since_start : (xs : List Sample) → since 0 xs ≡ xs
-since_start [] = refl
-since_start (x ∷ xs) =
-    let low : nat_le 0 x.t ≡ true = grind (arith, nat_tests) in
-    ap (λ (b : Bool). cond b (x ∷ since 0 xs) (since 0 xs)) low ∙ ap (λ (ys : List Sample). x ∷ ys) (since_start xs)
 
 -- ONE PART
 

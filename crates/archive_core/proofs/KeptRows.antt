@@ -5,22 +5,20 @@ use Rattle.std.proofs.lemmas.Bool.Decides.{nat_tests}
 use Rattle.std.proofs.lemmas.Option.{same_Some, slice_get_within}
 use Rattle.intake.specs.Tails.{TailState, tail_at}
 use Rattle.intake.specs.Tails as tails
-use Rattle.pb_messages.specs.declared.about.Method.{Method}
-use Rattle.pb_messages.specs.declared.about.Method.TheVariants.{Monitor, Scan}
-use Rattle.series_model.specs.Sampling.{first_cell}
 use Rattle.series_model.specs.declared.batch.RowSamples.{RowSamples}
 use Rattle.series_model.specs.declared.sample.Sample.{Sample}
 use Rattle.pv_catalog.specs.declared.row.Row.{Row}
 use Rattle.pv_catalog.specs.Rows.{HasName}
 use Rattle.act_model.specs.Flush.{batch_from, batch_of}
-use Rattle.act_model.specs.Rows.{RowState, size_of, is_empty, period_of}
+use Rattle.act_model.specs.Rows.{RowState, size_of, is_empty}
 use Rattle.act_model.specs.Machine.{Machine, place, find_row, same_bytes, held_bytes}
 use Rattle.act_model.specs.Changes.{each, at}
 use Rattle.act_model.specs.Names.{NamesStep, names_from}
 use Rattle.act_model.specs.declared.acts.Answer.TheVariants.{NamesAre}
 use Rattle.act_model.proofs.Rows.{each_get, length-each}
-use Rattle.archive_core.specs.declared.memory.RowMemory.{RowMemory}
-use Rattle.archive_core.specs.Memory.{IsRowOf, IsRowAt, AreRowsOf, cell_in, period_in, sampling_by}
+use Rattle.intake_half.specs.declared.memory.RowMemory.{RowMemory}
+use Rattle.archive_core.specs.Memory.{IsRowOf, IsRowAt, AreRowsOf}
+use Rattle.intake_half.proofs.Counting.{size_same}
 use Rattle.archive_core.proofs.Lists.{same_or_not, get_set_same, element}
 use Rattle.durable_write.proofs.Staying.{get_set_other}
 use Rattle.act_model.proofs.RowActs.{same_bytes_is, same_bytes-refl}
@@ -39,16 +37,6 @@ memory_there rows kept ts rs are i low =
     let r = element rs i low in
     let is = are.each i r.0 r.1 in
     slice_get_within kept i is.memory is.there
-
--- SAMPLING
-
-pub sampling_period : (d : Method) → period_in (sampling_by d) ≡ period_of d
-sampling_period Monitor = refl
-sampling_period (Scan period) = refl
-
-pub sampling_cell : (d : Method) → first_cell ≡ cell_in (sampling_by d)
-sampling_cell Monitor = refl
-sampling_cell (Scan period) = refl
 
 -- NAMES
 
@@ -102,10 +90,6 @@ find_is m rows kept ts name found are is only = by_place (find_row m name) refl
 
 -- BYTES
 
-pub size_same : (xs : List Sample) → size_of xs ≡ tails.size_of xs
-size_same [] = refl
-size_same (s ∷ xs) = let more = size_same xs in omega (arith, more)
-
 held_of : (rs : List RowState) (ts : List TailState) → ((i : ℕ) (r : RowState) → slice_get rs i ≡ Some r → r.tail ≡ (tail_at ts i).samples) → ((i : ℕ) → length rs ≤ i → (tail_at ts i).samples ≡ []) → held_bytes rs ≡ tails.held_bytes ts
 held_of [] [] same beyond = refl
 held_of [] (t ∷ ts) same beyond =
@@ -119,22 +103,6 @@ held_of (r ∷ rs) [] same beyond =
 held_of (r ∷ rs) (t ∷ ts) same beyond =
     let own : size_of r.tail ≡ tails.size_of t.samples = ap size_of (same 0 r refl) ∙ size_same t.samples in
     let rest = held_of rs ts (λ i q here. same (suc i) q here) (λ i high. beyond (suc i) (omega (arith, high))) in
-    omega (arith, own, rest)
-
--- tails with the same samples have the same bytes
-pub same_held : (a b : List TailState) → ((i : ℕ) → (tail_at a i).samples ≡ (tail_at b i).samples) → tails.held_bytes a ≡ tails.held_bytes b
-same_held [] [] same = refl
-same_held [] (t ∷ ts) same =
-    let none : 0 ≡ tails.size_of t.samples = ap tails.size_of (same 0) in
-    let rest = same_held [] ts (λ i. same (suc i)) in
-    omega (arith, none, rest)
-same_held (t ∷ ts) [] same =
-    let none : tails.size_of t.samples ≡ 0 = ap tails.size_of (same 0) in
-    let rest = same_held ts [] (λ i. same (suc i)) in
-    omega (arith, none, rest)
-same_held (t ∷ ts) (u ∷ us) same =
-    let own : tails.size_of t.samples ≡ tails.size_of u.samples = ap tails.size_of (same 0) in
-    let rest = same_held ts us (λ i. same (suc i)) in
     omega (arith, own, rest)
 
 -- the intake holds as many bytes as the machine's tails have

@@ -6,7 +6,7 @@ use Rattle.std.proofs.lemmas.List.Elements.{Contains-append_right, All-head, All
 use Rattle.pv_catalog.specs.declared.row.Row.{Row}
 use Rattle.durable_write.specs.Plan.{of_row}
 use Rattle.disk_model.specs.Files.{Name}
-use Rattle.std.proofs.lemmas.Option.{same_Some, slice_get-get_or, slice_get-map, slice_get_within}
+use Rattle.std.proofs.lemmas.Option.{same_Some, slice_get-map, slice_get_within}
 use Rattle.std.proofs.lemmas.Bool.Decides.{nat_tests}
 use Rattle.std.proofs.lemmas.List.{length-append, append_cancel_left}
 use Rattle.partition_names.specs.declared.granularity.Granularity.{Granularity}
@@ -52,6 +52,7 @@ use Rattle.act_model.specs.Machine.{MoveState}
 use Rattle.archive_core.specs.Stands.{StoresGrow}
 use Rattle.partition_names.specs.Part.{IsPart}
 use Rattle.etl_mover.specs.Move.{Moving}
+pub use Rattle.intake_half.proofs.Elements.{read_at, set_same}
 
 -- Lists by their places, and with one element set.
 
@@ -74,16 +75,6 @@ pub element : {A : Type 0} (xs : List A) (i : ℕ) → i < length xs → (x : A)
 element {A} [] i low = absurd (omega (arith, low))
 element {A} (x ∷ xs) zero low = (x, refl)
 element {A} (x ∷ xs) (suc i) low = element xs i (omega (arith, low))
-
--- what is read at a place is the element there
-pub read_at : {A : Type 0} (xs : List A) (i : ℕ) (x : A) → x ≡ get_or xs i x → i < length xs → slice_get xs i ≡ Some x
-read_at {A} xs i x is low = slice_get-get_or xs i x low ∙ ap (λ (y : A). Some y) (sym is)
-
--- setting what is there changes nothing
-pub set_same : {A : Type 0} (xs : List A) (i : ℕ) (x : A) → slice_get xs i ≡ Some x → slice_set xs i x ≡ xs
-set_same {A} [] i x here = refl
-set_same {A} (y ∷ xs) zero x here = ap (λ (w : A). w ∷ xs) (sym (same_Some y x here))
-set_same {A} (y ∷ xs) (suc i) x here = ap (λ (l : List A). y ∷ l) (set_same xs i x here)
 
 -- what is read at a place of the same list
 pub read_in : {A : Type 0} (xs ys : List A) (i : ℕ) (x : A) → ys ≡ xs → x ≡ get_or ys i x → i < length xs → slice_get xs i ≡ Some x

@@ -39,12 +39,13 @@ use Rattle.act_model.specs.Changes.{each}
 use Rattle.etl_rules.specs.Config.{ConfigState}
 use Rattle.moves.specs.declared.table.Running.{Running}
 use Rattle.archive_core.specs.MoveTies.{AreMovesOf}
-use Rattle.archive_core.specs.declared.memory.RowMemory.{RowMemory}
+use Rattle.intake_half.specs.declared.memory.RowMemory.{RowMemory}
 use Rattle.archive_core.specs.LimboTies.{AreBare}
 use Rattle.archive_core.specs.Memory.{AreRowsOf, IsRowOf}
 use Rattle.archive_core.specs.Pins.{ArePinsOf}
 use Rattle.intake.specs.Tails.{TailState, tail_at}
-use Rattle.archive_core.proofs.KeptRows.{sampling_cell, sampling_period, row_at}
+use Rattle.archive_core.proofs.KeptRows.{row_at}
+use Rattle.intake_half.proofs.Sampled.{sampling_cell, sampling_period}
 use Rattle.archive_core.proofs.LimboTying.{empty_limbo}
 use Rattle.archive_core.proofs.Lists.{element, get_front, get_last}
 use Rattle.archive_core.proofs.MoveChoice.{place_end, place_rises}

@@ -76,7 +76,7 @@ use Rattle.act_model.specs.Crash.{settled_there, with_change}
 use Rattle.act_model.specs.Limbo.{RowFile}
 use Rattle.act_model.specs.Sweep.{IsPinned}
 use Rattle.archive_core.specs.Ends.{LeavesByAct, LeavesWithin, SettlesTo, StandsStill}
-use Rattle.archive_core.specs.declared.memory.RowMemory.{RowMemory}
+use Rattle.intake_half.specs.declared.memory.RowMemory.{RowMemory}
 use Rattle.archive_core.specs.Wanting.{NoneRefuses, WithWants, before_settling, behind_settling}
 use Rattle.archive_core.specs.Acting.{Acted, Settling}
 use Rattle.tier_store.specs.Limbo.{IsKeptName}

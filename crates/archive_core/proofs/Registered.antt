@@ -20,9 +20,10 @@ use Rattle.act_model.specs.Register.{register_refused, Registers}
 use Rattle.act_model.specs.Rows.{RowState, is_empty, is_paused, durable as durable_of}
 use Rattle.act_model.proofs.RowActs.{register_may, same_bytes_is, same_bytes-refl}
 use Rattle.act_model.proofs.StepLaws.{with_doubt}
-use Rattle.archive_core.specs.declared.memory.RowMemory.{RowMemory}
+use Rattle.intake_half.specs.declared.memory.RowMemory.{RowMemory}
 use Rattle.archive_core.specs.Ends.{register_reply, disk_reply}
-use Rattle.archive_core.specs.Memory.{IsCleared, AreRowsOf, fresh_memory, IsRowOf, cleared, renamed_memory}
+use Rattle.archive_core.specs.Memory.{IsCleared, AreRowsOf, IsRowOf}
+use Rattle.intake_half.specs.Memory.{fresh_memory, cleared, renamed_memory}
 use Rattle.archive_core.proofs.Acting.{Makes, IsAct, Went, acted}
 use Rattle.archive_core.proofs.KeptRows.{row_at, Placed, placed, place_some, place_none, memory_there}
 use Rattle.archive_core.proofs.Settled.{rests_has, open_known}

@@ -43,7 +43,7 @@ use Rattle.series_model.specs.declared.sample.Sample.{Sample}
 use Rattle.intake.specs.Tails.{TailState}
 use Rattle.pb_messages.specs.declared.about.About.{About}
 use Rattle.act_model.proofs.Rows.{Came, from_row, is_new, came, more_rows, same_store_is, each_forward}
-use Rattle.archive_core.specs.declared.memory.RowMemory.{RowMemory}
+use Rattle.intake_half.specs.declared.memory.RowMemory.{RowMemory}
 use Rattle.archive_core.specs.Memory.{AreRowsOf}
 use Rattle.std.proofs.lemmas.Bool.Decides.{nat_tests}
 use Rattle.pb_messages.specs.declared.about.State.{State}

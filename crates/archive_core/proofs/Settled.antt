@@ -15,7 +15,8 @@ use Rattle.archive_core.proofs.Lists.{same_grow, grow_fewer, rows_go_on, same_or
 use Rattle.archive_core.proofs.LimboTying.{KeepsNames, names_stay, names_made, state_name, pins_stay, KeepsFiles, limbo_beside, limbo_changed, limbo_held}
 use Rattle.act_model.specs.Sound.{IsSound, MayMake}
 use Rattle.archive_core.specs.LimboTies.{IsLimboOf}
-use Rattle.archive_core.specs.Memory.{AreRowsOf, IsRowAt, cell_in, period_in, fresh_memory, renamed_memory, cleared, set_by, row_ends, IsCleared}
+use Rattle.archive_core.specs.Memory.{AreRowsOf, IsRowAt, set_by, row_ends, IsCleared}
+use Rattle.intake_half.specs.Memory.{cell_in, period_in, fresh_memory, renamed_memory, cleared}
 use Rattle.archive_core.specs.Parts.{Parts}
 use Rattle.archive_core.specs.Pins.{ArePinsOf}
 use Rattle.tier_store.specs.Frame.{Frame}
@@ -51,10 +52,10 @@ use Rattle.act_model.specs.Limbo.{RowFile}
 use Rattle.act_model.proofs.Rows.{Came, from_row, is_new, came, each_forward, more_rows}
 use Rattle.act_model.proofs.StepLaws.{settled_sound, settled_none}
 use Rattle.archive_core.specs.declared.memory.RowEnd.{RowEnd}
-use Rattle.archive_core.specs.declared.memory.RowMemory.{RowMemory}
+use Rattle.intake_half.specs.declared.memory.RowMemory.{RowMemory}
 use Rattle.archive_core.specs.declared.memory.Doubt.{Doubt}
 use Rattle.archive_core.proofs.Batches.{ListsBatch, none_beyond, lists_or_not, holds_with, holds_without, told_stands}
-use Rattle.archive_core.proofs.KeptRows.{sampling_period, sampling_cell}
+use Rattle.intake_half.proofs.Sampled.{sampling_period, sampling_cell}
 use Rattle.archive_core.proofs.Windows.{kept_to, taken_later, index_low}
 use Rattle.archive_core.proofs.RetiredLimbo.{IsEarly, listed_same, same_made, moves_settled, row_came, unlisted_there, names_unlisted}
 use Rattle.archive_core.proofs.MovesKept.{reach_ends, source_ends, SameLater, leaves_ahead, moves_stay, same_later, same_put, reach, source_on}

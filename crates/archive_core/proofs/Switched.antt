@@ -19,12 +19,13 @@ use Rattle.act_model.specs.Sound.{IsLive}
 use Rattle.act_model.proofs.StepLaws.{with_doubt}
 use Rattle.archive_core.specs.declared.memory.Doubt.{Doubt}
 use Rattle.archive_core.specs.declared.memory.Doubt.TheVariants as kind
-use Rattle.archive_core.specs.declared.memory.RowMemory.{RowMemory}
+use Rattle.intake_half.specs.declared.memory.RowMemory.{RowMemory}
 use Rattle.archive_core.specs.declared.switching.Switch.{Switch}
 use Rattle.archive_core.specs.declared.switching.Switch.TheVariants.{Pause, Resume}
 use Rattle.archive_core.specs.declared.switching.Unset.{Unset}
 use Rattle.archive_core.specs.declared.switching.Unset.TheVariants as unset
-use Rattle.archive_core.specs.Memory.{IsCleared, cleared, set_by}
+use Rattle.archive_core.specs.Memory.{IsCleared, set_by}
+use Rattle.intake_half.specs.Memory.{cleared}
 use Rattle.archive_core.specs.Parts.{Parts}
 use Rattle.archive_core.specs.Stands.{Stands, Rests}
 use Rattle.archive_core.specs.Wanting.{NoneRefuses, Wants}

@@ -5,7 +5,6 @@ pub mod Stands
 pub mod Ends
 pub mod Wanting
 pub mod Leaving
-pub mod Trying
 pub mod Switching
 pub mod Renaming
 pub mod Opening

@@ -2,15 +2,10 @@
 -- samples, what a sampled row holds, and the tail that the intake holds; and of a batch that is flushed where its rows end.
 use Rattle.std.specs.Prelude.{◌≡◌, ◌≤◌, ◌-◌, ◌++◌, ◌∷◌, ℕ, List, [], length, map, take, Option, Some, None, Result, Ok, Err, option_map, slice_get, slice_set}
 use Rattle.pb_messages.specs.declared.about.About.{About}
-use Rattle.pb_messages.specs.declared.about.Method.{Method}
-use Rattle.pb_messages.specs.declared.about.Method.TheVariants.{Monitor, Scan}
 use Rattle.pv_catalog.specs.Catalogue.{HasState}
 use Rattle.pv_catalog.specs.declared.row.Row.{Row}
-use Rattle.series_model.specs.Sampling.{Cell, first_cell}
 use Rattle.series_model.specs.declared.batch.RowSamples.{RowSamples}
 use Rattle.series_model.specs.declared.sample.Sample.{Sample}
-use Rattle.intake.specs.Row.{SampledRow, fresh, after}
-use Rattle.series_model.specs.declared.sampling.ScanEvent.TheVariants.{Cleared}
 use Rattle.pb_messages.specs.declared.about.State.{State}
 use Rattle.pb_messages.specs.declared.about.State.TheVariants.{Retired}
 use Rattle.intake.specs.Tails.{TailState, tail_at}
@@ -18,32 +13,10 @@ use Rattle.act_model.specs.Rows.{RowState, period_of}
 use Rattle.archive_core.specs.declared.memory.Doubt.{Doubt}
 use Rattle.archive_core.specs.declared.memory.Doubt.TheVariants as doubt
 use Rattle.archive_core.specs.declared.memory.RowEnd.{RowEnd}
-use Rattle.archive_core.specs.declared.memory.RowMemory.{RowMemory}
+use Rattle.intake_half.specs.Memory.{cell_in, period_in, renamed_memory, cleared}
+use Rattle.intake_half.specs.declared.memory.RowMemory.{RowMemory}
 use Rattle.archive_core.specs.Parts.{InMemory}
 use Rattle.disk_model.specs.declared.disk.DiskErr.{DiskErr}
-
--- what is held of a row for its next tick: nothing where it isn't sampled
-abbrev pub cell_in : Option SampledRow → Cell
-cell_in None = first_cell
-cell_in (Some sampled) = sampled.cell
-
--- the period of a row that is sampled
-abbrev pub period_in : Option SampledRow → Option ℕ
-period_in None = None
-period_in (Some sampled) = Some sampled.period
-
--- what is kept of the sampling of a row that was just registered
-abbrev pub sampling_by : Method → Option SampledRow
-sampling_by Monitor = None
-sampling_by (Scan period) = Some (fresh period)
-
--- what is kept of a row that was just registered
-abbrev pub fresh_memory : About → RowMemory
-fresh_memory about = record { next = 0; scan = sampling_by about.method }
-
--- what is kept of a row under a new name: it takes samples from the moment on from which the old one took them
-abbrev pub renamed_memory : About → ℕ → RowMemory
-renamed_memory about next = record { next = next; scan = sampling_by about.method }
 
 -- A row of the catalogue, what is kept of it, and its tail, which is the one of this number, are those of a row of the machine.
 pub record IsRowOf (tails : List TailState) (i : ℕ) (row : Row) (kept : RowMemory) (r : RowState) : Type 0 where
@@ -69,14 +42,6 @@ pub record AreRowsOf (rows : List Row) (kept : List RowMemory) (tails : List Tai
   pub count : length rs ≡ length rows
   pub each : (i : ℕ) (r : RowState) → slice_get rs i ≡ Some r → IsRowAt rows kept tails i r
   pub beyond : (i : ℕ) → length rs ≤ i → (tail_at tails i).samples ≡ []
-
--- what is kept of a row whose state is set: nothing is held, and a tick is due at once
-abbrev pub cleared : RowMemory → RowMemory
-cleared memory = record memory { scan = clear memory.scan }
-  where
-    clear : Option SampledRow → Option SampledRow
-    clear None = None
-    clear (Some sampled) = Some (after sampled Cleared)
 
 -- what is kept of a part of a batch that is flushed: its row, and its last moment
 abbrev pub row_end : RowSamples → RowEnd

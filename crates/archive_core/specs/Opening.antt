@@ -11,8 +11,8 @@ use Rattle.act_model.specs.Crash.{kept}
 use Rattle.act_model.specs.Machine.{Machine}
 use Rattle.act_model.specs.NextLife.{opened}
 use Rattle.act_model.specs.Rule.{Rule}
-use Rattle.archive_core.specs.declared.memory.RowMemory.{RowMemory}
-use Rattle.archive_core.specs.Memory.{sampling_by}
+use Rattle.intake_half.specs.declared.memory.RowMemory.{RowMemory}
+use Rattle.intake_half.specs.Memory.{sampling_by}
 use Rattle.archive_core.specs.Parts.{Parts}
 use Rattle.archive_core.specs.Stands.{Rests, TellsHeaders, HoldsDurable}
 

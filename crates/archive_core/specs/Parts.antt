@@ -11,7 +11,7 @@ use Rattle.etl_mover.specs.Move.{Moving}
 use Rattle.moves.specs.declared.table.Running.{Running}
 use Rattle.tier_store.specs.Seen.{Seen, seen}
 use Rattle.tier_store.specs.declared.limbo.Retired.{Retired}
-use Rattle.archive_core.specs.declared.memory.RowMemory.{RowMemory}
+use Rattle.intake_half.specs.declared.memory.RowMemory.{RowMemory}
 use Rattle.archive_core.specs.declared.memory.Doubt.{Doubt}
 use Rattle.archive_core.specs.declared.archive.Archive.{Archive}
 use Rattle.archive_core.specs.declared.archive.StoreHalf.{StoreHalf}

@@ -31,12 +31,13 @@ use Rattle.act_model.specs.Changes.{made}
 use Rattle.act_model.specs.Crash.{DurableRow, kept}
 use Rattle.act_model.specs.Rule.{Rule}
 use Rattle.act_model.specs.Sound.{IsSound}
-use Rattle.archive_core.specs.declared.memory.RowMemory.{RowMemory}
+use Rattle.intake_half.specs.declared.memory.RowMemory.{RowMemory}
 use Rattle.archive_core.specs.declared.memory.Doubt.{Doubt}
 use Rattle.archive_core.specs.declared.memory.Doubt.TheVariants as doubt
 use Rattle.archive_core.specs.Growing.{FilesGoOn, HasRunning}
 use Rattle.archive_core.specs.LimboTies.{IsLimboOf}
-use Rattle.archive_core.specs.Memory.{AreRowsOf, fresh_memory, renamed_memory, row_ends}
+use Rattle.archive_core.specs.Memory.{AreRowsOf, row_ends}
+use Rattle.intake_half.specs.Memory.{fresh_memory, renamed_memory}
 use Rattle.archive_core.specs.MoveTies.{AreMovesOf}
 use Rattle.archive_core.specs.Parts.{Parts}
 use Rattle.archive_core.specs.Pins.{ArePinsOf}

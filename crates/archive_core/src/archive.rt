@@ -1,9 +1,10 @@
 // The archive and what it is made of.
-use crate::memory::{Doubt, RowMemory};
+use crate::memory::Doubt;
 use disk_model::Disk;
 use etl_mover::Move;
 use etl_rules::Config;
 use intake::Intake;
+use intake_half::RowMemory;
 use moves::RunningMoves;
 use std::alloc::Global;
 use tier_store::TierStore;

@@ -48,7 +48,7 @@ ghost use Rattle.act_model.specs.Rule.{Rule, index_of};
 ghost use Rattle.act_model.specs.Sound.{IsSound};
 ghost use Rattle.act_model.specs.Whole.{AllFollow};
 ghost use Rattle.archive_core.specs.declared.memory.Doubt.{Doubt};
-ghost use Rattle.archive_core.specs.declared.memory.RowMemory.{RowMemory};
+ghost use Rattle.intake_half.specs.declared.memory.RowMemory.{RowMemory};
 ghost use Rattle.archive_core.specs.Ends.{LeavesBetween};
 ghost use Rattle.archive_core.specs.declared.archive.Archive.{Archive};
 ghost use Rattle.archive_core.specs.Leaving.{Leaves};

@@ -38,7 +38,6 @@ mod stepping;
 mod sweeping;
 mod switching;
 mod telling;
-mod trying;
 mod written;
 
 pub use archive::Archive;

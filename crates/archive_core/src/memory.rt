@@ -1,15 +1,5 @@
-// What is kept in memory of each row, and of a change that stands in doubt.
-use intake::Scan;
+// What is kept in memory of a batch that is flushed, and of a change that stands in doubt.
 use pb_messages::State;
-
-/// What is kept of a row beside the catalogue and its tail.
-#[derive(Debug, Drop)]
-pub struct RowMemory {
-    /// The first moment that is later than all its accepted samples.
-    pub next: u64,
-    /// What it holds for its next tick, if it is sampled.
-    pub scan: Option<Scan>,
-}
 
 /// A row of a batch that was flushed.
 #[derive(Clone, Copy, Drop)]

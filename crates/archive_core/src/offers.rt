@@ -14,9 +14,9 @@ ghost use Rattle.archive_core.specs.Wanting.{WithWants, WouldKeep};
 
 use crate::Archive;
 use crate::answering::{offered, ticked};
-use crate::trying::{offer_row, reason_by_row, runs, tick_row};
 use act_model::{Answer, Offered};
 use disk_model::Disk;
+use intake_half::{offer_row, reason_by_row, runs, tick_row};
 use pb_messages::PayloadType;
 use series_model::{Reason, Sample};
 
@@ -33,7 +33,7 @@ impl<D: Disk> Archive<D> {
     {
         let at = row as usize;
         let variable = &self.half.store.catalogue().rows()[at];
-        match reason_by_row(variable, self.rows[at].next, ty) {
+        match reason_by_row(variable.state, variable.about.ty, self.rows[at].next, ty) {
             Some(reason) => Offered::Dropped(reason),
             None => offer_row(&mut self.intake, &mut self.rows[at], row, sample, now),
         }
@@ -74,7 +74,7 @@ impl<D: Disk> Archive<D> {
         let Some(variable) = self.half.store.catalogue().row(row) else {
             return Answer::NoRow;
         };
-        let is_running = runs(variable);
+        let is_running = runs(variable.state);
         ticked(tick_row(
             &mut self.intake,
             &mut self.rows[row as usize],

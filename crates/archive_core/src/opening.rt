@@ -7,16 +7,14 @@ ghost use Rattle.tier_store.specs.Beginning.{AllNested};
 ghost use Rattle.tier_store.specs.Seen.{seen, granularities};
 ghost use Rattle.tier_store.specs.Stores.{Stores};
 ghost use Rattle.archive_core.specs.Opening.{listed_end, end_at, next_in, memory_of, memories, OpensAs};
-ghost use Rattle.archive_core.specs.Memory.{sampling_by};
 ghost use Rattle.archive_core.specs.Parts.{parts};
 
 use crate::Archive;
 use crate::archive::StoreHalf;
-use crate::memory::RowMemory;
 use disk_model::Disk;
-use intake::{Intake, Scan};
+use intake::Intake;
+use intake_half::{RowMemory, sampling};
 use moves::RunningMoves;
-use pb_messages::Method;
 use pv_catalog::Row;
 use std::alloc::{AllocError, Global};
 use store_manifest::Entry;
@@ -39,16 +37,6 @@ pub(crate) fn end_in<D: Disk>(store: &TierStore<D>, number: u8, row: u32) -> u64
     ensures { (place : ℕ) → number ≡ place + 1 → result ≡ end_at store.now.manifests.items place row }
 {
     end_of(store.manifest(number).entries(row))
-}
-
-// What is kept of the sampling of a row that was just registered, or opened again.
-pub(crate) fn sampling(method: &Method) -> Option<Scan>
-    ensures { result ≡ sampling_by method.now }
-{
-    match method {
-        Method::Monitor => None,
-        Method::Scan { period } => Some(Scan::new(*period)),
-    }
 }
 
 // From which moment on the base of a row takes samples, 0 where it has none.

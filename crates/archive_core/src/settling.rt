@@ -6,15 +6,16 @@ ghost use Rattle.tier_store.specs.Seen.{seen, IsSettled};
 ghost use Rattle.act_model.specs.Machine.{Machine};
 ghost use Rattle.archive_core.specs.Acting.{Settling, TakesIn};
 ghost use Rattle.archive_core.specs.Ends.{SettlesTo, StandsStill};
-ghost use Rattle.archive_core.specs.Memory.{cleared, set_by, IsCleared};
+ghost use Rattle.archive_core.specs.Memory.{set_by, IsCleared};
 ghost use Rattle.archive_core.specs.Parts.{InMemory, parts, parts_beside};
 ghost use Rattle.archive_core.specs.Stands.{Stands};
 
 use crate::Archive;
 use crate::archive::StoreHalf;
 use crate::flushing::trim_flushed;
-use crate::memory::{Doubt, RowMemory};
+use crate::memory::Doubt;
 use disk_model::{Disk, DiskErr};
+use intake_half::{RowMemory, clear};
 use pb_messages::State;
 use pv_catalog::Row;
 
@@ -25,15 +26,6 @@ pub(crate) fn has_state(rows: &[Row], row: u32, to: State) -> bool
     match rows.get(row as usize) {
         Some(found) => found.state == to,
         None => false,
-    }
-}
-
-// Gives up what a sampled row holds.
-pub(crate) fn clear(memory: &mut RowMemory)
-    ensures { memory.new ≡ cleared memory.old }
-{
-    if let Some(scan) = &mut memory.scan {
-        scan.clear();
     }
 }
 

@@ -22,9 +22,10 @@ ghost use Rattle.archive_core.specs.declared.switching.Unset.TheVariants.{Disk a
 use crate::Archive;
 use crate::archive::StoreHalf;
 use crate::memory::Doubt;
-use crate::settling::{clear, has_state};
+use crate::settling::has_state;
 use act_model::Answer;
 use disk_model::{Disk, DiskErr, ReadAt};
+use intake_half::clear;
 use pb_messages::State;
 use pv_catalog::{Catalogue, StateErr};
 use tier_store::TierStore;

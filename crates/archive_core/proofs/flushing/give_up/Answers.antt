@@ -2,7 +2,8 @@ use Rattle.std.proofs.Common.{◌≡◌, length, None, sym, ap, ◌∙◌, arith
 use Rattle.std.proofs.lemmas.List.{length-map}
 use Rattle.archive_core.specs.declared.memory.RowEnd.{RowEnd}
 use Rattle.archive_core.specs.Memory.{row_end}
-use Rattle.archive_core.proofs.Batches.{since_start, next_part, gives_more, gives_all}
+use Rattle.intake_half.proofs.Telling.{since_start}
+use Rattle.archive_core.proofs.Batches.{next_part, gives_more, gives_all}
 use Rattle.archive_core.proofs.flushing.give_up.Goals as goal
 
 pub loop-end-init : goal.loop-end-init

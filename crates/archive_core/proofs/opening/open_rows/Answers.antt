@@ -2,7 +2,7 @@ use Rattle.std.proofs.Common.{◌≡◌, ◌+◌, List, [], ◌∷◌, ◌++◌,
 use Rattle.std.proofs.lemmas.List.{take_more}
 use Rattle.pv_catalog.specs.declared.row.Row.{Row}
 use Rattle.archive_core.specs.Opening.{memories, memory_of}
-use Rattle.archive_core.specs.declared.memory.RowMemory.{RowMemory}
+use Rattle.intake_half.specs.declared.memory.RowMemory.{RowMemory}
 use Rattle.archive_core.proofs.Opened.{memories_push}
 use Rattle.archive_core.proofs.opening.open_rows.Goals as goal
 

@@ -8,9 +8,9 @@ use Rattle.act_model.specs.Machine.{AddsRow}
 use Rattle.archive_core.specs.Acting.{Changed}
 use Rattle.archive_core.specs.Ends.{ChangesTo}
 use Rattle.archive_core.specs.Leaving.{files_of}
-use Rattle.archive_core.specs.Memory.{renamed_memory}
+use Rattle.intake_half.specs.Memory.{renamed_memory}
 use Rattle.archive_core.specs.Parts.{InMemory, memory_in, parts, parts_beside}
-use Rattle.archive_core.specs.declared.memory.RowMemory.{RowMemory}
+use Rattle.intake_half.specs.declared.memory.RowMemory.{RowMemory}
 use Rattle.archive_core.proofs.Acting.{not_called}
 use Rattle.archive_core.proofs.Registered.{rows_cut_short}
 use Rattle.archive_core.proofs.archive.Archive.add_row.Goals as goal

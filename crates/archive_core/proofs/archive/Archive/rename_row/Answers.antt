@@ -10,9 +10,10 @@ use Rattle.act_model.specs.Machine.{Renames}
 use Rattle.archive_core.specs.Acting.{Changed}
 use Rattle.archive_core.specs.Ends.{ChangesTo}
 use Rattle.archive_core.specs.Leaving.{files_of}
-use Rattle.archive_core.specs.Memory.{ClearsRow, RenamesRow, cleared, renamed_memory, with_row}
+use Rattle.archive_core.specs.Memory.{ClearsRow, RenamesRow, with_row}
+use Rattle.intake_half.specs.Memory.{cleared, renamed_memory}
 use Rattle.archive_core.specs.Parts.{InMemory, memory_in, parts, parts_beside}
-use Rattle.archive_core.specs.declared.memory.RowMemory.{RowMemory}
+use Rattle.intake_half.specs.declared.memory.RowMemory.{RowMemory}
 use Rattle.archive_core.proofs.Acting.{not_called}
 use Rattle.archive_core.proofs.Lists.{read_at, read_in}
 use Rattle.archive_core.proofs.Registered.{rows_cut_short, can_kept, can_low, old_kept}

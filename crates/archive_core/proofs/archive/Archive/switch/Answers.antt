@@ -5,10 +5,11 @@ use Rattle.std.proofs.lemmas.Result.{err_from_is_err_and}
 use Rattle.disk_model.specs.declared.disk.DiskErr.{DiskErr}
 use Rattle.act_model.specs.Machine.{SetsState}
 use Rattle.archive_core.specs.Acting.{Changed}
-use Rattle.archive_core.specs.Memory.{ClearsRow, cleared}
+use Rattle.archive_core.specs.Memory.{ClearsRow}
+use Rattle.intake_half.specs.Memory.{cleared}
 use Rattle.archive_core.specs.Parts.{InMemory, memory_in, parts, parts_beside}
 use Rattle.archive_core.specs.Switching.{to_of}
-use Rattle.archive_core.specs.declared.memory.RowMemory.{RowMemory}
+use Rattle.intake_half.specs.declared.memory.RowMemory.{RowMemory}
 use Rattle.archive_core.proofs.KeptRows.{memory_there}
 use Rattle.archive_core.proofs.Lists.{read_at}
 use Rattle.archive_core.proofs.archive.Archive.switch.Goals.{After-switch}

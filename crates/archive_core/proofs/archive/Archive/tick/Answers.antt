@@ -9,7 +9,8 @@ use Rattle.archive_core.proofs.Acting.{acted_alone, answered_as}
 use Rattle.archive_core.proofs.Opened.{reads_none}
 use Rattle.archive_core.proofs.KeptRows.{no_row, memory_there, row_with}
 use Rattle.archive_core.proofs.Lists.{read_at}
-use Rattle.archive_core.proofs.Standing.{tick_no_row, tick_by, held_time}
+use Rattle.archive_core.proofs.Standing.{tick_no_row, tick_stands, held_time}
+use Rattle.intake_half.proofs.Ending.{tick_case}
 use Rattle.archive_core.proofs.archive.Archive.tick.Goals as goal
 
 pub returns-in_default-clause-acted : goal.returns-in_default-clause-acted
@@ -49,5 +50,6 @@ returns-clause-acted g c who =
     let low = memory_there c.args.self.now.half.store.catalogue.rows _ _ m.rows s.rows c.args.row (slice_get_within c.args.self.now.half.store.catalogue.rows c.args.row c.in-Some.variable.now here) in
     let there = read_at c.args.self.now.rows.items c.args.row c.index_mut.result.now c.index_mut.ensures.value low in
     let at = row_with c.args.self.now.half.store.catalogue.rows _ _ m.rows s.rows c.args.row c.in-Some.variable.now c.index_mut.result.now here there in
-    tick_by g.D.Disk.tells p m s c.args.row c.args.now c.in-Some.variable.now c.index_mut.result.now at.0 here at.1 at.2 there c.runs-is_running.result c.runs-is_running.ensures c.tick_row.result c.tick_row.new.intake c.tick_row.new.memory c.tick_row.ensures.none c.tick_row.ensures.early c.tick_row.ensures.due)
+    tick_stands g.D.Disk.tells p m s c.args.row c.in-Some.variable.now c.index_mut.result.now at.0 here at.1 at.2 there c.args.now c.runs-is_running.result c.runs-is_running.ensures c.tick_row.result c.tick_row.new.intake c.tick_row.new.memory
+    (tick_case p.tails c.tick_row.new.intake c.index_mut.result.now c.tick_row.new.memory c.runs-is_running.result c.args.row c.args.now c.tick_row.result c.tick_row.ensures.none c.tick_row.ensures.early c.tick_row.ensures.due))
     (reads_none g.D.Disk.tells p q refl) tt tt)

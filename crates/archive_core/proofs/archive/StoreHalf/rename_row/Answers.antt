@@ -12,12 +12,13 @@ use Rattle.tier_store.specs.Seen.{seen}
 use Rattle.act_model.specs.Machine.{Machine, Renames}
 use Rattle.archive_core.specs.Ends.{ChangesTo}
 use Rattle.archive_core.specs.Leaving.{files_of}
-use Rattle.archive_core.specs.Memory.{cleared, with_row}
+use Rattle.archive_core.specs.Memory.{with_row}
+use Rattle.intake_half.specs.Memory.{cleared}
 use Rattle.archive_core.specs.Parts.{InMemory, Parts, parts_beside}
 use Rattle.archive_core.specs.Renaming.{CanRename}
 use Rattle.archive_core.specs.Stands.{Rests}
 use Rattle.archive_core.specs.declared.memory.Doubt.TheVariants as kind
-use Rattle.archive_core.specs.declared.memory.RowMemory.{RowMemory}
+use Rattle.intake_half.specs.declared.memory.RowMemory.{RowMemory}
 use Rattle.archive_core.proofs.Settled.{with_same, frame_with, rests_has}
 use Rattle.archive_core.proofs.Acting.{call_done, call_failed, call_spent, call_tidy, called}
 use Rattle.archive_core.proofs.Lists.{element}

@@ -15,7 +15,7 @@ use Rattle.act_model.specs.Machine.{SetsState}
 use Rattle.archive_core.specs.Acting.{Changed}
 use Rattle.archive_core.specs.Ends.{ChangesTo}
 use Rattle.archive_core.specs.Leaving.{files_of}
-use Rattle.archive_core.specs.Memory.{cleared}
+use Rattle.intake_half.specs.Memory.{cleared}
 use Rattle.archive_core.specs.Parts.{InMemory, Parts, parts_beside}
 use Rattle.archive_core.specs.Switching.{switching, to_of}
 use Rattle.archive_core.specs.declared.memory.Doubt.TheVariants as kind

@@ -1,8 +1,0 @@
-use Rattle.archive_core.proofs.KeptRows.{same_held}
-use Rattle.archive_core.proofs.trying.examine.Goals as goal
-
-pub returns-in-Ok-clause-held : goal.returns-in-Ok-clause-held
-returns-in-Ok-clause-held c = same_held c.reserve.new.self c.args.intake.now c.reserve.ensures.tails
-
-pub returns-in-Err-clause-held : goal.returns-in-Err-clause-held
-returns-in-Err-clause-held c = same_held c.reserve.new.self c.args.intake.now c.reserve.ensures.tails
