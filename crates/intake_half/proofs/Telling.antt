@@ -12,11 +12,10 @@ use Rattle.intake.specs.Row.{SampledRow}
 use Rattle.intake.specs.Tails.{SetsTail, TailState, tail_at}
 use Rattle.act_model.specs.Machine.{same_bytes}
 use Rattle.act_model.proofs.RowActs.{same_bytes_is, same_bytes-refl}
-use Rattle.two_histories.specs.ArchiveIntake.{IntakeHalf, IntakeRow, first_known, known_at, next_of, taken, trimmed, with_row, with_rows}
+use Rattle.two_histories.specs.ArchiveIntake.{IntakeHalf, IntakeRow, NamesAgree, first_known, known_at, next_of, taken, trimmed, with_row, with_rows}
 use Rattle.two_histories.specs.ArchiveIntake as halves
 use Rattle.two_histories.specs.ArchiveStore.{RegisteredRow}
 use Rattle.two_histories.proofs.KnownRows.{Ascends}
-use Rattle.intake_half.specs.Fits.{NamesAgree}
 use Rattle.intake_half.specs.Known.{AreKept, IsKept, number_of, seen, seen_from, slot_at}
 use Rattle.intake_half.specs.Memory.{cell_in, cleared, period_in, sampling_by}
 use Rattle.intake_half.specs.Taking.{all_told, end_in, next_in, next_of_slot, taken_over, told_in, told_slot}

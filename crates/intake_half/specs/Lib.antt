@@ -2,5 +2,4 @@ pub mod Memory
 pub mod Trying
 pub mod Known
 pub mod Taking
-pub mod Fits
 pub mod Parts

@@ -4,9 +4,8 @@ use Rattle.act_model.specs.Asks.{offered_reply, ticked_reply}
 use Rattle.act_model.specs.Event.{IsEvent}
 use Rattle.act_model.specs.declared.acts.Act.TheVariants as act
 use Rattle.act_model.specs.declared.acts.Answer.TheVariants as reply
-use Rattle.two_histories.specs.ArchiveIntake.{IntakeHalf}
+use Rattle.two_histories.specs.ArchiveIntake.{IntakeHalf, NamesAgree}
 use Rattle.two_histories.specs.IntakeStep as step
-use Rattle.intake_half.specs.Fits.{NamesAgree}
 use Rattle.intake_half.specs.Taking.{end_in}
 use Rattle.intake_half.specs.declared.parts.IntakeAnswer.{IntakeAnswer}
 use Rattle.intake_half.specs.declared.parts.IntakeAnswer.TheVariants.{Offered, Ticked, DoorsLeft, SawDoors, SawBatch, SawRow, Took, Memory}

@@ -3,9 +3,8 @@ ghost use Rattle.std.specs.Prelude.{◌≡◌, ◌-◌, ◌≤◌, ◌<◌, ℕ,
 ghost use Rattle.act_model.specs.Asks.{offered_reply, ticked_reply};
 ghost use Rattle.act_model.specs.Event.{IsEvent};
 ghost use Rattle.act_model.specs.declared.acts.Act.TheVariants.{Offer as OfferAct};
-ghost use Rattle.two_histories.specs.ArchiveIntake.{known_as, look_at, taken};
+ghost use Rattle.two_histories.specs.ArchiveIntake.{NamesAgree, known_as, look_at, taken};
 ghost use Rattle.two_histories.specs.IntakeStep.{IntakeStep, Offers, Ticks, LooksForBatch, Replies, SawBatch};
-ghost use Rattle.intake_half.specs.Fits.{NamesAgree};
 ghost use Rattle.intake_half.specs.Known.{HasName, number_of, slot_at};
 ghost use Rattle.intake_half.specs.Taking.{end_in};
 

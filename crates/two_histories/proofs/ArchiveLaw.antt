@@ -1,5 +1,6 @@
 -- What holds of every closed legal pair.
-use Rattle.std.proofs.Common.{◌≡◌, List, [], ◌∷◌, ◌++◌, true, ap, sym, ◌∙◌, subst, arith}
+use Rattle.std.proofs.Common.{◌≡◌, ℕ, zero, suc, List, [], ◌∷◌, ◌++◌, Some, true, ap, sym, ◌∙◌, subst, arith}
+use Rattle.std.specs.Prelude.{slice_get}
 use Rattle.closed_pairs.proofs.Legal.{legal_joint, legal_at, holds_along}
 use Rattle.series_model.specs.Archive.{IsPrefix}
 use Rattle.series_model.specs.Series.{IsRising, over}
@@ -8,16 +9,17 @@ use Rattle.act_model.specs.Changes.{of_row}
 use Rattle.two_histories.specs.Histories.{left_by}
 use Rattle.two_histories.proofs.Lists.{IsTail, prefix_same, prefix_shorter, tail_over, tail_longer, has_later}
 use Rattle.two_histories.specs.ArchiveIntake.{IntakeHalf}
-use Rattle.two_histories.specs.IntakeStep.{IntakeEntry}
-use Rattle.two_histories.specs.ArchiveLaws.{StoreStaysSound, NothingIsLost, BasesAreDurable, ReportedIsDurable}
-use Rattle.two_histories.specs.ArchiveStore.{StoreHalf, doubted, machine_of as store_machine}
+use Rattle.two_histories.specs.IntakeStep.{IntakeEntry, told_rows}
+use Rattle.two_histories.specs.ArchiveLaws.{StoreStaysSound, NothingIsLost, BasesAreDurable, NamesStayApart, ReportedIsDurable}
+use Rattle.two_histories.specs.ArchiveStore.{RegisteredRow, StoreHalf, doubted, machine_of as store_machine}
 use Rattle.two_histories.specs.StoreStep.{StoreEntry}
 use Rattle.two_histories.specs.ArchiveHistories.{BeginTogether, StoreFits, IntakeFits, store_knows, intake_knows, IsPair}
 use Rattle.two_histories.proofs.Batches.{BatchFits}
 use Rattle.two_histories.proofs.Beginning.{begun}
 use Rattle.two_histories.proofs.Closing.{is_base}
+use Rattle.two_histories.proofs.Idle.{one_name}
 use Rattle.two_histories.proofs.ArchiveJoined.{A, T, D, Legal, IsJoined}
-use Rattle.two_histories.proofs.IntakeMore.{intake_more}
+use Rattle.two_histories.proofs.IntakeMore.{ToldRow, intake_more, told_of}
 use Rattle.two_histories.proofs.Looking.{batch_whole}
 use Rattle.two_histories.proofs.Stepping.{batch_of_part, flush_stored, half_row, half_forth}
 use Rattle.two_histories.proofs.StoreMore.{store_more, seen_of, fits_of, settled_at}
@@ -50,6 +52,28 @@ nothing_is_lost s0 i0 s i p t r =
       suffix = own.suffix;
       later = has_later durable accepted tail own;
       joined = tail_over durable accepted tail own ∙ (ap (λ w. over durable w) at.flushed.1 ∙ (over_front durable at.flushed.0 rises ∙ sym at.flushed.1));
+    }
+
+-- where a row stands that is told
+cut_at : (rows : List RegisteredRow) (k : ℕ) (reg : RegisteredRow) → slice_get rows k ≡ Some reg → (front : List RegisteredRow) × (back : List RegisteredRow) × (rows ≡ front ++ reg ∷ back)
+cut_at [] k reg here = absurd cc
+cut_at (x ∷ rows) zero reg here = let same : x ≡ reg = cc in ([], rows, ap (λ (y : RegisteredRow). y ∷ rows) same)
+cut_at (x ∷ rows) (suc k) reg here = let rest = cut_at rows k reg here in (x ∷ rest.0, rest.1, ap (λ (ys : List RegisteredRow). x ∷ ys) rest.2)
+
+pub names_stay_apart : NamesStayApart
+names_stay_apart s0 i0 s i p t part n allowed =
+    let l = legal_of s0 i0 s i p in
+    let j = joined_of s0 i0 s i p.begins t l in
+    let told : (k : ℕ) (reg : RegisteredRow) → slice_get (told_rows part) k ≡ Some reg → ToldRow s0 i0 s reg = λ k reg at. let cut = cut_at (told_rows part) k reg at in told_of s0 i0 s i n part l j allowed reg cut.0 cut.1 cut.2 in
+    record {
+      known_ones = λ r k row reg here at same.
+          let own = j.joined.knows i (prefix_same i) r row here in
+          let other = told k reg at in
+          one_name (left_by s0 s) j.joined.sound r reg.row own.0 other.row own.1 other.here (own.2.1 ∙ (same ∙ sym other.same.1));
+      told_ones = λ k h one other at there same.
+          let first = told k one at in
+          let second = told h other there in
+          one_name (left_by s0 s) j.joined.sound one.row other.row first.row second.row first.here second.here (first.same.1 ∙ (same ∙ sym second.same.1));
     }
 
 pub bases_are_durable : BasesAreDurable

@@ -14,7 +14,7 @@ use Rattle.act_model.specs.Rows.{RowState, is_running}
 use Rattle.act_model.specs.Step.{Step, MayAsk}
 use Rattle.two_histories.specs.Store.{Lists}
 use Rattle.two_histories.specs.ArchiveIntake.{IntakeRow, IntakeHalf, known_at, tail_at, as_row, machine_of, kept_row, kept_rows, intake_of, trimmed, with_rows, taken}
-use Rattle.two_histories.specs.IntakeStep.{IntakePart, Offers, Ticks, LooksForDoors, LooksForBatch, LooksAt, Takes, TakesFlush, IntakeAnswer, IsOfIntake, IntakeStep, offers, ticks, no_row, sees_doors, sees_batch, sees_row, takes, takes_flush}
+use Rattle.two_histories.specs.IntakeStep.{IntakePart, Offers, Ticks, LooksForDoors, LooksForBatch, LooksAt, Takes, TakesFlush, IntakeAnswer, IsOfIntake, IntakeStep, told_rows, offers, ticks, no_row, sees_doors, sees_batch, sees_row, takes, takes_flush}
 use Rattle.two_histories.specs.ArchiveStore.{RegisteredRow}
 use Rattle.two_histories.specs.ArchiveHistories.{added}
 use Rattle.two_histories.proofs.Gaining.{same_row, one_more, Gains, Fits, gains_none, offered_gains, ticked_gains}
@@ -38,15 +38,6 @@ pub data RowDid (n : ℕ) (accepted tail more left : List Sample) : Type 0 where
 pub data AboutFrom (regs : List RegisteredRow) (ks : List IntakeRow) (r : ℕ) (new : IntakeRow) : Type 0 where
   about_was : (k : IntakeRow) → known_at ks r ≡ Some k → new.about ≡ k.about → new.name ≡ k.name → AboutFrom regs ks r new
   about_told : (reg : RegisteredRow) (front back : List RegisteredRow) → regs ≡ front ++ reg ∷ back → reg.row ≡ r → new.about ≡ reg.about → new.name ≡ reg.name → AboutFrom regs ks r new
-
-abbrev pub regs_of : IntakePart → List RegisteredRow
-regs_of (Offers act) = []
-regs_of (Ticks row now) = []
-regs_of LooksForDoors = []
-regs_of (LooksForBatch limit) = []
-regs_of (LooksAt name) = []
-regs_of (Takes ends rows) = rows
-regs_of (TakesFlush len ends rows) = rows
 
 abbrev pub trims : IntakePart → ℕ → ℕ
 trims (Offers act) r = 0
@@ -335,7 +326,7 @@ no_tick old accepted s =
     }
 
 pub intake_did : {who : ℕ} {old new : IntakeHalf} {part : IntakePart} {answer : IntakeAnswer} → IntakeStep who old part answer new → (accepted : Lists) → IntakeSound old accepted
-    → IntakeDid (regs_of part) (λ r. trims part r) old new accepted (λ r. accepted r ++ added part old new r)
+    → IntakeDid (told_rows part) (λ r. trims part r) old new accepted (λ r. accepted r ++ added part old new r)
 intake_did {who} {old} (offers after act reply is ask step) accepted s = gains_did old after accepted s (act_gains who act (machine_of old) after reply is ask (fits_of old accepted s) step)
 intake_did {who} {old} (ticks after row now i reply here step) accepted s = gains_did old after accepted s (tick_gains who i now (machine_of old) after reply (fits_of old accepted s) step)
 intake_did {old = old} (no_row row now none) accepted s = no_tick old accepted s

@@ -12,11 +12,11 @@ use Rattle.two_histories.specs.Histories.{left_by}
 use Rattle.two_histories.proofs.Halves.{left_by_more, WasAccepted}
 use Rattle.two_histories.proofs.Lists.{IsTail, prefix_same, prefix_of, prefix_through, prefix_rises, prefix_end, tail_trimmed, tail_more}
 use Rattle.two_histories.specs.ArchiveIntake.{IntakeHalf, IntakeRow, known_at, tail_at}
-use Rattle.two_histories.specs.IntakeStep.{IntakePart, Offers, Ticks, LooksForDoors, LooksForBatch, LooksAt, Takes, TakesFlush, IntakeEntry}
+use Rattle.two_histories.specs.IntakeStep.{IntakePart, Offers, Ticks, LooksForDoors, LooksForBatch, LooksAt, Takes, TakesFlush, IntakeEntry, told_rows}
 use Rattle.two_histories.specs.ArchiveStore.{StoreHalf, StoreRow, RegisteredRow, registered, durable_at, doubted}
 use Rattle.two_histories.specs.StoreStep.{StoreEntry}
 use Rattle.two_histories.specs.ArchiveHistories.{IntakeAllowed, Once, WasRegistered, IntakeFits, intake_knows, added, first_accepted}
-use Rattle.two_histories.proofs.IntakeLaws.{IntakeSound, RowDid, did_stay, did_gain, did_trim, AboutFrom, about_was, about_told, StateFrom, state_was, state_told, regs_of, trims, IntakeDid, intake_did}
+use Rattle.two_histories.proofs.IntakeLaws.{IntakeSound, RowDid, did_stay, did_gain, did_trim, AboutFrom, about_was, about_told, StateFrom, state_was, state_told, trims, IntakeDid, intake_did}
 use Rattle.two_histories.proofs.ArchiveJoined.{A, T, D, Legal, accepted_more, KnowsRows, WasAt, IsIdle, IsJoined}
 use Rattle.two_histories.proofs.Stepping.{IsClosedAt}
 use Rattle.two_histories.proofs.Telling.{store_told, told_row}
@@ -66,11 +66,11 @@ module _ (s0 : StoreHalf) (i0 : IntakeHalf) where
       end_was s (has.front ++ has.entry ∷ []) i r (ends r) j (has.back ++ drop n s, cut ∙ sym (append_assoc has.front (has.entry ∷ []) (has.back ++ drop n s))) (told.0 r ∙ ap (λ (m : StoreHalf). end_of (durable_at m.rows r)) after)
 
   -- a row that a Take names is one of the store, and was so once
-  record ToldRow (s : List StoreEntry) (reg : RegisteredRow) : Type 0 where
-    row : StoreRow
-    here : slice_get (left_by s0 s).rows reg.row ≡ Some row
-    same : (row.about ≡ reg.about) × (row.name ≡ reg.name)
-    was : WasAt s0 i0 s reg.row reg.changed reg.state
+  pub record ToldRow (s : List StoreEntry) (reg : RegisteredRow) : Type 0 where
+    pub row : StoreRow
+    pub here : slice_get (left_by s0 s).rows reg.row ≡ Some row
+    pub same : (row.about ≡ reg.about) × (row.name ≡ reg.name)
+    pub was : WasAt s0 i0 s reg.row reg.changed reg.state
 
   was_there : (s front : List StoreEntry) (i : List IntakeEntry) (reg : RegisteredRow) → IsJoined s0 i0 s i → IsPrefix front s → WasRegistered reg (left_by s0 front) → ToldRow s reg
   was_there s front i reg j p was =
@@ -93,7 +93,7 @@ module _ (s0 : StoreHalf) (i0 : IntakeHalf) where
   none_there reg [] back is = cc
   none_there reg (x ∷ front) back is = cc
 
-  told_of : (s : List StoreEntry) (i : List IntakeEntry) (n : ℕ) (part : IntakePart) → Legal s0 i0 s i → IsJoined s0 i0 s i → IntakeAllowed s0 part (take n s) → (reg : RegisteredRow) (front back : List RegisteredRow) → regs_of part ≡ front ++ reg ∷ back → ToldRow s reg
+  pub told_of : (s : List StoreEntry) (i : List IntakeEntry) (n : ℕ) (part : IntakePart) → Legal s0 i0 s i → IsJoined s0 i0 s i → IntakeAllowed s0 part (take n s) → (reg : RegisteredRow) (front back : List RegisteredRow) → told_rows part ≡ front ++ reg ∷ back → ToldRow s reg
   told_of s i n (Offers act) l j allowed reg front back is = absurd (none_there reg front back is)
   told_of s i n (Ticks row now) l j allowed reg front back is = absurd (none_there reg front back is)
   told_of s i n LooksForDoors l j allowed reg front back is = absurd (none_there reg front back is)
@@ -123,7 +123,7 @@ module _ (s0 : StoreHalf) (i0 : IntakeHalf) where
     after_is : f.after ≡ left_by i0 all
     after_is = sym (left_by_more i0 i f)
 
-    did : IntakeDid (regs_of f.part) (λ r. trims f.part r) (left_by i0 i) f.after (A s0 i0 i) (λ r. A s0 i0 i r ++ added f.part (left_by i0 i) f.after r)
+    did : IntakeDid (told_rows f.part) (λ r. trims f.part r) (left_by i0 i) f.after (A s0 i0 i) (λ r. A s0 i0 i r ++ added f.part (left_by i0 i) f.after r)
     did = intake_did fit.0 (A s0 i0 i) (j.joined.sounds i (prefix_same i))
 
     more_is : (r : ℕ) → A s0 i0 all r ≡ A s0 i0 i r ++ added f.part (left_by i0 i) f.after r
@@ -143,13 +143,13 @@ module _ (s0 : StoreHalf) (i0 : IntakeHalf) where
         let own = did.sound in
         record { up = own.up; next = λ r k here. let low = own.next r k here in let same = ap end_of (more_is r) in omega arith; unknown = λ r none. more_is r ∙ own.unknown r none; lines = own.lines; bytes = own.bytes }
 
-    told_row_of : (reg : RegisteredRow) (front back : List RegisteredRow) → regs_of f.part ≡ front ++ reg ∷ back → ToldRow s reg
+    told_row_of : (reg : RegisteredRow) (front back : List RegisteredRow) → told_rows f.part ≡ front ++ reg ∷ back → ToldRow s reg
     told_row_of = told_of s i f.other f.part l j fit.1
 
     knows_now : KnowsRows s0 i0 (left_by s0 s) f.after
     knows_now r k here = by_from (did.abouts r k here)
       where
-        by_from : AboutFrom (regs_of f.part) (left_by i0 i).rows r k → (row : StoreRow) × (slice_get (left_by s0 s).rows r ≡ Some row) × ((row.about ≡ k.about) × (row.name ≡ k.name))
+        by_from : AboutFrom (told_rows f.part) (left_by i0 i).rows r k → (row : StoreRow) × (slice_get (left_by s0 s).rows r ≡ Some row) × ((row.about ≡ k.about) × (row.name ≡ k.name))
         by_from (about_was k' before about name) = let own = j.joined.knows i (prefix_same i) r k' before in (own.0, own.1, (own.2.0 ∙ sym about, own.2.1 ∙ sym name))
         by_from (about_told reg front back is at about name) =
             let own = told_row_of reg front back is in (own.row, ap (λ n. slice_get (left_by s0 s).rows n) (sym at) ∙ own.here, (own.same.0 ∙ sym about, own.same.1 ∙ sym name))
@@ -158,7 +158,7 @@ module _ (s0 : StoreHalf) (i0 : IntakeHalf) where
     state_now : (r : ℕ) (k : IntakeRow) → known_at f.after.rows r ≡ Some k → WasAt s0 i0 s r k.changed k.state
     state_now r k here = by_from (did.states r k here)
       where
-        by_from : StateFrom (regs_of f.part) (left_by i0 i).rows r k.changed k.state → WasAt s0 i0 s r k.changed k.state
+        by_from : StateFrom (told_rows f.part) (left_by i0 i).rows r k.changed k.state → WasAt s0 i0 s r k.changed k.state
         by_from (state_was k' before number state) =
             let was = j.changes.was i (prefix_same i) r k' before in record { front = was.front; before = was.before; row = was.row; here = was.here; number = was.number ∙ number; state_is = was.state_is ∙ state }
         by_from (state_told reg front back is at number state) =

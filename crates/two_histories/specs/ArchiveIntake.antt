@@ -1,7 +1,7 @@
 -- The intake's half of an archive: the rows that it knows, what it accepted of them that it has not let go, and the doors. It is the
 -- machine without files, and an offer or a tick on it is the machine's.
 use Rattle.std.specs.FinMap.{empty}
-use Rattle.std.specs.Prelude.{ℕ, ◌+◌, ◌-◌, ◌==◌, List, [], ◌∷◌, length, map, max, false, Option, Some, None, if◌then◌else◌, nat_le, nat_lt}
+use Rattle.std.specs.Prelude.{◌≡◌, ℕ, ◌+◌, ◌-◌, ◌==◌, List, [], ◌∷◌, length, map, max, false, Option, Some, None, if◌then◌else◌, nat_le, nat_lt, slice_get}
 use Rattle.pb_messages.specs.declared.about.About.{About}
 use Rattle.pb_messages.specs.declared.about.State.{State}
 use Rattle.series_model.specs.declared.batch.RowSamples.{RowSamples}
@@ -199,3 +199,8 @@ with_rows (r ∷ rows) known = with_rows rows (with_row r (first_known known r) 
 
 abbrev pub taken : (ℕ → ℕ) → List RegisteredRow → IntakeHalf → IntakeHalf
 taken ends rows m = record m { rows = with_rows rows (map (trimmed ends) m.rows) }
+
+-- no two rows have one name, of those that are known and those that are told
+pub record NamesAgree (known : List IntakeRow) (rows : List RegisteredRow) : Type 0 where
+  pub known_ones : (i j : ℕ) (row : IntakeRow) (told : RegisteredRow) → known_at known i ≡ Some row → slice_get rows j ≡ Some told → row.name ≡ told.name → i ≡ told.row
+  pub told_ones : (i j : ℕ) (one other : RegisteredRow) → slice_get rows i ≡ Some one → slice_get rows j ≡ Some other → one.name ≡ other.name → one.row ≡ other.row

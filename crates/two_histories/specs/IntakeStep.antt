@@ -1,6 +1,6 @@
 -- The intake's parts of acts, and its steps. An offer, a tick and what is asked of doors are the machine's. A Look changes nothing, and a
 -- Take lets go what is durable and takes over rows.
-use Rattle.std.specs.Prelude.{◌≡◌, ℕ, ◌-◌, ◌≤◌, List, max, Some, None}
+use Rattle.std.specs.Prelude.{◌≡◌, ℕ, ◌-◌, ◌≤◌, List, [], max, Some, None}
 use Rattle.series_model.specs.declared.batch.RowSamples.{RowSamples}
 use Rattle.act_model.specs.declared.acts.Act.TheVariants.{Offer, Tick, Doors, DoorDone}
 use Rattle.act_model.specs.declared.acts.Act.{Act}
@@ -29,6 +29,16 @@ pub data IntakeAnswer : Type 0 where
   SawBatch : (doors : ℕ) → (batch : List RowSamples) → (left upto : ℕ) → IntakeAnswer
   SawRow : (doors : ℕ) → (look : RowLook) → IntakeAnswer
   Took : IntakeAnswer
+
+-- the rows that a part tells
+abbrev pub told_rows : IntakePart → List RegisteredRow
+told_rows (Offers act) = []
+told_rows (Ticks row now) = []
+told_rows LooksForDoors = []
+told_rows (LooksForBatch limit) = []
+told_rows (LooksAt name) = []
+told_rows (Takes ends rows) = rows
+told_rows (TakesFlush len ends rows) = rows
 
 abbrev pub IntakeEntry : Type 0
 IntakeEntry = HalfEntry IntakePart IntakeAnswer IntakeHalf

@@ -1,11 +1,14 @@
 // Of the machine that an archive is.
-ghost use Rattle.two_histories.specs.ArchiveLaws.{StoreStaysSound, NothingIsLost, BasesAreDurable, ReportedIsDurable};
+ghost use Rattle.two_histories.specs.ArchiveLaws.{StoreStaysSound, NothingIsLost, BasesAreDurable};
+ghost use Rattle.two_histories.specs.ArchiveLaws.{NamesStayApart, ReportedIsDurable};
 
 /// What is flushed was accepted, what leaves a tail is durable, and what a flush reports is durable from then on. Where
-/// a variable has a new name, all that was accepted under the old one is durable.
+/// a variable has a new name, all that was accepted under the old one is durable. No two rows have one name, of those
+/// that the intake knows and those that it is told.
 pub fn two_histories_of_an_archive()
     ensures store_stays_sound { StoreStaysSound }
     ensures nothing_is_lost { NothingIsLost }
     ensures bases_are_durable { BasesAreDurable }
+    ensures names_stay_apart { NamesStayApart }
     ensures reported_is_durable { ReportedIsDurable }
 {}

@@ -13,3 +13,6 @@ returns-clause-bases_are_durable c = law.bases_are_durable
 
 pub returns-clause-reported_is_durable : goal.returns-clause-reported_is_durable
 returns-clause-reported_is_durable c = law.reported_is_durable
+
+pub returns-clause-names_stay_apart : goal.returns-clause-names_stay_apart
+returns-clause-names_stay_apart c = law.names_stay_apart
