@@ -1,5 +1,5 @@
 -- How the machine's offer or tick of a row ends, by what is kept of the row in memory.
-use Rattle.std.proofs.Common.{◌≡◌, ◌≢◌, ◌⊎◌, inl, inr, ℕ, ◌+◌, ◌<◌, ◌≤◌, List, [], ◌∷◌, ◌++◌, length, Bool, true, false, Option, Some, None, Result, Ok, Err, refl, sym, ◌∙◌, ap, subst, arith, length-append}
+use Rattle.std.proofs.Common.{◌≡◌, ◌≢◌, ◌⊎◌, inl, inr, ℕ, ◌+◌, ◌<◌, ◌≤◌, List, [], ◌∷◌, ◌++◌, length, Bool, true, false, Option, Some, None, Result, Ok, Err, refl, sym, ◌∙◌, ap, subst, arith}
 use Rattle.std.specs.Prelude.{nat_lt, nat_le}
 use Rattle.std.proofs.lemmas.Bool.Decides.{nat_tests}
 use Rattle.std.proofs.lemmas.Option.{same_Some}
@@ -31,7 +31,6 @@ use Rattle.act_model.specs.declared.answers.Offered.{Offered as OfferAnswer}
 use Rattle.act_model.specs.declared.answers.Offered.TheVariants as offer
 use Rattle.act_model.specs.declared.answers.Ticked.{Ticked as TickAnswer}
 use Rattle.act_model.specs.declared.answers.Ticked.TheVariants as answer
-use Rattle.intake_half.specs.Known.{accepts, accepts_at}
 use Rattle.intake_half.specs.Memory.{cell_in, period_in}
 use Rattle.intake_half.specs.Trying.{IsTried, IsOffered, IsTickedDue, moved_on}
 use Rattle.intake_half.specs.declared.memory.RowMemory.{RowMemory}
@@ -47,13 +46,6 @@ event_time ty s e =
     let second = e.in_year.second in
     let nano = e.in_year.nano in
     omega (arith, days, at, second, nano, years_1970)
-
-pub not_before : (next t now : ℕ) → refused_by_time next t now ≡ None → next ≤ t
-not_before next t now none = by_test (nat_le next t) refl
-  where
-    by_test : (b : Bool) → nat_le next t ≡ b → next ≤ t
-    by_test true is = grind (arith, nat_tests)
-    by_test false is = absurd (let other = rw is at none in cc (other))
 
 -- what comes of a sample that is tried
 abbrev pub TriedAs : Machine → RowState → Sample → ℕ → Outcome → Result (Unit {0}) NotKept → Type 0
@@ -89,26 +81,6 @@ pub sampled_at : (d : Method) (n : ℕ) → Some n ≡ period_of d → d ≡ Sca
 sampled_at Monitor n is = absurd (cc (is))
 sampled_at (Scan period) n is = ap (λ k. Scan k) (sym (same_Some n period is))
 
--- HOW MANY SAMPLES ARE ACCEPTED
-
--- no more samples are accepted than there were moments
-pub offer_few : (old new : List TailState) (memory set : RowMemory) (i : ℕ) (x : Sample) (now count : ℕ) (told : OfferAnswer) → IsOffered old memory i x now told new set → count ≤ memory.next → count + accepts told ≤ set.next
-offer_few old new memory set i x now count offer.Held (sampled, scan, keeps, is) low = let next = ap (λ (w : RowMemory). w.next) is in omega arith
-offer_few old new memory set i x now count offer.Kept (scan, tried, sets, is) low = let next = ap (λ (w : RowMemory). w.next) is in let late = not_before memory.next x.t now tried.0 in omega arith
-offer_few old new memory set i x now count (offer.Dropped reason) (scan, late, keeps, is) low = let next = ap (λ (w : RowMemory). w.next) is in omega arith
-offer_few old new memory set i x now count (offer.IntakeFull bytes) (scan, full, keeps, is) low = let next = ap (λ (w : RowMemory). w.next) is in omega arith
-offer_few old new memory set i x now count offer.Memory (scan, room, keeps, is) low = let next = ap (λ (w : RowMemory). w.next) is in omega arith
-
-due_few : (old new : List TailState) (memory set : RowMemory) (sampled : SampledRow) (i now count : ℕ) (told : TickAnswer) → IsTickedDue old memory sampled i now told new set → count ≤ memory.next → count + accepts_at told ≤ set.next
-due_few old new memory set sampled i now count answer.TickNone (none, keeps, is) low = let next = ap (λ (w : RowMemory). w.next) is in omega arith
-due_few old new memory set sampled i now count (answer.Dropped reason) (x, held, late, keeps, is) low = let next = ap (λ (w : RowMemory). w.next) is in omega arith
-due_few old new memory set sampled i now count (answer.IntakeFull bytes) (x, held, tried, keeps, is) low = let next = ap (λ (w : RowMemory). w.next) is in omega arith
-due_few old new memory set sampled i now count answer.Memory (x, held, tried, keeps, is) low = let next = ap (λ (w : RowMemory). w.next) is in omega arith
-due_few old new memory set sampled i now count (answer.TickKept t) (x, held, t_is, tried, sets, is) low =
-    let next = ap (λ (w : RowMemory). w.next) is in let late = not_before memory.next x.t now tried.0 in omega arith
-due_few old new memory set sampled i now count answer.NoRow none low = absurd none
-due_few old new memory set sampled i now count (answer.NotDue d) none low = absurd none
-
 -- A tick of a row: nothing is to be tried, it isn't due, or what is held is tried.
 pub data TickCase (old new : List TailState) (memory set : RowMemory) (running : Bool) (i now : ℕ) (told : TickAnswer) : Type 0 where
   idles : (memory.scan ≡ None) ⊎ (running ≡ false) → told ≡ answer.TickNone → new ≡ old → set ≡ memory → TickCase old new memory set running i now told
@@ -135,11 +107,6 @@ tick_case old new memory set running i now told nothing early due = by_scan memo
     by_scan None scan b up = idle (inl scan)
     by_scan (Some sampled) scan false up = idle (inr up)
     by_scan (Some sampled) scan true up = by_due sampled scan up (nat_le sampled.cell.due now) refl
-
-pub tick_few : (old new : List TailState) (memory set : RowMemory) (running : Bool) (i now count : ℕ) (told : TickAnswer) → TickCase old new memory set running i now told → count ≤ memory.next → count + accepts_at told ≤ set.next
-tick_few old new memory set running i now count told (idles why told_is new_is set_is) low = let next = ap (λ (w : RowMemory). w.next) set_is in let more = ap accepts_at told_is in omega arith
-tick_few old new memory set running i now count told (waits sampled scan up first told_is new_is set_is) low = let next = ap (λ (w : RowMemory). w.next) set_is in let more = ap accepts_at told_is in omega arith
-tick_few old new memory set running i now count told (tries sampled scan up late tried) low = due_few old new memory set sampled i now count told tried low
 
 -- A ROW IN MEMORY
 
@@ -171,20 +138,13 @@ pub data LeavesRow (m : Machine) (p : ℕ) (r : RowState) (memory set : RowMemor
 abbrev pub SameOthers : ℕ → List TailState → List TailState → Type 0
 SameOthers i old new = (other : ℕ) → other ≢ i → (tail_at new other).samples ≡ (tail_at old other).samples
 
--- The machine's act ends so, and accepts so many samples of the row. Memory is wanting only where the act would have ended otherwise.
-pub record RowEnds (end : Outcome) (m : Machine) (p : ℕ) (r : RowState) (held : List TailState) (i : ℕ) (memory set : RowMemory) (new : List TailState) (more : ℕ) (Would : Reply → Type 0) (reply : Reply) : Type 0 where
+-- The machine's act ends so. Memory is wanting only where the act would have ended otherwise.
+pub record RowEnds (end : Outcome) (m : Machine) (p : ℕ) (r : RowState) (held : List TailState) (i : ℕ) (memory set : RowMemory) (new : List TailState) (Would : Reply → Type 0) (reply : Reply) : Type 0 where
   pub after : Machine
   pub ends : Ends end m reply after
   pub leaves : LeavesRow m p r memory set (tail_at new i).samples after
-  pub longer : length (tail_at new i).samples ≡ length r.tail + more
   pub others : SameOthers i held new
   pub wants : reply ≡ Memory → Would end.answer
-
-one_longer : (xs ys : List Sample) (x : Sample) → ys ≡ xs ++ x ∷ [] → length ys ≡ length xs + 1
-one_longer xs ys x is = ap length is ∙ length-append xs (x ∷ [])
-
-as_long : (xs ys : List Sample) → ys ≡ xs → length ys ≡ length xs + 0
-as_long xs ys is = let same = ap length is in omega (arith, same)
 
 -- of a row for which the first three reasons don't apply samples are tried
 runs_by : (r : RowState) (ty : PayloadType) → refused_by_row (Some (standing r)) (number_of ty) ≡ None → is_running r.state ≡ true
@@ -197,27 +157,25 @@ runs_by r ty why = by_test (is_running r.state) refl
 module _ (m : Machine) (p : ℕ) (r : RowState) (held : List TailState) (i : ℕ) (memory : RowMemory) (is : IsRowIn m held i memory r) where
   -- nothing changes
   pub same_row : (end : Outcome) (Would : Reply → Type 0) (reply : Reply) (new : List TailState) (set : RowMemory) → (reply ≡ Memory → ⊥) → end ≡ record { answer = reply; after = m } → set ≡ memory → KeepsTails held new
-      → RowEnds end m p r held i memory set new 0 Would reply
+      → RowEnds end m p r held i memory set new Would reply
   same_row end Would reply new set other end_is set_is keeps =
       let tail : (tail_at new i).samples ≡ r.tail = keeps i ∙ sym is.tail in
       record {
         after = m;
         ends = rw end_is (inl (refl, refl));
         leaves = leaves_all refl set_is tail;
-        longer = as_long r.tail (tail_at new i).samples tail;
         others = λ j apart. keeps j;
         wants = λ told. absurd (other told);
       }
 
   -- memory is wanting
-  no_memory : (end : Outcome) (Would : Reply → Type 0) (new : List TailState) (set : RowMemory) → Would end.answer → set ≡ memory → KeepsTails held new → RowEnds end m p r held i memory set new 0 Would Memory
+  no_memory : (end : Outcome) (Would : Reply → Type 0) (new : List TailState) (set : RowMemory) → Would end.answer → set ≡ memory → KeepsTails held new → RowEnds end m p r held i memory set new Would Memory
   no_memory end Would new set would set_is keeps =
       let tail : (tail_at new i).samples ≡ r.tail = keeps i ∙ sym is.tail in
       record {
         after = m;
         ends = inr (refl, refl);
         leaves = leaves_all refl set_is tail;
-        longer = as_long r.tail (tail_at new i).samples tail;
         others = λ j apart. keeps j;
         wants = λ told. would;
       }
@@ -228,8 +186,8 @@ module _ (m : Machine) (p : ℕ) (r : RowState) (held : List TailState) (i : ℕ
     abbrev kept : Outcome
     kept = record { answer = Kept; after = with_rows m (at p (gains x)) }
 
-    abbrev pub Offers : List TailState → RowMemory → ℕ → Reply → Type 0
-    Offers new set more reply = RowEnds (offered_to m p r ty x now) m p r held i memory set new more (λ told. told ≡ Kept) reply
+    abbrev pub Offers : List TailState → RowMemory → Reply → Type 0
+    Offers new set reply = RowEnds (offered_to m p r ty x now) m p r held i memory set new (λ told. told ≡ Kept) reply
 
     -- to a row that isn't sampled
     by_trial : (o : Outcome) → memory.scan ≡ None → tried m r x now kept ≡ o → offered_to m p r ty x now ≡ o
@@ -240,7 +198,7 @@ module _ (m : Machine) (p : ℕ) (r : RowState) (held : List TailState) (i : ℕ
     trial : (result : Result (Unit {0}) NotKept) → IsTried memory.next (tails.held_bytes held) x.t (length x.line) now result → TriedAs m r x now kept result
     trial result tried = tried_as m r x now memory.next (tails.held_bytes held) kept result is.next is.bytes tried
 
-    pub offer_ends : (told : OfferAnswer) (new : List TailState) (set : RowMemory) → IsOffered held memory i x now told new set → Offers new set (accepts told) (offered_reply told)
+    pub offer_ends : (told : OfferAnswer) (new : List TailState) (set : RowMemory) → IsOffered held memory i x now told new set → Offers new set (offered_reply told)
     offer_ends offer.Held new set (sampled, scan, keeps, set_is) =
         let method : r.about.method ≡ Scan sampled.period = sampled_at r.about.method sampled.period (ap period_in (sym scan) ∙ is.period) in
         let cell : (with_held x r).cell ≡ cell_in (Some (after sampled (Offered x))) = ap (λ (c : Cell). cell_after 0 c (Offered x)) (is.cell ∙ ap cell_in scan) in
@@ -255,7 +213,6 @@ module _ (m : Machine) (p : ℕ) (r : RowState) (held : List TailState) (i : ℕ
                 period = ap (λ (w : RowMemory). period_in w.scan) set_is ∙ ap period_in (sym scan);
                 tail_is = sym tail;
               });
-          longer = as_long r.tail (tail_at new i).samples tail;
           others = λ j apart. keeps j;
           wants = λ told. absurd (cc (told));
         }
@@ -272,7 +229,6 @@ module _ (m : Machine) (p : ℕ) (r : RowState) (held : List TailState) (i : ℕ
                 period = ap (λ (w : RowMemory). period_in w.scan) set_is;
                 tail_is = sym tail;
               });
-          longer = one_longer r.tail (tail_at new i).samples x tail;
           others = sets.others;
           wants = λ told. absurd (cc (told));
         }
@@ -290,8 +246,8 @@ module _ (m : Machine) (p : ℕ) (r : RowState) (held : List TailState) (i : ℕ
   WouldKeep told = (t : ℕ) × (told ≡ TickKept t)
 
   module _ (now : ℕ) where
-    abbrev pub Ticks : List TailState → RowMemory → ℕ → Reply → Type 0
-    Ticks new set more reply = RowEnds (ticked_row m p r now) m p r held i memory set new more WouldKeep reply
+    abbrev pub Ticks : List TailState → RowMemory → Reply → Type 0
+    Ticks new set reply = RowEnds (ticked_row m p r now) m p r held i memory set new WouldKeep reply
 
     tick_nothing : (memory.scan ≡ None) ⊎ (is_running r.state ≡ false) → ticked_row m p r now ≡ record { answer = TickNone; after = m }
     tick_nothing (inl none) = let period : period_of r.about.method ≡ None = sym is.period ∙ ap period_in none in rw period refl
@@ -302,12 +258,11 @@ module _ (m : Machine) (p : ℕ) (r : RowState) (held : List TailState) (i : ℕ
         by_period (Some n) period = rw (period, paused) refl
 
     -- nothing changes
-    stays : (told : TickAnswer) (new : List TailState) (set : RowMemory) (own : TickAnswer) → accepts_at own ≡ 0 → (ticked_reply own ≡ Memory → ⊥) → ticked_row m p r now ≡ record { answer = ticked_reply own; after = m } → told ≡ own → new ≡ held → set ≡ memory
-        → Ticks new set (accepts_at told) (ticked_reply told)
-    stays told new set own none other end told_is new_is set_is =
-        subst (λ (a : TickAnswer). Ticks new set (accepts_at a) (ticked_reply a)) (sym told_is)
-        (subst (λ (n : ℕ). Ticks new set n (ticked_reply own)) (sym none)
-        (same_row (ticked_row m p r now) WouldKeep (ticked_reply own) new set other end set_is (λ j. ap (λ (ts : List TailState). (tail_at ts j).samples) new_is)))
+    stays : (told : TickAnswer) (new : List TailState) (set : RowMemory) (own : TickAnswer) → (ticked_reply own ≡ Memory → ⊥) → ticked_row m p r now ≡ record { answer = ticked_reply own; after = m } → told ≡ own → new ≡ held → set ≡ memory
+        → Ticks new set (ticked_reply told)
+    stays told new set own other end told_is new_is set_is =
+        subst (λ (a : TickAnswer). Ticks new set (ticked_reply a)) (sym told_is)
+        (same_row (ticked_row m p r now) WouldKeep (ticked_reply own) new set other end set_is (λ j. ap (λ (ts : List TailState). (tail_at ts j).samples) new_is))
 
     module _ (sampled : SampledRow) (scan : memory.scan ≡ Some sampled) (up : is_running r.state ≡ true) where
       period : period_of r.about.method ≡ Some sampled.period
@@ -330,9 +285,9 @@ module _ (m : Machine) (p : ℕ) (r : RowState) (held : List TailState) (i : ℕ
           rw (period, up, late) refl
 
       -- the row moves on, and may gain a sample before
-      moves : sampled.cell.due ≤ now → (f : RowState → RowState) (reply : Reply) (new : List TailState) (set : RowMemory) (more : ℕ) → (reply ≡ Memory → ⊥) → IsPlain f → ticked_due m p r sampled.period now ≡ record { answer = reply; after = with_rows m (at p f) }
-          → set.scan ≡ Some (after sampled (Ticked now true)) → (f r).cell ≡ cell_after sampled.period r.cell (Ticked now true) → (f r).next ≡ set.next → (f r).tail ≡ (tail_at new i).samples → length (tail_at new i).samples ≡ length r.tail + more → SameOthers i held new → Ticks new set more reply
-      moves due f reply new set more other plain end scan_is cell_is next tail longer others =
+      moves : sampled.cell.due ≤ now → (f : RowState → RowState) (reply : Reply) (new : List TailState) (set : RowMemory) → (reply ≡ Memory → ⊥) → IsPlain f → ticked_due m p r sampled.period now ≡ record { answer = reply; after = with_rows m (at p f) }
+          → set.scan ≡ Some (after sampled (Ticked now true)) → (f r).cell ≡ cell_after sampled.period r.cell (Ticked now true) → (f r).next ≡ set.next → (f r).tail ≡ (tail_at new i).samples → SameOthers i held new → Ticks new set reply
+      moves due f reply new set other plain end scan_is cell_is next tail others =
           record {
             after = with_rows m (at p f);
             ends = rw (due_end due, end) (inl (refl, refl));
@@ -343,18 +298,17 @@ module _ (m : Machine) (p : ℕ) (r : RowState) (held : List TailState) (i : ℕ
                   period = ap period_in scan_is ∙ ap period_in (sym scan);
                   tail_is = tail;
                 });
-            longer = longer;
             others = others;
             wants = λ told. absurd (other told);
           }
 
       gives_up : sampled.cell.due ≤ now → (reply : Reply) (new : List TailState) (set : RowMemory) → (reply ≡ Memory → ⊥) → ticked_due m p r sampled.period now ≡ record { answer = reply; after = with_rows m (at p (tick.moved_on sampled.period now)) }
-          → set ≡ moved_on memory sampled now → KeepsTails held new → Ticks new set 0 reply
+          → set ≡ moved_on memory sampled now → KeepsTails held new → Ticks new set reply
       gives_up due reply new set other end set_is keeps =
           let tail : (tail_at new i).samples ≡ r.tail = keeps i ∙ sym is.tail in
-          moves due (tick.moved_on sampled.period now) reply new set 0 other (λ q. refl) end (ap (λ (w : RowMemory). w.scan) set_is) refl (is.next ∙ sym (ap (λ (w : RowMemory). w.next) set_is)) (sym tail) (as_long r.tail (tail_at new i).samples tail) (λ j apart. keeps j)
+          moves due (tick.moved_on sampled.period now) reply new set other (λ q. refl) end (ap (λ (w : RowMemory). w.scan) set_is) refl (is.next ∙ sym (ap (λ (w : RowMemory). w.next) set_is)) (sym tail) (λ j apart. keeps j)
 
-      due_ends : sampled.cell.due ≤ now → (told : TickAnswer) (new : List TailState) (set : RowMemory) → IsTickedDue held memory sampled i now told new set → Ticks new set (accepts_at told) (ticked_reply told)
+      due_ends : sampled.cell.due ≤ now → (told : TickAnswer) (new : List TailState) (set : RowMemory) → IsTickedDue held memory sampled i now told new set → Ticks new set (ticked_reply told)
       due_ends due answer.TickNone new set (none, keeps, set_is) =
           let nothing : r.cell.held ≡ None = ap (λ (c : Cell). c.held) cell ∙ none in
           gives_up due TickNone new set (λ told. cc (told)) (rw nothing refl) set_is keeps
@@ -385,12 +339,12 @@ module _ (m : Machine) (p : ℕ) (r : RowState) (held : List TailState) (i : ℕ
           let f : RowState → RowState = λ q. tick.moved_on sampled.period now (gains x q) in
           let end : ticked_due m p r sampled.period now ≡ record { answer = TickKept t; after = with_rows m (at p f) } = rw (is_held, why, fits) (ap (λ b. record { answer = TickKept b; after = with_rows m (at p f) }) (sym t_is)) in
           let tail : (tail_at new i).samples ≡ r.tail ++ x ∷ [] = sets.own ∙ ap (λ (xs : List Sample). xs ++ x ∷ []) (sym is.tail) in
-          moves due f (TickKept t) new set 1 (λ told. cc (told)) (λ q. refl) end (ap (λ (w : RowMemory). w.scan) set_is) refl (sym (ap (λ (w : RowMemory). w.next) set_is)) (sym tail) (one_longer r.tail (tail_at new i).samples x tail) sets.others
+          moves due f (TickKept t) new set (λ told. cc (told)) (λ q. refl) end (ap (λ (w : RowMemory). w.scan) set_is) refl (sym (ap (λ (w : RowMemory). w.next) set_is)) (sym tail) sets.others
       due_ends due answer.NoRow new set none = absurd none
       due_ends due (answer.NotDue d) new set none = absurd none
 
-    pub tick_ends : (told : TickAnswer) (new : List TailState) (set : RowMemory) → TickCase held new memory set (is_running r.state) i now told → Ticks new set (accepts_at told) (ticked_reply told)
-    tick_ends told new set (idles why told_is new_is set_is) = stays told new set answer.TickNone refl (λ so. cc (so)) (tick_nothing why) told_is new_is set_is
+    pub tick_ends : (told : TickAnswer) (new : List TailState) (set : RowMemory) → TickCase held new memory set (is_running r.state) i now told → Ticks new set (ticked_reply told)
+    tick_ends told new set (idles why told_is new_is set_is) = stays told new set answer.TickNone (λ so. cc (so)) (tick_nothing why) told_is new_is set_is
     tick_ends told new set (waits sampled scan up first told_is new_is set_is) =
-        stays told new set (answer.NotDue sampled.cell.due) refl (λ so. cc (so)) (tick_early sampled scan up first) told_is new_is set_is
+        stays told new set (answer.NotDue sampled.cell.due) (λ so. cc (so)) (tick_early sampled scan up first) told_is new_is set_is
     tick_ends told new set (tries sampled scan up late tried) = due_ends sampled scan up late told new set tried

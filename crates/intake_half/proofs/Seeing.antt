@@ -184,19 +184,16 @@ placed tails j (Some x ∷ slots) n (suc i) k is here = by_rest (placed tails (j
 
 -- ROWS OF A MACHINE AGAIN
 
-kept_self : (k : IntakeRow) → kept_row k (as_row k) ≡ k
-kept_self k = ap (λ (n : ℕ). record k { count = n }) (let e : k.count + (length k.tail - length k.tail) ≡ k.count = omega arith in e)
-
 pub all_kept : (ks : List IntakeRow) → kept_rows ks (map as_row ks) ≡ ks
 all_kept [] = refl
-all_kept (k ∷ ks) = ap (λ (x : IntakeRow). x ∷ kept_rows ks (map as_row ks)) (kept_self k) ∙ ap (λ (xs : List IntakeRow). k ∷ xs) (all_kept ks)
+all_kept (k ∷ ks) = ap (λ (xs : List IntakeRow). k ∷ xs) (all_kept ks)
 
 past_kept : (f : RowState → RowState) (q j : ℕ) (ks : List IntakeRow) → q < j → kept_rows ks (each (at q f) j (map as_row ks)) ≡ ks
 past_kept f q j [] past = refl
 past_kept f q j (k ∷ ks) past =
     let apart : (j == q) ≡ false = grind (arith, nat_tests) in
     let rest = past_kept f q (j + 1) ks (omega arith) in
-    rw apart (ap (λ (x : IntakeRow). x ∷ kept_rows ks (each (at q f) (j + 1) (map as_row ks))) (kept_self k) ∙ ap (λ (xs : List IntakeRow). k ∷ xs) rest)
+    rw apart (ap (λ (xs : List IntakeRow). k ∷ xs) rest)
 
 pub one_kept : (f : RowState → RowState) (q j p : ℕ) (ks : List IntakeRow) (k : IntakeRow) → q ≡ j + p → slice_get ks p ≡ Some k
     → kept_rows ks (each (at q f) j (map as_row ks)) ≡ slice_set ks p (kept_row k (f (as_row k)))
@@ -208,8 +205,7 @@ one_kept f q j zero (x ∷ ks) k is here =
     ∙ ap (λ (xs : List IntakeRow). kept_row k (f (as_row k)) ∷ xs) (past_kept f q (j + 1) ks (omega arith)))
 one_kept f q j (suc p) (x ∷ ks) k is here =
     let apart : (j == q) ≡ false = grind (arith, nat_tests) in
-    rw apart (ap (λ (w : IntakeRow). w ∷ kept_rows ks (each (at q f) (j + 1) (map as_row ks))) (kept_self x)
-    ∙ ap (λ (xs : List IntakeRow). x ∷ xs) (one_kept f q (j + 1) p ks k (omega arith) here))
+    rw apart (ap (λ (xs : List IntakeRow). x ∷ xs) (one_kept f q (j + 1) p ks k (omega arith) here))
 
 pub row_mapped : (ks : List IntakeRow) (p : ℕ) (k : IntakeRow) → slice_get ks p ≡ Some k → slice_get (map as_row ks) p ≡ Some (as_row k)
 row_mapped [] p k here = absurd cc

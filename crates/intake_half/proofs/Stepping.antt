@@ -31,7 +31,7 @@ use Rattle.act_model.specs.declared.answers.Ticked.{Ticked}
 use Rattle.act_model.specs.declared.answers.Ticked.TheVariants as answer
 use Rattle.two_histories.specs.ArchiveIntake.{IntakeHalf, IntakeRow, as_row, batch_of, bytes_in, intake_of, kept_row, known_as, machine_of}
 use Rattle.two_histories.specs.IntakeStep.{IntakePart, IntakeStep, Offers, Ticks, LooksForBatch, Replies, SawBatch, offers, ticks, no_row, sees_batch}
-use Rattle.intake_half.specs.Known.{AreKept, HasName, IsKept, OffersBy, OffersTo, TicksTo, accepts, accepts_at, number_of, seen, seen_from, slot_at, slot_in, standing_of, with_memory}
+use Rattle.intake_half.specs.Known.{AreKept, HasName, IsKept, OffersBy, OffersTo, TicksTo, number_of, seen, seen_from, slot_at, slot_in, standing_of, with_memory}
 use Rattle.intake_half.specs.Memory.{cell_in, period_in}
 use Rattle.intake_half.specs.Trying.{IsOffered, IsTickedDue}
 use Rattle.intake_half.specs.declared.known.KnownRow.{KnownRow}
@@ -39,7 +39,7 @@ use Rattle.intake_half.specs.declared.memory.RowMemory.{RowMemory}
 use Rattle.intake_half.specs.declared.names.Names.{Names}
 use Rattle.intake_half.proofs.Counting.{batch_low, batch_seen, held_seen}
 use Rattle.intake_half.proofs.Elements.{set_same}
-use Rattle.intake_half.proofs.Ending.{IsRowIn, LeavesRow, RowEnds, SameOthers, TickCase, event_time, idles, leaves_all, leaves_one, offer_ends, offer_few, same_row, tick_case, tick_ends, tick_few, tries, waits}
+use Rattle.intake_half.proofs.Ending.{IsRowIn, LeavesRow, RowEnds, SameOthers, TickCase, event_time, idles, leaves_all, leaves_one, offer_ends, same_row, tick_case, tick_ends, tries, waits}
 use Rattle.intake_half.proofs.Seeing.{IsOnly, Placed, Unnamed, all_kept, is_unnamed, no_position, one_kept, placed, row_mapped, set_other, set_own, slot_within, some_same, unknown_seen, unnamed_seen}
 
 -- DOORS
@@ -57,34 +57,28 @@ door_counted who m =
 -- WHAT IS KEPT OF A ROW
 
 -- all of a row's memory that is kept beside its name
-pub record MemoryFits (k : KnownRow) (memory : RowMemory) (more : ℕ) : Type 0 where
+pub record MemoryFits (k : KnownRow) (memory : RowMemory) : Type 0 where
   pub period : period_in memory.scan ≡ period_in k.memory.scan
   pub held : (sampled : SampledRow) (s : Sample) → memory.scan ≡ Some sampled → sampled.cell.held ≡ Some s → s.t < 18446744073709551615
-  pub few : k.count + more ≤ memory.next
 
-still_kept : (names : Names) (i : ℕ) (k : KnownRow) (memory : RowMemory) (more : ℕ) → IsKept names i k → MemoryFits k memory more → IsKept names i (with_memory k memory more)
-still_kept names i k memory more is fits = record { named = is.named; period = fits.period ∙ is.period; held = fits.held; few = fits.few }
+still_kept : (names : Names) (i : ℕ) (k : KnownRow) (memory : RowMemory) → IsKept names i k → MemoryFits k memory → IsKept names i (with_memory k memory)
+still_kept names i k memory is fits = record { named = is.named; period = fits.period ∙ is.period; held = fits.held }
 
-same_fits : (names : Names) (i : ℕ) (k : KnownRow) (memory : RowMemory) → IsKept names i k → memory ≡ k.memory → MemoryFits k memory 0
-same_fits names i k memory is same =
-    subst (λ (w : RowMemory). MemoryFits k w 0) (sym same) (record { period = refl; held = is.held; few = (let low = is.few in omega arith) })
+same_fits : (names : Names) (i : ℕ) (k : KnownRow) (memory : RowMemory) → IsKept names i k → memory ≡ k.memory → MemoryFits k memory
+same_fits names i k memory is same = subst (λ (w : RowMemory). MemoryFits k w) (sym same) (record { period = refl; held = is.held })
 
-offer_fits : (names : Names) (i : ℕ) (k : KnownRow) → IsKept names i k → (old new : List TailState) (set : RowMemory) (x : Sample) (now : ℕ) → x.t < 18446744073709551615 → (told : Offered) → IsOffered old k.memory i x now told new set → MemoryFits k set (accepts told)
+offer_fits : (names : Names) (i : ℕ) (k : KnownRow) → IsKept names i k → (old new : List TailState) (set : RowMemory) (x : Sample) (now : ℕ) → x.t < 18446744073709551615 → (told : Offered) → IsOffered old k.memory i x now told new set → MemoryFits k set
 offer_fits names i k is old new set x now time offer.Held (sampled, scan, keeps, set_is) =
-    let low = offer_few old new k.memory set i x now k.count offer.Held (sampled, scan, keeps, set_is) is.few in
     record {
       period = ap (λ (w : RowMemory). period_in w.scan) set_is ∙ ap period_in (sym scan);
       held = λ s y here there. (let first : after sampled (OfferedEvent x) ≡ s = some_same (sym (ap (λ (w : RowMemory). w.scan) set_is) ∙ here) in
           let one : x ≡ y = some_same (ap (λ (w : SampledRow). w.cell.held) first ∙ there) in
           subst (λ (w : Sample). w.t < 18446744073709551615) one time);
-      few = low;
     }
 offer_fits names i k is old new set x now time offer.Kept (scan, tried, sets, set_is) =
-    let low = offer_few old new k.memory set i x now k.count offer.Kept (scan, tried, sets, set_is) is.few in
     record {
       period = ap (λ (w : RowMemory). period_in w.scan) set_is;
       held = λ s y here there. is.held s y (sym (ap (λ (w : RowMemory). w.scan) set_is) ∙ here) there;
-      few = low;
     }
 offer_fits names i k is old new set x now time (offer.Dropped reason) (scan, late, keeps, set_is) = same_fits names i k set is set_is
 offer_fits names i k is old new set x now time (offer.IntakeFull bytes) (scan, full, keeps, set_is) = same_fits names i k set is set_is
@@ -100,8 +94,8 @@ due_left old new memory set sampled i now (answer.TickKept t) (x, held, t_is, tr
 due_left old new memory set sampled i now answer.NoRow none = absurd none
 due_left old new memory set sampled i now (answer.NotDue d) none = absurd none
 
-tick_fits : (names : Names) (i : ℕ) (k : KnownRow) → IsKept names i k → (old new : List TailState) (set : RowMemory) (running : Bool) (now : ℕ) (told : Ticked) → TickCase old new k.memory set running i now told → MemoryFits k set (accepts_at told)
-tick_fits names i k is old new set running now told did = record { period = by_case_period did; held = by_case_held did; few = tick_few old new k.memory set running i now k.count told did is.few }
+tick_fits : (names : Names) (i : ℕ) (k : KnownRow) → IsKept names i k → (old new : List TailState) (set : RowMemory) (running : Bool) (now : ℕ) (told : Ticked) → TickCase old new k.memory set running i now told → MemoryFits k set
+tick_fits names i k is old new set running now told did = record { period = by_case_period did; held = by_case_held did }
   where
     same_period : set.scan ≡ k.memory.scan → period_in set.scan ≡ period_in k.memory.scan
     same_period same = ap period_in same
@@ -176,27 +170,24 @@ module _ (slots : List (Option KnownRow)) (held : List TailState) (names : Names
     in_memory : IsRowIn (machine_of half) held i k.memory row
     in_memory = record { next = refl; cell = refl; period = (all.each i k here).period; tail = refl; bytes = bytes_are }
 
-    abbrev build : ℕ → ℕ → List Sample → Cell → IntakeRow
-    build count next tail cell = record (seen held i k) { count = count; next = next; tail = tail; cell = cell }
+    abbrev build : ℕ → List Sample → Cell → IntakeRow
+    build next tail cell = record (seen held i k) { next = next; tail = tail; cell = cell }
 
-    same_build : {a b c d : ℕ} {xs ys : List Sample} {p q : Cell} → a ≡ b → c ≡ d → xs ≡ ys → p ≡ q → build a c xs p ≡ build b d ys q
-    same_build {a} {b} {c} {d} {xs} {ys} {p} {q} one two three four =
-        ap (λ (n : ℕ). build n c xs p) one ∙ ap (λ (n : ℕ). build b n xs p) two ∙ ap (λ (l : List Sample). build b d l p) three ∙ ap (λ (w : Cell). build b d ys w) four
+    same_build : {a b : ℕ} {xs ys : List Sample} {p q : Cell} → a ≡ b → xs ≡ ys → p ≡ q → build a xs p ≡ build b ys q
+    same_build {a} {b} {xs} {ys} {p} {q} one two three = ap (λ (n : ℕ). build n xs p) one ∙ ap (λ (l : List Sample). build b l p) two ∙ ap (λ (w : Cell). build b ys w) three
 
     -- the half that is left where one row has changed
-    left : (new : List TailState) (set : RowMemory) (more : ℕ) (n : Machine) → SameOthers i held new → LeavesRow (machine_of half) spot.spot row k.memory set (tail_at new i).samples n → length (tail_at new i).samples ≡ length (tail_at held i).samples + more
-        → half_of new (slice_set slots i (Some (with_memory k set more))) ≡ intake_of half n
-    left new set more n others (leaves_all n_is set_is tail) longer =
-        let none : k.count + more ≡ k.count = let same = ap length tail in omega arith in
-        let now : seen new i (with_memory k set more) ≡ seen held i k = same_build none (ap (λ (w : RowMemory). w.next) set_is) tail (ap (λ (w : RowMemory). cell_in w.scan) set_is) in
-        let rows : seen_from new 0 (slice_set slots i (Some (with_memory k set more))) ≡ half.rows = spot.changes new (with_memory k set more) others ∙ (ap (λ (w : IntakeRow). slice_set half.rows spot.spot w) now ∙ set_same half.rows spot.spot (seen held i k) spot.here) in
-        subst (λ (w : Machine). half_of new (slice_set slots i (Some (with_memory k set more))) ≡ intake_of half w) (sym n_is)
+    left : (new : List TailState) (set : RowMemory) (n : Machine) → SameOthers i held new → LeavesRow (machine_of half) spot.spot row k.memory set (tail_at new i).samples n
+        → half_of new (slice_set slots i (Some (with_memory k set))) ≡ intake_of half n
+    left new set n others (leaves_all n_is set_is tail) =
+        let now : seen new i (with_memory k set) ≡ seen held i k = same_build (ap (λ (w : RowMemory). w.next) set_is) tail (ap (λ (w : RowMemory). cell_in w.scan) set_is) in
+        let rows : seen_from new 0 (slice_set slots i (Some (with_memory k set))) ≡ half.rows = spot.changes new (with_memory k set) others ∙ (ap (λ (w : IntakeRow). slice_set half.rows spot.spot w) now ∙ set_same half.rows spot.spot (seen held i k) spot.here) in
+        subst (λ (w : Machine). half_of new (slice_set slots i (Some (with_memory k set))) ≡ intake_of half w) (sym n_is)
         (ap (λ (rs : List IntakeRow). let h : IntakeHalf = record { rows = rs; upto = upto; doors = doors } in h) (rows ∙ sym (all_kept half.rows)))
-    left new set more n others (leaves_one f n_is plain up is) longer =
-        let count : k.count + more ≡ k.count + (length (f row).tail - length (tail_at held i).samples) = let same = ap length is.tail_is in omega arith in
-        let now : seen new i (with_memory k set more) ≡ kept_row (seen held i k) (f row) = same_build count (sym is.next) (sym is.tail_is) (sym is.cell) in
-        let rows = spot.changes new (with_memory k set more) others ∙ (ap (λ (w : IntakeRow). slice_set half.rows spot.spot w) now ∙ sym (one_kept f spot.spot 0 spot.spot half.rows (seen held i k) (omega arith) spot.here)) in
-        subst (λ (w : Machine). half_of new (slice_set slots i (Some (with_memory k set more))) ≡ intake_of half w) (sym n_is)
+    left new set n others (leaves_one f n_is plain up is) =
+        let now : seen new i (with_memory k set) ≡ kept_row (seen held i k) (f row) = same_build (sym is.next) (sym is.tail_is) (sym is.cell) in
+        let rows = spot.changes new (with_memory k set) others ∙ (ap (λ (w : IntakeRow). slice_set half.rows spot.spot w) now ∙ sym (one_kept f spot.spot 0 spot.spot half.rows (seen held i k) (omega arith) spot.here)) in
+        subst (λ (w : Machine). half_of new (slice_set slots i (Some (with_memory k set))) ≡ intake_of half w) (sym n_is)
         (ap (λ (rs : List IntakeRow). let h : IntakeHalf = record { rows = rs; upto = upto; doors = doors } in h) rows)
 
     -- what is kept once the row has changed
@@ -227,40 +218,39 @@ module _ (slots : List (Option KnownRow)) (held : List TailState) (names : Names
     -- AN OFFER
 
     -- the machine's act ends so, and what is kept of the row fits
-    steps_by : (part : IntakePart) (reply : Reply) (new : List TailState) (set : RowMemory) (more : ℕ) (end : Outcome) (Would : Reply → Type 0) (e : RowEnds end (machine_of half) spot.spot row held i k.memory set new more Would reply)
-        → ((who : ℕ) → IntakeStep who half part (Replies reply) (intake_of half e.after)) → MemoryFits k set more → StepsAt part reply new (with_memory k set more)
-    steps_by part reply new set more end Would e step fits =
+    steps_by : (part : IntakePart) (reply : Reply) (new : List TailState) (set : RowMemory) (end : Outcome) (Would : Reply → Type 0) (e : RowEnds end (machine_of half) spot.spot row held i k.memory set new Would reply)
+        → ((who : ℕ) → IntakeStep who half part (Replies reply) (intake_of half e.after)) → MemoryFits k set → StepsAt part reply new (with_memory k set)
+    steps_by part reply new set end Would e step fits =
         record {
-          step = λ who. subst (λ (h : IntakeHalf). IntakeStep who half part (Replies reply) h) (sym (left new set more e.after e.others e.leaves e.longer)) (step who);
-          kept = kept_set new (with_memory k set more) e.others (still_kept names i k set more (all.each i k here) fits);
+          step = λ who. subst (λ (h : IntakeHalf). IntakeStep who half part (Replies reply) h) (sym (left new set e.after e.others e.leaves)) (step who);
+          kept = kept_set new (with_memory k set) e.others (still_kept names i k set (all.each i k here) fits);
         }
 
     -- AN OFFER
 
-    offer_as : (ty : PayloadType) (x : Sample) (now : ℕ) → IsEvent ty x → (reply : Reply) (new : List TailState) (set : RowMemory) (more : ℕ) (Would : Reply → Type 0) → RowEnds (offered_to (machine_of half) spot.spot row ty x now) (machine_of half) spot.spot row held i k.memory set new more Would reply
-        → MemoryFits k set more → StepsAt (Offers (Offer k.name ty x.t x.line now)) reply new (with_memory k set more)
-    offer_as ty x now event reply new set more Would e fits =
+    offer_as : (ty : PayloadType) (x : Sample) (now : ℕ) → IsEvent ty x → (reply : Reply) (new : List TailState) (set : RowMemory) (Would : Reply → Type 0) → RowEnds (offered_to (machine_of half) spot.spot row ty x now) (machine_of half) spot.spot row held i k.memory set new Would reply
+        → MemoryFits k set → StepsAt (Offers (Offer k.name ty x.t x.line now)) reply new (with_memory k set)
+    offer_as ty x now event reply new set Would e fits =
         let step : OfferStep k.name ty x now (machine_of half) reply e.after = rw (found, row_here) e.ends in
-        steps_by (Offers (Offer k.name ty x.t x.line now)) reply new set more (offered_to (machine_of half) spot.spot row ty x now) Would e (λ who. offers e.after (Offer k.name ty x.t x.line now) reply tt event step) fits
+        steps_by (Offers (Offer k.name ty x.t x.line now)) reply new set (offered_to (machine_of half) spot.spot row ty x now) Would e (λ who. offers e.after (Offer k.name ty x.t x.line now) reply tt event step) fits
 
     pub offer_is : (ty : PayloadType) (x : Sample) (now : ℕ) → IsEvent ty x → (told : Offered) (new : List TailState) (now_kept : KnownRow) → OffersTo held k i ty x now told new now_kept → StepsAt (Offers (Offer k.name ty x.t x.line now)) (offered_reply told) new now_kept
     offer_is ty x now event told new now_kept ends = by_reason (refused_by_row (Some (standing_of k)) (number_of_type ty)) refl ends
       where
-        dropped : (reason : Reason) → refused_by_row (Some (standing_of k)) (number_of_type ty) ≡ Some reason → StepsAt (Offers (Offer k.name ty x.t x.line now)) (Dropped reason) held (with_memory k k.memory 0)
+        dropped : (reason : Reason) → refused_by_row (Some (standing_of k)) (number_of_type ty) ≡ Some reason → StepsAt (Offers (Offer k.name ty x.t x.line now)) (Dropped reason) held k
         dropped reason why =
-            offer_as ty x now event (Dropped reason) held k.memory 0 (λ so. so ≡ Kept)
+            offer_as ty x now event (Dropped reason) held k.memory (λ so. so ≡ Kept)
             (same_row (machine_of half) spot.spot row held i k.memory in_memory (offered_to (machine_of half) spot.spot row ty x now) (λ so. so ≡ Kept) (Dropped reason) held k.memory (λ so. cc (so)) (rw why refl) refl (λ j. refl))
             (same_fits names i k k.memory (all.each i k here) refl)
 
         by_reason : (o : Option Reason) → refused_by_row (Some (standing_of k)) (number_of_type ty) ≡ o → OffersBy o held k i x now told new now_kept → StepsAt (Offers (Offer k.name ty x.t x.line now)) (offered_reply told) new now_kept
         by_reason (Some reason) why (told_is, new_is, kept_is) =
-            let plain : with_memory k k.memory 0 ≡ k = ap (λ (n : ℕ). record k { count = n }) (let e : k.count + 0 ≡ k.count = omega arith in e) in
             subst (λ (a : Offered). StepsAt (Offers (Offer k.name ty x.t x.line now)) (offered_reply a) new now_kept) (sym told_is)
             (subst (λ (ts : List TailState). StepsAt (Offers (Offer k.name ty x.t x.line now)) (Dropped reason) ts now_kept) (sym new_is)
-            (subst (λ (w : KnownRow). StepsAt (Offers (Offer k.name ty x.t x.line now)) (Dropped reason) held w) (plain ∙ sym kept_is) (dropped reason why)))
+            (subst (λ (w : KnownRow). StepsAt (Offers (Offer k.name ty x.t x.line now)) (Dropped reason) held w) (sym kept_is) (dropped reason why)))
         by_reason None why (set, is, kept_is) =
             subst (λ (w : KnownRow). StepsAt (Offers (Offer k.name ty x.t x.line now)) (offered_reply told) new w) (sym kept_is)
-            (offer_as ty x now event (offered_reply told) new set (accepts told) (λ so. so ≡ Kept) (offer_ends (machine_of half) spot.spot row held i k.memory in_memory ty x now why told new set is) (offer_fits names i k (all.each i k here) held new set x now (event_time ty x event) told is))
+            (offer_as ty x now event (offered_reply told) new set (λ so. so ≡ Kept) (offer_ends (machine_of half) spot.spot row held i k.memory in_memory ty x now why told new set is) (offer_fits names i k (all.each i k here) held new set x now (event_time ty x event) told is))
 
     -- A TICK
 
@@ -270,7 +260,7 @@ module _ (slots : List (Option KnownRow)) (held : List TailState) (names : Names
         let e = tick_ends (machine_of half) spot.spot row held i k.memory in_memory now told new ends.memory did in
         let step : TickStep spot.spot now (machine_of half) (ticked_reply told) e.after = rw row_here e.ends in
         subst (λ (w : KnownRow). StepsAt (Ticks i now) (ticked_reply told) new w) (sym ends.is)
-        (steps_by (Ticks i now) (ticked_reply told) new ends.memory (accepts_at told) (ticked_row (machine_of half) spot.spot row now) (λ so. (t : ℕ) × (so ≡ TickKept t)) e (λ who. ticks e.after i now spot.spot (ticked_reply told) spot.position_is step)
+        (steps_by (Ticks i now) (ticked_reply told) new ends.memory (ticked_row (machine_of half) spot.spot row now) (λ so. (t : ℕ) × (so ≡ TickKept t)) e (λ who. ticks e.after i now spot.spot (ticked_reply told) spot.position_is step)
         (tick_fits names i k (all.each i k here) held new ends.memory (is_running k.state) now told did))
 
   -- AN OFFER OR A TICK BY ITS SLOT

@@ -12,7 +12,7 @@ use Rattle.intake.specs.Row.{SampledRow}
 use Rattle.intake.specs.Tails.{SetsTail, TailState, tail_at}
 use Rattle.act_model.specs.Machine.{same_bytes}
 use Rattle.act_model.proofs.RowActs.{same_bytes_is, same_bytes-refl}
-use Rattle.two_histories.specs.ArchiveIntake.{IntakeHalf, IntakeRow, NamesAgree, first_known, known_at, next_of, taken, trimmed, with_row, with_rows}
+use Rattle.two_histories.specs.ArchiveIntake.{IntakeHalf, IntakeRow, NamesAgree, first_known, next_of, taken, trimmed, with_row, with_rows}
 use Rattle.two_histories.specs.ArchiveIntake as halves
 use Rattle.two_histories.specs.ArchiveStore.{RegisteredRow}
 use Rattle.two_histories.proofs.KnownRows.{Ascends}
@@ -71,7 +71,7 @@ room_kept slots more held names new told all agree few same still =
       each = λ i k there.
           let here : slot_at slots i ≡ Some k = sym (same i) ∙ there in
           let is = all.each i k here in
-          record { named = still k.name i is.named (λ j r at own. agree.known_ones i j (seen held i k) r (placed held 0 slots i i k (omega arith) here).known_is at own); period = is.period; held = is.held; few = is.few };
+          record { named = still k.name i is.named (λ j r at own. agree.known_ones i j (seen held i k) r (placed held 0 slots i i k (omega arith) here).known_is at own); period = is.period; held = is.held };
       others = λ i none. all.others i (sym (same i) ∙ none);
       few = few;
     }
@@ -183,7 +183,6 @@ module _ (held : List TailState) (names : Names) (r : RegisteredRow) (slots : Li
             named = is.named;
             period = cleared_period k.memory ∙ is.period;
             held = λ sampled s here there. absurd (none_held (cleared k.memory).scan (ap (λ (c : Cell). c.held) (cleared_cell k.memory)) sampled s here there);
-            few = is.few;
           }
 
   slot_kept : number_of names r.name ≡ Some r.row → (o : Option KnownRow) → slot_at slots r.row ≡ o → IsKept names r.row (told_slot r (next_in slots r.base) o)
@@ -192,7 +191,6 @@ module _ (held : List TailState) (names : Names) (r : RegisteredRow) (slots : Li
         named = named;
         period = sampling_period r.about.method;
         held = λ sampled s here there. absurd (none_held (sampling_by r.about.method) (ap (λ (c : Cell). c.held) (sym (sampling_cell r.about.method))) sampled s here there);
-        few = omega arith;
       }
   slot_kept named (Some k) is = over_kept k (all.each r.row k is)
 

@@ -54,7 +54,6 @@ seen tails i row =
       state = row.state;
       base = row.base;
       changed = row.changed;
-      count = row.count;
       next = row.memory.next;
       tail = (tail_at tails i).samples;
       cell = cell_in row.memory.scan;
@@ -66,13 +65,11 @@ seen_from tails i [] = []
 seen_from tails i (None ∷ slots) = seen_from tails (i + 1) slots
 seen_from tails i (Some row ∷ slots) = seen tails i row ∷ seen_from tails (i + 1) slots
 
--- A row is found by its name, is sampled as it was registered, holds no sample of the last moment, and accepted no more samples than there
--- were moments.
+-- A row is found by its name, is sampled as it was registered, and holds no sample of the last moment.
 pub record IsKept (names : Names) (i : ℕ) (row : KnownRow) : Type 0 where
   pub named : number_of names row.name ≡ Some i
   pub period : period_in row.memory.scan ≡ period_of row.about.method
   pub held : (sampled : SampledRow) (s : Sample) → row.memory.scan ≡ Some sampled → sampled.cell.held ≡ Some s → s.t < 18446744073709551615
-  pub few : row.count ≤ row.memory.next
 
 -- each row is so, and of no other number is anything held
 pub record AreKept (slots : List (Option KnownRow)) (tails : List TailState) (names : Names) : Type 0 where
@@ -82,27 +79,9 @@ pub record AreKept (slots : List (Option KnownRow)) (tails : List TailState) (na
 
 -- AN OFFER OR A TICK OF A ROW
 
--- with this memory, and so many samples more
-abbrev pub with_memory : KnownRow → RowMemory → ℕ → KnownRow
-with_memory row memory more = record row { memory = memory; count = row.count + more }
-
--- how many samples an offer accepts
-abbrev pub accepts : Offered → ℕ
-accepts offer.Kept = 1
-accepts offer.Held = 0
-accepts (offer.Dropped reason) = 0
-accepts (offer.IntakeFull held) = 0
-accepts offer.Memory = 0
-
--- how many samples a tick accepts
-abbrev pub accepts_at : Ticked → ℕ
-accepts_at (answer.TickKept t) = 1
-accepts_at answer.NoRow = 0
-accepts_at answer.TickNone = 0
-accepts_at (answer.NotDue due) = 0
-accepts_at (answer.Dropped reason) = 0
-accepts_at (answer.IntakeFull held) = 0
-accepts_at answer.Memory = 0
+-- with this memory
+abbrev pub with_memory : KnownRow → RowMemory → KnownRow
+with_memory row memory = record row { memory = memory }
 
 -- what admission looks at
 abbrev pub standing_of : KnownRow → Standing
@@ -111,7 +90,7 @@ standing_of row = record { is_running = is_running row.state; ty = number_of_typ
 -- So an offer to a row ends, over these tails: by one of the first three reasons, or as it is tried.
 abbrev pub OffersBy : Option Reason → List TailState → KnownRow → ℕ → Sample → ℕ → Offered → List TailState → KnownRow → Type 0
 OffersBy (Some reason) old row i s now told new kept = (told ≡ offer.Dropped reason) × (new ≡ old) × (kept ≡ row)
-OffersBy None old row i s now told new kept = (memory : RowMemory) × IsOffered old row.memory i s now told new memory × (kept ≡ with_memory row memory (accepts told))
+OffersBy None old row i s now told new kept = (memory : RowMemory) × IsOffered old row.memory i s now told new memory × (kept ≡ with_memory row memory)
 
 abbrev pub OffersTo : List TailState → KnownRow → ℕ → PayloadType → Sample → ℕ → Offered → List TailState → KnownRow → Type 0
 OffersTo old row i ty s now told new kept = OffersBy (refused_by_row (Some (standing_of row)) (number_of_type ty)) old row i s now told new kept
@@ -119,7 +98,7 @@ OffersTo old row i ty s now told new kept = OffersBy (refused_by_row (Some (stan
 -- So a tick of a row ends, over these tails.
 pub record TicksTo (old : List TailState) (row : KnownRow) (i now : ℕ) (told : Ticked) (new : List TailState) (kept : KnownRow) : Type 0 where
   pub memory : RowMemory
-  pub is : kept ≡ with_memory row memory (accepts_at told)
+  pub is : kept ≡ with_memory row memory
   pub none : (row.memory.scan ≡ None) ⊎ (is_running row.state ≡ false) → (told ≡ answer.TickNone) × (new ≡ old) × (memory ≡ row.memory)
   pub early : (sampled : SampledRow) → row.memory.scan ≡ Some sampled → is_running row.state ≡ true → now < sampled.cell.due → (told ≡ answer.NotDue sampled.cell.due) × (new ≡ old) × (memory ≡ row.memory)
   pub due : (sampled : SampledRow) → row.memory.scan ≡ Some sampled → is_running row.state ≡ true → sampled.cell.due ≤ now → IsTickedDue old row.memory sampled i now told new memory

@@ -23,7 +23,6 @@ told_slot told next None =
       state = told.state;
       base = told.base;
       changed = told.changed;
-      count = 0;
       memory = renamed_memory told.about next;
     }
 told_slot told next (Some row) = taken_over told row

@@ -1,11 +1,11 @@
 // What is kept of a row that the intake knows, and an offer to it and a tick of it.
-ghost use Rattle.std.specs.Prelude.{◌≡◌, ◌≤◌, ◌<◌, ◌+◌, Some, None};
+ghost use Rattle.std.specs.Prelude.{◌≡◌, ◌<◌, Some, None};
 ghost use Rattle.act_model.specs.declared.answers.Offered.TheVariants.{Dropped};
 ghost use Rattle.act_model.specs.declared.answers.Ticked.TheVariants.{NoRow};
 ghost use Rattle.intake.specs.Row.{SampledRow};
 ghost use Rattle.series_model.specs.declared.admission.Reason.TheVariants.{Unknown};
 ghost use Rattle.series_model.specs.declared.sample.Sample.{Sample as SampleValue};
-ghost use Rattle.intake_half.specs.Known.{OffersTo, TicksTo, accepts, accepts_at};
+ghost use Rattle.intake_half.specs.Known.{OffersTo, TicksTo};
 ghost use Rattle.intake_half.specs.Taking.{told_slot, taken_over};
 ghost use Rattle.intake_half.specs.declared.known.KnownRow.{KnownRow as KnownValue};
 
@@ -28,8 +28,6 @@ pub struct KnownRow {
     pub base: Option<u32>,
     /// The change number that is known of it.
     pub changed: u64,
-    /// How many samples of it were accepted.
-    pub count: u64,
     pub memory: RowMemory,
 }
 
@@ -53,7 +51,6 @@ impl KnownRow {
             state,
             base,
             changed,
-            count: 0,
             memory: RowMemory { next, scan },
         }
     }
@@ -78,52 +75,22 @@ impl KnownRow {
         sample: Sample,
         now: u64,
     ) -> Offered
-        requires time { sample.t < u64.MAX }
-        requires few { self.old.count ≤ self.old.memory.next }
+        requires { sample.t < u64.MAX }
         ensures { OffersTo intake.old self.old row ty sample now result intake.new self.new }
     {
         match reason_by_row(self.state, self.about.ty, self.memory.next, ty) {
             Some(reason) => Offered::Dropped(reason),
-            None => {
-                let answer = offer_row(intake, &mut self.memory, row, sample, now);
-                self.count_offer(&answer);
-                answer
-            }
-        }
-    }
-
-    fn count_offer(&mut self, answer: &Offered)
-        requires { self.old.count + accepts answer.now ≤ self.old.memory.next }
-        ensures { self.new ≡ record self.old { count = self.old.count + accepts answer.now } }
-    {
-        let _next = self.memory.next;
-        match answer {
-            Offered::Kept => self.count += 1,
-            _ => {}
+            None => offer_row(intake, &mut self.memory, row, sample, now),
         }
     }
 
     // Takes a tick of this row, which has this number.
     fn tick(&mut self, intake: &mut Intake, row: u32, now: u64) -> Ticked
-        requires held { (sampled : SampledRow) (s : SampleValue) → self.old.memory.scan ≡ Some sampled
+        requires { (sampled : SampledRow) (s : SampleValue) → self.old.memory.scan ≡ Some sampled
             → sampled.cell.held ≡ Some s → s.t < u64.MAX }
-        requires few { self.old.count ≤ self.old.memory.next }
         ensures { TicksTo intake.old self.old row now result intake.new self.new }
     {
-        let answer = tick_row(intake, &mut self.memory, row, runs(self.state), now);
-        self.count_tick(&answer);
-        answer
-    }
-
-    fn count_tick(&mut self, answer: &Ticked)
-        requires { self.old.count + accepts_at answer.now ≤ self.old.memory.next }
-        ensures { self.new ≡ record self.old { count = self.old.count + accepts_at answer.now } }
-    {
-        let _next = self.memory.next;
-        match answer {
-            Ticked::TickKept { .. } => self.count += 1,
-            _ => {}
-        }
+        tick_row(intake, &mut self.memory, row, runs(self.state), now)
     }
 }
 
@@ -136,8 +103,7 @@ pub(crate) fn offer_to(
     sample: Sample,
     now: u64,
 ) -> Offered
-    requires time { sample.t < u64.MAX }
-    requires few { (known : KnownValue) → slot.old ≡ Some known → known.count ≤ known.memory.next }
+    requires { sample.t < u64.MAX }
     ensures none { slot.old ≡ None → (result ≡ Dropped Unknown) × (intake.new ≡ intake.old) × (slot.new ≡ None) }
     ensures some { (known : KnownValue) → slot.old ≡ Some known → (kept : KnownValue) × (slot.new ≡ Some kept)
         × OffersTo intake.old known row ty sample now result intake.new kept }
@@ -155,9 +121,8 @@ pub(crate) fn tick_in(
     row: u32,
     now: u64,
 ) -> Ticked
-    requires held { (known : KnownValue) (sampled : SampledRow) (s : SampleValue) → slot.old ≡ Some known
+    requires { (known : KnownValue) (sampled : SampledRow) (s : SampleValue) → slot.old ≡ Some known
         → known.memory.scan ≡ Some sampled → sampled.cell.held ≡ Some s → s.t < u64.MAX }
-    requires few { (known : KnownValue) → slot.old ≡ Some known → known.count ≤ known.memory.next }
     ensures none { slot.old ≡ None → (result ≡ NoRow) × (intake.new ≡ intake.old) × (slot.new ≡ None) }
     ensures some { (known : KnownValue) → slot.old ≡ Some known → (kept : KnownValue) × (slot.new ≡ Some kept)
         × TicksTo intake.old known row now result intake.new kept }

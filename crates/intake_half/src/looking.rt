@@ -41,7 +41,6 @@ pub(crate) fn look_at_none(alloc: Global, name: Blob) -> RowLook
     RowLook {
         name,
         tail: Samples::from(Vec::new(alloc)),
-        count: 0,
         known: None,
     }
 }
@@ -84,7 +83,6 @@ pub(crate) fn look_in(
             Ok(RowLook {
                 name,
                 tail,
-                count: known.count,
                 known: Some(told_of(row, known)?),
             })
         }

@@ -39,8 +39,6 @@ pub struct RowLook {
     pub name: Blob,
     /// The accepted samples that it has not let go.
     pub tail: Samples,
-    /// How many samples of the row were accepted.
-    pub count: u64,
     /// What is known of the row, if one has the name.
     pub known: Option<Registered>,
 }
@@ -50,7 +48,7 @@ impl Model for RowLook {
 
     ghost Value = { halves.RowLook };
 
-    ghost view = { λ look. record { name = look.name; tail = look.tail; count = look.count; known = look.known } };
+    ghost view = { λ look. record { name = look.name; tail = look.tail; known = look.known } };
 }
 
 /// A batch as a look finds it.

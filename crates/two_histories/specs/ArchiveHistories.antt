@@ -5,7 +5,7 @@ use Rattle.closed_pairs.specs.Pairs.{Has, IsHalfLegal, IsClosed}
 use Rattle.series_model.specs.Archive.{IsPrefix}
 use Rattle.series_model.specs.Series.{end_of}
 use Rattle.act_model.specs.Machine.{Machine}
-use Rattle.act_model.specs.Rows.{RowState, accepted}
+use Rattle.act_model.specs.Rows.{RowState}
 use Rattle.act_model.specs.Sound.{IsSound}
 use Rattle.two_histories.specs.Histories.{left_by}
 use Rattle.two_histories.specs.Store.{Lists}
@@ -35,7 +35,6 @@ first_row i row =
       state = row.state;
       base = row.base;
       changed = 0;
-      count = length (accepted row);
       next = row.next;
       tail = row.tail;
       cell = row.cell;

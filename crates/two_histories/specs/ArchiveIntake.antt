@@ -1,7 +1,7 @@
 -- The intake's half of an archive: the rows that it knows, what it accepted of them that it has not let go, and the doors. It is the
 -- machine without files, and an offer or a tick on it is the machine's.
 use Rattle.std.specs.FinMap.{empty}
-use Rattle.std.specs.Prelude.{◌≡◌, ℕ, ◌+◌, ◌-◌, ◌==◌, List, [], ◌∷◌, length, map, max, false, Option, Some, None, if◌then◌else◌, nat_le, nat_lt, slice_get}
+use Rattle.std.specs.Prelude.{◌≡◌, ℕ, ◌+◌, ◌==◌, List, [], ◌∷◌, map, max, false, Option, Some, None, if◌then◌else◌, nat_le, nat_lt, slice_get}
 use Rattle.pb_messages.specs.declared.about.About.{About}
 use Rattle.pb_messages.specs.declared.about.State.{State}
 use Rattle.series_model.specs.declared.batch.RowSamples.{RowSamples}
@@ -13,9 +13,8 @@ use Rattle.act_model.specs.Rows.{RowState, is_empty, size_of}
 use Rattle.act_model.specs.Rule.{Rule}
 use Rattle.two_histories.specs.ArchiveStore.{RegisteredRow}
 
--- A row that the intake knows, by its number in the store: with the change number that it knows, how many samples it accepted of it since
--- the archive was opened, `next`, the first moment later than all that was accepted of the variable under each of its names, the tail, and
--- what a sampled row holds.
+-- A row that the intake knows, by its number in the store: with the change number that it knows, `next`, the first moment later than all that
+-- was accepted of the variable under each of its names, the tail, and what a sampled row holds.
 pub record IntakeRow : Type 0 where
   pub row : ℕ
   pub name : List ℕ
@@ -23,7 +22,6 @@ pub record IntakeRow : Type 0 where
   pub state : State
   pub base : Option ℕ
   pub changed : ℕ
-  pub count : ℕ
   pub next : ℕ
   pub tail : List Sample
   pub cell : Cell
@@ -97,7 +95,7 @@ position i (row ∷ rows) = if row.row == i then Some 0 else elim (position i ro
 -- THE HALF THAT A MACHINE LEAVES
 
 abbrev pub kept_row : IntakeRow → RowState → IntakeRow
-kept_row old row = record old { next = row.next; count = old.count + (length row.tail - length old.tail); tail = row.tail; cell = row.cell }
+kept_row old row = record old { next = row.next; tail = row.tail; cell = row.cell }
 
 abbrev pub kept_rows : List IntakeRow → List RowState → List IntakeRow
 kept_rows [] rows = []
@@ -131,16 +129,14 @@ bytes_in (p ∷ batch) = size_of p.samples + bytes_in batch
 pub record RowLook : Type 0 where
   pub name : List ℕ
   pub tail : List Sample
-  pub count : ℕ
   pub known : Option RegisteredRow
 
 abbrev pub look_at : List ℕ → Option IntakeRow → RowLook
-look_at name None = record { name = name; tail = []; count = 0; known = None }
+look_at name None = record { name = name; tail = []; known = None }
 look_at name (Some row) =
     record {
       name = name;
       tail = row.tail;
-      count = row.count;
       known = Some (record { row = row.row; name = row.name; about = row.about; state = row.state; base = row.base; changed = row.changed });
     }
 
@@ -169,7 +165,6 @@ first_known known r =
       state = r.state;
       base = r.base;
       changed = r.changed;
-      count = 0;
       next = next_of known r.base;
       tail = [];
       cell = first_cell;

@@ -1,5 +1,4 @@
-use Rattle.std.proofs.Common.{refl, ◌∙◌, ap, arith}
-use Rattle.intake_half.specs.Known.{slot_in}
+use Rattle.std.proofs.Common.{refl, arith}
 use Rattle.intake_half.proofs.Elements.{read_at}
 use Rattle.intake_half.proofs.Ending.{event_time}
 use Rattle.intake_half.proofs.Seeing.{slot_within}
@@ -18,14 +17,7 @@ index_mut-requires c =
     omega (arith, low, c.self.inside.slots.ok.0)
 
 pub offer_to-requires : goal.offer_to-requires
-offer_to-requires c =
-    let has = has_in c.self.inside.slots.items c.self.inside.intake c.self.inside.names c.self.inside.upto c.self.inside.doors c.self.invariant c.deref.result.now c.args.name.now c.args.name.now c.in-Some.row c.deref.ensures.value refl (c.in-Some.ensures {u = tt}).found in
-    let low = slot_within c.self.inside.slots.items c.in-Some.row has.row has.here in
-    let there = read_at c.self.inside.slots.items c.in-Some.row c.index_mut.result.now c.index_mut.ensures.value low in
-    record {
-      time = event_time c.args.ty c.args.sample c.requires;
-      few = λ known is. (c.self.invariant.each c.in-Some.row known (ap slot_in there ∙ is)).few;
-    }
+offer_to-requires c = event_time c.args.ty c.args.sample c.requires
 
 pub invariant_of-self : goal.invariant_of-self
 invariant_of-self c =

@@ -13,10 +13,7 @@ returns-then-at-len c = rw (← c.self.view_is) (λ who.
 pub tick_in-requires : goal.tick_in-requires
 tick_in-requires c =
     let there = read_at c.self.inside.slots.items c.args.row c.index_mut.result.now c.index_mut.ensures.value (omega (arith, c.self.inside.slots.ok.0, c.len.ensures)) in
-    record {
-      held = λ known sampled s is. (c.self.invariant.each c.args.row known (ap slot_in there ∙ is)).held sampled s;
-      few = λ known is. (c.self.invariant.each c.args.row known (ap slot_in there ∙ is)).few;
-    }
+    λ known sampled s is. (c.self.invariant.each c.args.row known (ap slot_in there ∙ is)).held sampled s
 
 pub invariant_of-self : goal.invariant_of-self
 invariant_of-self c =
