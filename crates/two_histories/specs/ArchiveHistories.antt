@@ -1,6 +1,6 @@
 -- Two histories of the halves of one archive.
 use Rattle.std.specs.List.{AllByRecursion}
-use Rattle.std.specs.Prelude.{◌≡◌, ◌⊎◌, ℕ, ◌+◌, List, [], ◌∷◌, ◌++◌, length, drop, Some, None, slice_get}
+use Rattle.std.specs.Prelude.{◌≡◌, ◌⊎◌, ℕ, ◌+◌, List, [], ◌∷◌, ◌++◌, length, map, drop, Some, None, slice_get}
 use Rattle.closed_pairs.specs.Pairs.{Has, IsHalfLegal, IsClosed}
 use Rattle.series_model.specs.Archive.{IsPrefix}
 use Rattle.series_model.specs.Series.{end_of}
@@ -47,6 +47,15 @@ first_rows i (row ∷ rows) = first_row i row ∷ first_rows (i + 1) rows
 -- and its intake: it knows every row
 abbrev pub intake_first : Machine → IntakeHalf
 intake_first m = record { rows = first_rows 0 m.rows; upto = 0; doors = m.doors }
+
+-- a row of the intake, whatever change of it is known
+abbrev pub unnumbered : IntakeRow → IntakeRow
+unnumbered row = record row { changed = 0 }
+
+-- The half is a state's intake, whatever changes of rows it knows.
+pub record IsIntakeOf (m : Machine) (half : IntakeHalf) : Type 0 where
+  pub rows : map unnumbered half.rows ≡ first_rows 0 m.rows
+  pub doors : half.doors ≡ m.doors
 
 -- The two halves of one sound state of the machine.
 pub record BeginTogether (s0 : StoreHalf) (i0 : IntakeHalf) : Type 0 where

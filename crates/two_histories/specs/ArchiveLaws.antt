@@ -1,16 +1,43 @@
 -- What holds of every closed legal pair of an archive whose disk tells its files.
-use Rattle.std.specs.Prelude.{◌≡◌, ℕ, ◌<◌, true, List, ◌∷◌, ◌++◌, length, take, Some, slice_get}
+use Rattle.std.specs.Prelude.{◌≡◌, ℕ, ◌<◌, true, List, ◌∷◌, ◌++◌, length, take, Option, Some, None, slice_get}
 use Rattle.series_model.specs.declared.batch.RowSamples.{RowSamples}
 use Rattle.series_model.specs.Archive.{IsPrefix}
+use Rattle.act_model.specs.Machine.{Machine}
 use Rattle.act_model.specs.Reply.{Reply}
 use Rattle.act_model.specs.Sound.{IsSound}
+use Rattle.act_model.specs.Step.{Step}
+use Rattle.act_model.specs.declared.acts.Act.{Act}
+use Rattle.act_model.specs.declared.acts.Act.TheVariants.{Tick}
 use Rattle.two_histories.specs.Histories.{left_by}
 use Rattle.two_histories.specs.Laws.{AreOne}
 use Rattle.two_histories.specs.ArchiveStore.{StoreHalf, StoreRow, RegisteredRow, durable_at, machine_of}
 use Rattle.two_histories.specs.ArchiveIntake.{IntakeHalf, NamesAgree, tail_at}
 use Rattle.two_histories.specs.StoreStep.{StoreEntry, Flushes, Stored}
-use Rattle.two_histories.specs.IntakeStep.{IntakeEntry, IntakePart, SawBatch, told_rows}
-use Rattle.two_histories.specs.ArchiveHistories.{IntakeAllowed, IsPair, first_accepted, accepted_by}
+use Rattle.two_histories.specs.IntakeStep.{IntakeEntry, IntakePart, IntakeStep, Offers, Ticks, LooksForDoors, LooksForBatch, LooksAt, Takes}
+use Rattle.two_histories.specs.IntakeStep.{TakesFlush, Replies, SawBatch, told_rows}
+use Rattle.two_histories.specs.ArchiveHistories.{IntakeAllowed, IsIntakeOf, IsPair, store_first, first_accepted, accepted_by}
+
+-- the machine's act that a part of the intake is
+abbrev pub act_of : IntakePart → Option Act
+act_of (Offers act) = Some act
+act_of (Ticks row now) = Some (Tick row now)
+act_of LooksForDoors = None
+act_of (LooksForBatch limit) = None
+act_of (LooksAt name) = None
+act_of (Takes ends rows) = None
+act_of (TakesFlush len ends rows) = None
+
+-- The act is a step of the machine that leads to a state of this intake, and of the same store.
+pub record StepsTo (who : ℕ) (act : Act) (m : Machine) (reply : Reply) (new : IntakeHalf) : Type 0 where
+  pub after : Machine
+  pub step : Step who act m reply after
+  pub intake : IsIntakeOf after new
+  pub store : store_first after ≡ store_first m
+
+-- an act on the intake of a state is the machine's
+abbrev pub IntakeActsAlone : Type 0
+IntakeActsAlone = (who : ℕ) (m : Machine) (old new : IntakeHalf) (part : IntakePart) (act : Act) (reply : Reply) → IsIntakeOf m old → act_of part ≡ Some act
+    → IntakeStep who old part (Replies reply) new → StepsTo who act m reply new
 
 -- the store is a sound machine wherever its history stops, with the samples in doubt as its tails
 abbrev pub StoreStaysSound : Type 0

@@ -1,14 +1,15 @@
 // Of the machine that an archive is.
 ghost use Rattle.two_histories.specs.ArchiveLaws.{StoreStaysSound, NothingIsLost, BasesAreDurable};
-ghost use Rattle.two_histories.specs.ArchiveLaws.{NamesStayApart, ReportedIsDurable};
+ghost use Rattle.two_histories.specs.ArchiveLaws.{IntakeActsAlone, NamesStayApart, ReportedIsDurable};
 
 /// What is flushed was accepted, what leaves a tail is durable, and what a flush reports is durable from then on. Where
 /// a variable has a new name, all that was accepted under the old one is durable. No two rows have one name, of those
-/// that the intake knows and those that it is told.
+/// that the intake knows and those that it is told. An act on the intake of a state is the machine's.
 pub fn two_histories_of_an_archive()
     ensures store_stays_sound { StoreStaysSound }
     ensures nothing_is_lost { NothingIsLost }
     ensures bases_are_durable { BasesAreDurable }
     ensures names_stay_apart { NamesStayApart }
+    ensures intake_acts_alone { IntakeActsAlone }
     ensures reported_is_durable { ReportedIsDurable }
 {}

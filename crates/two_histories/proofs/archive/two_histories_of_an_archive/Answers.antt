@@ -1,5 +1,6 @@
 -- The laws as a contract.
 use Rattle.two_histories.proofs.ArchiveLaw as law
+use Rattle.two_histories.proofs.ActingAlone.{intake_acts_alone}
 use Rattle.two_histories.proofs.archive.two_histories_of_an_archive.Goals as goal
 
 pub returns-clause-store_stays_sound : goal.returns-clause-store_stays_sound
@@ -16,3 +17,6 @@ returns-clause-reported_is_durable c = law.reported_is_durable
 
 pub returns-clause-names_stay_apart : goal.returns-clause-names_stay_apart
 returns-clause-names_stay_apart c = law.names_stay_apart
+
+pub returns-clause-intake_acts_alone : goal.returns-clause-intake_acts_alone
+returns-clause-intake_acts_alone c = intake_acts_alone
