@@ -17,7 +17,7 @@ use Rattle.act_model.specs.Sound.{IsSound}
 use Rattle.act_model.proofs.Rows.{length-each, each_get}
 use Rattle.two_histories.specs.ArchiveIntake.{bytes_in}
 use Rattle.two_histories.proofs.Lists.{prefix_end}
-use Rattle.two_histories.specs.StoreStep.{later_than, ends_in, tailed, with_batch}
+use Rattle.two_histories.specs.StoreStep.{part_with, later_than, ends_in, tailed, with_batch}
 use Rattle.two_histories.proofs.Closing.{IsClosed, is_base}
 use Rattle.two_histories.proofs.Durables.{durable_in}
 use Rattle.two_histories.proofs.Retailed.{FromRow, retailed}
@@ -33,9 +33,18 @@ pub record BatchFits (rows : List RowState) (doubt : Option Change) (batch : Lis
 
 -- LATER SAMPLES
 
+-- what a part adds of a row
+part_row : (row : ℕ) (xs : List Sample) (batch : List RowSamples) (i : ℕ) → of_row i (part_with row xs ++ batch) ≡ cond (nat_eq row i) (xs ++ of_row i batch) (of_row i batch)
+part_row row [] batch i = by_test (nat_eq row i)
+  where
+    by_test : (b : Bool) → of_row i batch ≡ cond b (of_row i batch) (of_row i batch)
+    by_test true = refl
+    by_test false = refl
+part_row row (x ∷ xs) batch i = refl
+
 pub later_row : (ends : ℕ → ℕ) (batch : List RowSamples) (i : ℕ) → of_row i (later_than ends batch) ≡ since (ends i) (of_row i batch)
 later_row ends [] i = refl
-later_row ends (p ∷ batch) i = by_test (nat_eq p.row i) refl (later_row ends batch i)
+later_row ends (p ∷ batch) i = part_row p.row (since (ends p.row) p.samples) (later_than ends batch) i ∙ by_test (nat_eq p.row i) refl (later_row ends batch i)
   where
     by_test : (b : Bool) → nat_eq p.row i ≡ b → of_row i (later_than ends batch) ≡ since (ends i) (of_row i batch)
         → cond b (since (ends p.row) p.samples ++ of_row i (later_than ends batch)) (of_row i (later_than ends batch)) ≡ since (ends i) (cond b (p.samples ++ of_row i batch) (of_row i batch))
@@ -46,9 +55,17 @@ later_row ends (p ∷ batch) i = by_test (nat_eq p.row i) refl (later_row ends b
 
 -- BYTES
 
+part_bytes : (row : ℕ) (xs : List Sample) (batch : List RowSamples) → bytes_in (part_with row xs ++ batch) ≡ size_of xs + bytes_in batch
+part_bytes row [] batch = omega arith
+part_bytes row (x ∷ xs) batch = refl
+
 later_bytes : (ends : ℕ → ℕ) (batch : List RowSamples) → bytes_in (later_than ends batch) ≤ bytes_in batch
 later_bytes ends [] = omega arith
-later_bytes ends (p ∷ batch) = let one = since_size (ends p.row) p.samples in let more = later_bytes ends batch in omega arith
+later_bytes ends (p ∷ batch) =
+    let part : bytes_in (later_than ends (p ∷ batch)) ≡ size_of (since (ends p.row) p.samples) + bytes_in (later_than ends batch) = part_bytes p.row (since (ends p.row) p.samples) (later_than ends batch) in
+    let one = since_size (ends p.row) p.samples in
+    let more = later_bytes ends batch in
+    omega arith
 
 size_append : (xs ys : List Sample) → size_of (xs ++ ys) ≡ size_of xs + size_of ys
 size_append [] ys = omega arith

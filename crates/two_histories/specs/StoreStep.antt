@@ -1,8 +1,9 @@
 -- The store's parts of acts, and its steps. An act that carries no samples is the machine's. A flush, a pin, the details of a variable and
 -- its new name carry what a Look of the intake answered, and are the machine's over that.
-use Rattle.std.specs.Prelude.{◌≡◌, ℕ, ◌-◌, ◌&&◌, List, [], ◌∷◌, length, true, Option, Some, None, if◌then◌else◌, nat_le, slice_get}
+use Rattle.std.specs.Prelude.{◌≡◌, ℕ, ◌-◌, ◌&&◌, List, [], ◌∷◌, ◌++◌, length, true, Option, Some, None, if◌then◌else◌, nat_le, slice_get}
 use Rattle.series_model.specs.declared.batch.RowSamples.{RowSamples}
 use Rattle.series_model.specs.declared.sample.Query.{Query}
+use Rattle.series_model.specs.declared.sample.Sample.{Sample}
 use Rattle.pb_messages.specs.declared.about.State.{State}
 use Rattle.series_model.specs.Series.{since, end_of}
 use Rattle.act_model.specs.declared.acts.Act.{Act}
@@ -77,10 +78,15 @@ tail_rows look m = by_row (find_row m look.name)
 abbrev pub tail_of : RowLook → Machine → Machine
 tail_of look m = record m { rows = tail_rows look m }
 
+-- these samples as a part of a batch, which has no part without samples
+abbrev pub part_with : ℕ → List Sample → List RowSamples
+part_with row [] = []
+part_with row (s ∷ samples) = record { row = row; samples = s ∷ samples } ∷ []
+
 -- of a batch the samples that are later than each row's last
 abbrev pub later_than : (ℕ → ℕ) → List RowSamples → List RowSamples
 later_than ends [] = []
-later_than ends (p ∷ batch) = record p { samples = since (ends p.row) p.samples } ∷ later_than ends batch
+later_than ends (p ∷ batch) = part_with p.row (since (ends p.row) p.samples) ++ later_than ends batch
 
 -- where each row's durable samples end
 abbrev pub ends_in : List RowState → ℕ → ℕ
