@@ -24,14 +24,14 @@ use Rattle.act_model.specs.Reply.{Reply}
 use Rattle.act_model.specs.Rows.{RowState, is_running, number_of as number_of_type}
 use Rattle.act_model.specs.Tick.{TickStep, ticked_row}
 use Rattle.act_model.specs.declared.acts.Act.TheVariants.{Offer, Doors, DoorDone}
-use Rattle.act_model.specs.declared.acts.Answer.TheVariants.{Dropped, DoorsLeft, Kept, NoRow, TickKept}
+use Rattle.act_model.specs.declared.acts.Answer.TheVariants.{Dropped, DoorsLeft, Kept, Memory, NoRow, TickKept}
 use Rattle.act_model.specs.declared.answers.Offered.{Offered}
 use Rattle.act_model.specs.declared.answers.Offered.TheVariants as offer
 use Rattle.act_model.specs.declared.answers.Ticked.{Ticked}
 use Rattle.act_model.specs.declared.answers.Ticked.TheVariants as answer
 use Rattle.two_histories.specs.ArchiveIntake.{IntakeHalf, IntakeRow, as_row, batch_of, bytes_in, intake_of, kept_row, known_as, machine_of}
 use Rattle.two_histories.specs.IntakeStep.{IntakePart, IntakeStep, Offers, Ticks, LooksForBatch, Replies, SawBatch, offers, ticks, no_row, sees_batch}
-use Rattle.intake_half.specs.Known.{AreKept, HasName, IsKept, OffersBy, OffersTo, TicksTo, number_of, seen, seen_from, slot_at, slot_in, standing_of, with_memory}
+use Rattle.intake_half.specs.Known.{AreKept, HasName, IsKept, OffersBy, OffersTo, TicksTo, WouldKeep, WouldTick, number_of, seen, seen_from, slot_at, slot_in, standing_of, with_memory}
 use Rattle.intake_half.specs.Memory.{cell_in, period_in}
 use Rattle.intake_half.specs.Trying.{IsOffered, IsTickedDue}
 use Rattle.intake_half.specs.declared.known.KnownRow.{KnownRow}
@@ -127,10 +127,11 @@ module _ (slots : List (Option KnownRow)) (held : List TailState) (names : Names
   abbrev pub half : IntakeHalf
   half = half_of held slots
 
-  -- the half makes this step, and is whole then
-  pub record Steps (part : IntakePart) (reply : Reply) (new : List TailState) (now : List (Option KnownRow)) : Type 0 where
+  -- the half makes this step, and is whole then; memory is wanting for nothing else
+  pub record Steps (part : IntakePart) (reply : Reply) (Would : Type 0) (new : List TailState) (now : List (Option KnownRow)) : Type 0 where
     pub step : (who : ℕ) → IntakeStep who half part (Replies reply) (half_of new now)
     pub kept : AreKept now new names
+    pub wants : reply ≡ Memory → Would
 
   pub half_stays : intake_of half (machine_of half) ≡ half
   half_stays = ap (λ (rows : List IntakeRow). let h : IntakeHalf = record { rows = rows; upto = upto; doors = doors } in h) (all_kept half.rows)
@@ -212,55 +213,59 @@ module _ (slots : List (Option KnownRow)) (held : List TailState) (names : Names
         by_other j none (inl same) = absurd (let bad = sym own ∙ (ap (λ (n : ℕ). slot_at (slice_set slots i (Some now)) n) (sym same) ∙ none) in cc)
         by_other j none (inr apart) = others j apart ∙ all.others j (sym (set_other slots i j (Some now) apart) ∙ none)
 
-    abbrev pub StepsAt : IntakePart → Reply → List TailState → KnownRow → Type 0
-    StepsAt part reply new now = Steps part reply new (slice_set slots i (Some now))
-
-    -- AN OFFER
+    abbrev pub StepsAt : IntakePart → Reply → Type 0 → List TailState → KnownRow → Type 0
+    StepsAt part reply Would new now = Steps part reply Would new (slice_set slots i (Some now))
 
     -- the machine's act ends so, and what is kept of the row fits
-    steps_by : (part : IntakePart) (reply : Reply) (new : List TailState) (set : RowMemory) (end : Outcome) (Would : Reply → Type 0) (e : RowEnds end (machine_of half) spot.spot row held i k.memory set new Would reply)
-        → ((who : ℕ) → IntakeStep who half part (Replies reply) (intake_of half e.after)) → MemoryFits k set → StepsAt part reply new (with_memory k set)
-    steps_by part reply new set end Would e step fits =
+    steps_by : (part : IntakePart) (reply : Reply) (new : List TailState) (set : RowMemory) (end : Outcome) (Would : Reply → Type 0) (Wanting : Type 0) (e : RowEnds end (machine_of half) spot.spot row held i k.memory set new Would reply)
+        → ((who : ℕ) → IntakeStep who half part (Replies reply) (intake_of half e.after)) → (Would end.answer → Wanting) → MemoryFits k set → StepsAt part reply Wanting new (with_memory k set)
+    steps_by part reply new set end Would Wanting e step so fits =
         record {
           step = λ who. subst (λ (h : IntakeHalf). IntakeStep who half part (Replies reply) h) (sym (left new set e.after e.others e.leaves)) (step who);
           kept = kept_set new (with_memory k set) e.others (still_kept names i k set (all.each i k here) fits);
+          wants = λ told. so (e.wants told);
         }
 
     -- AN OFFER
 
-    offer_as : (ty : PayloadType) (x : Sample) (now : ℕ) → IsEvent ty x → (reply : Reply) (new : List TailState) (set : RowMemory) (Would : Reply → Type 0) → RowEnds (offered_to (machine_of half) spot.spot row ty x now) (machine_of half) spot.spot row held i k.memory set new Would reply
-        → MemoryFits k set → StepsAt (Offers (Offer k.name ty x.t x.line now)) reply new (with_memory k set)
-    offer_as ty x now event reply new set Would e fits =
-        let step : OfferStep k.name ty x now (machine_of half) reply e.after = rw (found, row_here) e.ends in
-        steps_by (Offers (Offer k.name ty x.t x.line now)) reply new set (offered_to (machine_of half) spot.spot row ty x now) Would e (λ who. offers e.after (Offer k.name ty x.t x.line now) reply tt event step) fits
+    abbrev pub OfferedAt : PayloadType → Sample → ℕ → Reply → List TailState → KnownRow → Type 0
+    OfferedAt ty x now reply new set = StepsAt (Offers (Offer k.name ty x.t x.line now)) reply (WouldKeep k.name ty x now half) new set
 
-    pub offer_is : (ty : PayloadType) (x : Sample) (now : ℕ) → IsEvent ty x → (told : Offered) (new : List TailState) (now_kept : KnownRow) → OffersTo held k i ty x now told new now_kept → StepsAt (Offers (Offer k.name ty x.t x.line now)) (offered_reply told) new now_kept
+    offer_as : (ty : PayloadType) (x : Sample) (now : ℕ) → IsEvent ty x → (reply : Reply) (new : List TailState) (set : RowMemory) → RowEnds (offered_to (machine_of half) spot.spot row ty x now) (machine_of half) spot.spot row held i k.memory set new (λ so. so ≡ Kept) reply
+        → MemoryFits k set → OfferedAt ty x now reply new (with_memory k set)
+    offer_as ty x now event reply new set e fits =
+        let step : OfferStep k.name ty x now (machine_of half) reply e.after = rw (found, row_here) e.ends in
+        steps_by (Offers (Offer k.name ty x.t x.line now)) reply new set (offered_to (machine_of half) spot.spot row ty x now) (λ so. so ≡ Kept) (WouldKeep k.name ty x now half) e (λ who. offers e.after (Offer k.name ty x.t x.line now) reply tt event step)
+        (λ kept. rw (found, row_here) kept) fits
+
+    pub offer_is : (ty : PayloadType) (x : Sample) (now : ℕ) → IsEvent ty x → (told : Offered) (new : List TailState) (now_kept : KnownRow) → OffersTo held k i ty x now told new now_kept → OfferedAt ty x now (offered_reply told) new now_kept
     offer_is ty x now event told new now_kept ends = by_reason (refused_by_row (Some (standing_of k)) (number_of_type ty)) refl ends
       where
-        dropped : (reason : Reason) → refused_by_row (Some (standing_of k)) (number_of_type ty) ≡ Some reason → StepsAt (Offers (Offer k.name ty x.t x.line now)) (Dropped reason) held k
+        dropped : (reason : Reason) → refused_by_row (Some (standing_of k)) (number_of_type ty) ≡ Some reason → OfferedAt ty x now (Dropped reason) held k
         dropped reason why =
-            offer_as ty x now event (Dropped reason) held k.memory (λ so. so ≡ Kept)
+            offer_as ty x now event (Dropped reason) held k.memory
             (same_row (machine_of half) spot.spot row held i k.memory in_memory (offered_to (machine_of half) spot.spot row ty x now) (λ so. so ≡ Kept) (Dropped reason) held k.memory (λ so. cc (so)) (rw why refl) refl (λ j. refl))
             (same_fits names i k k.memory (all.each i k here) refl)
 
-        by_reason : (o : Option Reason) → refused_by_row (Some (standing_of k)) (number_of_type ty) ≡ o → OffersBy o held k i x now told new now_kept → StepsAt (Offers (Offer k.name ty x.t x.line now)) (offered_reply told) new now_kept
+        by_reason : (o : Option Reason) → refused_by_row (Some (standing_of k)) (number_of_type ty) ≡ o → OffersBy o held k i x now told new now_kept → OfferedAt ty x now (offered_reply told) new now_kept
         by_reason (Some reason) why (told_is, new_is, kept_is) =
-            subst (λ (a : Offered). StepsAt (Offers (Offer k.name ty x.t x.line now)) (offered_reply a) new now_kept) (sym told_is)
-            (subst (λ (ts : List TailState). StepsAt (Offers (Offer k.name ty x.t x.line now)) (Dropped reason) ts now_kept) (sym new_is)
-            (subst (λ (w : KnownRow). StepsAt (Offers (Offer k.name ty x.t x.line now)) (Dropped reason) held w) (sym kept_is) (dropped reason why)))
+            subst (λ (a : Offered). OfferedAt ty x now (offered_reply a) new now_kept) (sym told_is)
+            (subst (λ (ts : List TailState). OfferedAt ty x now (Dropped reason) ts now_kept) (sym new_is)
+            (subst (λ (w : KnownRow). OfferedAt ty x now (Dropped reason) held w) (sym kept_is) (dropped reason why)))
         by_reason None why (set, is, kept_is) =
-            subst (λ (w : KnownRow). StepsAt (Offers (Offer k.name ty x.t x.line now)) (offered_reply told) new w) (sym kept_is)
-            (offer_as ty x now event (offered_reply told) new set (λ so. so ≡ Kept) (offer_ends (machine_of half) spot.spot row held i k.memory in_memory ty x now why told new set is) (offer_fits names i k (all.each i k here) held new set x now (event_time ty x event) told is))
+            subst (λ (w : KnownRow). OfferedAt ty x now (offered_reply told) new w) (sym kept_is)
+            (offer_as ty x now event (offered_reply told) new set (offer_ends (machine_of half) spot.spot row held i k.memory in_memory ty x now why told new set is) (offer_fits names i k (all.each i k here) held new set x now (event_time ty x event) told is))
 
     -- A TICK
 
-    pub tick_is : (now : ℕ) (told : Ticked) (new : List TailState) (now_kept : KnownRow) → TicksTo held k i now told new now_kept → StepsAt (Ticks i now) (ticked_reply told) new now_kept
+    pub tick_is : (now : ℕ) (told : Ticked) (new : List TailState) (now_kept : KnownRow) → TicksTo held k i now told new now_kept → StepsAt (Ticks i now) (ticked_reply told) (WouldTick i now half) new now_kept
     tick_is now told new now_kept ends =
         let did = tick_case held new k.memory ends.memory (is_running k.state) i now told ends.none ends.early ends.due in
         let e = tick_ends (machine_of half) spot.spot row held i k.memory in_memory now told new ends.memory did in
         let step : TickStep spot.spot now (machine_of half) (ticked_reply told) e.after = rw row_here e.ends in
-        subst (λ (w : KnownRow). StepsAt (Ticks i now) (ticked_reply told) new w) (sym ends.is)
-        (steps_by (Ticks i now) (ticked_reply told) new ends.memory (ticked_row (machine_of half) spot.spot row now) (λ so. (t : ℕ) × (so ≡ TickKept t)) e (λ who. ticks e.after i now spot.spot (ticked_reply told) spot.position_is step)
+        subst (λ (w : KnownRow). StepsAt (Ticks i now) (ticked_reply told) (WouldTick i now half) new w) (sym ends.is)
+        (steps_by (Ticks i now) (ticked_reply told) new ends.memory (ticked_row (machine_of half) spot.spot row now) (λ so. (t : ℕ) × (so ≡ TickKept t)) (WouldTick i now half) e (λ who. ticks e.after i now spot.spot (ticked_reply told) spot.position_is step)
+        (λ kept. record { place = spot.spot; here = spot.position_is; t = kept.0; keeps = rw row_here kept.1 })
         (tick_fits names i k (all.each i k here) held new ends.memory (is_running k.state) now told did))
 
   -- AN OFFER OR A TICK BY ITS SLOT
@@ -270,28 +275,28 @@ module _ (slots : List (Option KnownRow)) (held : List TailState) (names : Names
   slot_read i slot here = ap slot_in here
 
   pub offered_at : (i : ℕ) (name : List ℕ) (ty : PayloadType) (x : Sample) (now : ℕ) → IsEvent ty x → HasName slots i name → (slot : Option KnownRow) → slice_get slots i ≡ Some slot → (told : Offered) (new : List TailState) (now_slot : Option KnownRow)
-      → ((known : KnownRow) → slot ≡ Some known → (kept : KnownRow) × (now_slot ≡ Some kept) × OffersTo held known i ty x now told new kept) → Steps (Offers (Offer name ty x.t x.line now)) (offered_reply told) new (slice_set slots i now_slot)
+      → ((known : KnownRow) → slot ≡ Some known → (kept : KnownRow) × (now_slot ≡ Some kept) × OffersTo held known i ty x now told new kept) → Steps (Offers (Offer name ty x.t x.line now)) (offered_reply told) (WouldKeep name ty x now half) new (slice_set slots i now_slot)
   offered_at i name ty x now event has slot there told new now_slot ends =
       let end = ends has.row (sym (slot_read i slot there) ∙ has.here) in
       let steps = offer_is i has.row has.here ty x now event told new end.0 end.2 in
-      subst (λ (n : List ℕ). Steps (Offers (Offer n ty x.t x.line now)) (offered_reply told) new (slice_set slots i now_slot)) has.is
-      (subst (λ (w : Option KnownRow). Steps (Offers (Offer has.row.name ty x.t x.line now)) (offered_reply told) new (slice_set slots i w)) (sym end.1) steps)
+      subst (λ (n : List ℕ). Steps (Offers (Offer n ty x.t x.line now)) (offered_reply told) (WouldKeep n ty x now half) new (slice_set slots i now_slot)) has.is
+      (subst (λ (w : Option KnownRow). Steps (Offers (Offer has.row.name ty x.t x.line now)) (offered_reply told) (WouldKeep has.row.name ty x now half) new (slice_set slots i w)) (sym end.1) steps)
 
   pub ticked_at : (i now : ℕ) (slot : Option KnownRow) → slice_get slots i ≡ Some slot → (told : Ticked) (new : List TailState) (now_slot : Option KnownRow) → (slot ≡ None → (told ≡ answer.NoRow) × (new ≡ held) × (now_slot ≡ None))
-      → ((known : KnownRow) → slot ≡ Some known → (kept : KnownRow) × (now_slot ≡ Some kept) × TicksTo held known i now told new kept) → Steps (Ticks i now) (ticked_reply told) new (slice_set slots i now_slot)
+      → ((known : KnownRow) → slot ≡ Some known → (kept : KnownRow) × (now_slot ≡ Some kept) × TicksTo held known i now told new kept) → Steps (Ticks i now) (ticked_reply told) (WouldTick i now half) new (slice_set slots i now_slot)
   ticked_at i now slot there told new now_slot none ends = by_slot slot refl
     where
-      by_slot : (o : Option KnownRow) → slot ≡ o → Steps (Ticks i now) (ticked_reply told) new (slice_set slots i now_slot)
+      by_slot : (o : Option KnownRow) → slot ≡ o → Steps (Ticks i now) (ticked_reply told) (WouldTick i now half) new (slice_set slots i now_slot)
       by_slot None is =
           let end = none is in
           let same : slice_set slots i now_slot ≡ slots = ap (λ (w : Option KnownRow). slice_set slots i w) (end.2 ∙ sym is) ∙ set_same slots i slot there in
-          subst (λ (a : Ticked). Steps (Ticks i now) (ticked_reply a) new (slice_set slots i now_slot)) (sym end.0)
-          (subst (λ (ts : List TailState). Steps (Ticks i now) NoRow ts (slice_set slots i now_slot)) (sym end.1)
-          (subst (λ (w : List (Option KnownRow)). Steps (Ticks i now) NoRow held w) (sym same) (record { step = λ who. tick_none i now who (slot_read i slot there ∙ is); kept = all })))
+          subst (λ (a : Ticked). Steps (Ticks i now) (ticked_reply a) (WouldTick i now half) new (slice_set slots i now_slot)) (sym end.0)
+          (subst (λ (ts : List TailState). Steps (Ticks i now) NoRow (WouldTick i now half) ts (slice_set slots i now_slot)) (sym end.1)
+          (subst (λ (w : List (Option KnownRow)). Steps (Ticks i now) NoRow (WouldTick i now half) held w) (sym same) (record { step = λ who. tick_none i now who (slot_read i slot there ∙ is); kept = all; wants = λ told_is. absurd (cc (told_is)) })))
       by_slot (Some known) is =
           let end = ends known is in
           let steps = tick_is i known (slot_read i slot there ∙ is) now told new end.0 end.2 in
-          subst (λ (w : Option KnownRow). Steps (Ticks i now) (ticked_reply told) new (slice_set slots i w)) (sym end.1) steps
+          subst (λ (w : Option KnownRow). Steps (Ticks i now) (ticked_reply told) (WouldTick i now half) new (slice_set slots i w)) (sym end.1) steps
 
   -- no row has the name that isn't found
   pub not_found : (name : List ℕ) (found : Option ℕ) → ((i : ℕ) → number_of names name ≡ Some i → HasName slots i name → found ≡ Some i) → found ≡ None → (i : ℕ) (k : KnownRow) → slot_at slots i ≡ Some k → k.name ≢ name

@@ -3,7 +3,10 @@ use Rattle.std.specs.Prelude.{◌≡◌, ◌⊎◌, ◌≤◌, ◌<◌, ◌+◌,
 use Rattle.std.specs.declared.alloc.Global.{Global}
 use Rattle.std.specs.HashMap.{get_by}
 use Rattle.std.specs.Str.{bytes_eq}
+use Rattle.act_model.specs.Offer.{offered}
 use Rattle.act_model.specs.Rows.{is_running, number_of as number_of_type, period_of}
+use Rattle.act_model.specs.Tick.{ticked}
+use Rattle.act_model.specs.declared.acts.Answer.TheVariants as reply
 use Rattle.act_model.specs.declared.answers.Offered.{Offered}
 use Rattle.act_model.specs.declared.answers.Offered.TheVariants as offer
 use Rattle.act_model.specs.declared.answers.Ticked.{Ticked}
@@ -15,7 +18,7 @@ use Rattle.series_model.specs.Admission.{refused_by_row}
 use Rattle.series_model.specs.declared.admission.Reason.{Reason}
 use Rattle.series_model.specs.declared.admission.Standing.{Standing}
 use Rattle.series_model.specs.declared.sample.Sample.{Sample}
-use Rattle.two_histories.specs.ArchiveIntake.{IntakeRow}
+use Rattle.two_histories.specs.ArchiveIntake.{IntakeHalf, IntakeRow, machine_of, position}
 use Rattle.intake_half.specs.Memory.{cell_in, period_in}
 use Rattle.intake_half.specs.Trying.{IsOffered, IsTickedDue}
 use Rattle.intake_half.specs.declared.known.KnownRow.{KnownRow}
@@ -102,3 +105,16 @@ pub record TicksTo (old : List TailState) (row : KnownRow) (i now : ℕ) (told :
   pub none : (row.memory.scan ≡ None) ⊎ (is_running row.state ≡ false) → (told ≡ answer.TickNone) × (new ≡ old) × (memory ≡ row.memory)
   pub early : (sampled : SampledRow) → row.memory.scan ≡ Some sampled → is_running row.state ≡ true → now < sampled.cell.due → (told ≡ answer.NotDue sampled.cell.due) × (new ≡ old) × (memory ≡ row.memory)
   pub due : (sampled : SampledRow) → row.memory.scan ≡ Some sampled → is_running row.state ≡ true → sampled.cell.due ≤ now → IsTickedDue old row.memory sampled i now told new memory
+
+-- WHAT MEMORY IS WANTED FOR
+
+-- the sample would be kept
+abbrev pub WouldKeep : List ℕ → PayloadType → Sample → ℕ → IntakeHalf → Type 0
+WouldKeep name ty s now half = (offered (machine_of half) name ty s now).answer ≡ reply.Kept
+
+-- the sample that the row with this number holds would be kept
+pub record WouldTick (row now : ℕ) (half : IntakeHalf) : Type 0 where
+  pub place : ℕ
+  pub here : position row half.rows ≡ Some place
+  pub t : ℕ
+  pub keeps : (ticked (machine_of half) place now).answer ≡ reply.TickKept t

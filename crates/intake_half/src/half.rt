@@ -3,9 +3,10 @@ ghost use Rattle.std.specs.Prelude.{◌≡◌, ◌-◌, ◌≤◌, ◌<◌, ℕ,
 ghost use Rattle.act_model.specs.Asks.{offered_reply, ticked_reply};
 ghost use Rattle.act_model.specs.Event.{IsEvent};
 ghost use Rattle.act_model.specs.declared.acts.Act.TheVariants.{Offer as OfferAct};
+ghost use Rattle.act_model.specs.declared.acts.Answer.TheVariants.{Memory};
 ghost use Rattle.two_histories.specs.ArchiveIntake.{NamesAgree, known_as, look_at, taken};
 ghost use Rattle.two_histories.specs.IntakeStep.{IntakeStep, Offers, Ticks, LooksForBatch, Replies, SawBatch};
-ghost use Rattle.intake_half.specs.Known.{HasName, number_of, slot_at};
+ghost use Rattle.intake_half.specs.Known.{HasName, WouldKeep, WouldTick, number_of, slot_at};
 ghost use Rattle.intake_half.specs.Taking.{end_in};
 
 use crate::known::{KnownRow, offer_to, tick_in};
@@ -89,11 +90,12 @@ impl IntakeHalf {
     }
 
     /// Offers a sample to the row of this name: its line is an event of the type at its moment, escaped and without its
-    /// newline. It takes no memory but for the row's tail.
+    /// newline. It takes no memory but for the row's tail, and that only for a sample that is kept.
     pub fn offer(&mut self, name: &[u8], ty: PayloadType, sample: Sample, now: u64) -> Offered
         requires { IsEvent ty sample }
-        ensures { (who : ℕ) → IntakeStep who self.old (Offers (OfferAct name.now ty sample.t sample.line now))
+        ensures step { (who : ℕ) → IntakeStep who self.old (Offers (OfferAct name.now ty sample.t sample.line now))
             (Replies (offered_reply result)) self.new }
+        ensures wants { offered_reply result ≡ Memory → WouldKeep name.now ty sample now self.old }
     {
         match find(&self.slots, &self.names, name) {
             None => Offered::Dropped(Reason::Unknown),
@@ -108,9 +110,11 @@ impl IntakeHalf {
         }
     }
 
-    /// Tries what a sampled row holds, where its period is over. It takes no memory but for the row's tail.
+    /// Tries what a sampled row holds, where its period is over. It takes no memory but for the row's tail, and that
+    /// only for a sample that is kept.
     pub fn tick(&mut self, row: u32, now: u64) -> Ticked
-        ensures { (who : ℕ) → IntakeStep who self.old (Ticks row now) (Replies (ticked_reply result)) self.new }
+        ensures step { (who : ℕ) → IntakeStep who self.old (Ticks row now) (Replies (ticked_reply result)) self.new }
+        ensures wants { ticked_reply result ≡ Memory → WouldTick row now self.old }
     {
         let at = row as usize;
         if at >= self.slots.len() {

@@ -5,8 +5,8 @@ use Rattle.intake_half.proofs.Stepping.{tick_none, ticked_at}
 use Rattle.intake_half.proofs.Telling.{no_slot}
 use Rattle.intake_half.proofs.half.IntakeHalf.tick.Goals as goal
 
-pub returns-then-at-len : goal.returns-then-at-len
-returns-then-at-len c = rw (← c.self.view_is) (λ who.
+pub returns-then-at-len-clause-step : goal.returns-then-at-len-clause-step
+returns-then-at-len-clause-step c = rw (← c.self.view_is) (λ who.
     let past = no_slot c.self.inside.slots.items c.args.row (omega (arith, c.self.inside.slots.ok.0, c.len.ensures)) in
     tick_none c.self.inside.slots.items c.self.inside.intake c.self.inside.names c.self.inside.upto c.self.inside.doors c.self.invariant c.args.row c.args.now who past)
 
@@ -20,7 +20,12 @@ invariant_of-self c =
     let there = read_at c.self.inside.slots.items c.args.row c.index_mut.result.now c.index_mut.ensures.value (omega (arith, c.self.inside.slots.ok.0, c.len.ensures)) in
     (ticked_at c.self.inside.slots.items c.self.inside.intake c.self.inside.names c.self.inside.upto c.self.inside.doors c.self.invariant c.args.row c.args.now c.index_mut.result.now there c.tick_in.result c.tick_in.new.intake c.tick_in.new.slot c.tick_in.ensures.none c.tick_in.ensures.some).kept
 
-pub returns : goal.returns
-returns c = rw (← c.self.view_is) (λ who.
+pub returns-clause-step : goal.returns-clause-step
+returns-clause-step c = rw (← c.self.view_is) (λ who.
     let there = read_at c.self.inside.slots.items c.args.row c.index_mut.result.now c.index_mut.ensures.value (omega (arith, c.self.inside.slots.ok.0, c.len.ensures)) in
     (ticked_at c.self.inside.slots.items c.self.inside.intake c.self.inside.names c.self.inside.upto c.self.inside.doors c.self.invariant c.args.row c.args.now c.index_mut.result.now there c.tick_in.result c.tick_in.new.intake c.tick_in.new.slot c.tick_in.ensures.none c.tick_in.ensures.some).step who)
+
+pub returns-clause-wants : goal.returns-clause-wants
+returns-clause-wants c = rw (← c.self.view_is) (
+    let there = read_at c.self.inside.slots.items c.args.row c.index_mut.result.now c.index_mut.ensures.value (omega (arith, c.self.inside.slots.ok.0, c.len.ensures)) in
+    (ticked_at c.self.inside.slots.items c.self.inside.intake c.self.inside.names c.self.inside.upto c.self.inside.doors c.self.invariant c.args.row c.args.now c.index_mut.result.now there c.tick_in.result c.tick_in.new.intake c.tick_in.new.slot c.tick_in.ensures.none c.tick_in.ensures.some).wants)
