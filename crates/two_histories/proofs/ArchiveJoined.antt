@@ -77,6 +77,7 @@ module _ (s0 : StoreHalf) (i0 : IntakeHalf) where
     pub durable : (front : List StoreEntry) → IsPrefix front s → (r : ℕ) → IsPrefix (D front r) (durable_at m.rows r)
     pub rows : (front : List StoreEntry) → IsPrefix front s → (r : ℕ) (row : StoreRow) → slice_get (left_by s0 front).rows r ≡ Some row → (now : StoreRow) × (slice_get m.rows r ≡ Some now) × IsLater row now
     pub few : (r : ℕ) (row : StoreRow) → slice_get m.rows r ≡ Some row → row.changed ≤ length s
+    pub told : (front : List StoreEntry) → IsPrefix front s → (left_by s0 front).told ≡ true
 
   -- the row had this change number and this state once
   pub record WasAt (s : List StoreEntry) (r changed : ℕ) (state : State) : Type 0 where

@@ -234,6 +234,7 @@ module _ (m : Machine) (s : IsSound m) (t : m.told ≡ true) where
           durable = λ front p r. subst (λ w. IsPrefix (D s0 i0 w r) (durable_at s0.rows r)) (sym (nothing_before front p.0 p.1)) (prefix_same (durable_at s0.rows r));
           rows = λ front p r row here. (row, ap (λ w. slice_get (left_by s0 w).rows r) (sym (nothing_before front p.0 p.1)) ∙ here, record { about = refl; name = refl; up = omega arith; same = λ w. refl });
           few = λ r row there. let zero = first_number r row there in omega arith;
+          told = λ front p. subst (λ (w : List StoreEntry). (left_by s0 w).told ≡ true) (sym (nothing_before front p.0 p.1)) t;
         };
         changes = record {
           was = λ ahead p r k here. first_was r k (ap (λ w. known_at (left_by i0 w).rows r) (sym (nothing_before ahead p.0 p.1)) ∙ here);

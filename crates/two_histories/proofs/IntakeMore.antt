@@ -63,7 +63,7 @@ module _ (s0 : StoreHalf) (i0 : IntakeHalf) where
       let step = (l.one has.front (has.back ++ drop n s) has.entry cut).0 in
       let told = store_told step has.such.0 ends rows len has.such.1 in
       let after : has.entry.after ≡ left_by s0 (has.front ++ has.entry ∷ []) = sym (left_by_more s0 has.front has.entry) in
-      end_was s (has.front ++ has.entry ∷ []) i r (ends r) j (has.back ++ drop n s, cut ∙ sym (append_assoc has.front (has.entry ∷ []) (has.back ++ drop n s))) (told.0 r ∙ ap (λ (m : StoreHalf). end_of (durable_at m.rows r)) after)
+      end_was s (has.front ++ has.entry ∷ []) i r (ends r) j (has.back ++ drop n s, cut ∙ sym (append_assoc has.front (has.entry ∷ []) (has.back ++ drop n s))) (told.0 (j.grown.told has.front (has.entry ∷ (has.back ++ drop n s), cut)) r ∙ ap (λ (m : StoreHalf). end_of (durable_at m.rows r)) after)
 
   -- a row that a Take names is one of the store, and was so once
   pub record ToldRow (s : List StoreEntry) (reg : RegisteredRow) : Type 0 where

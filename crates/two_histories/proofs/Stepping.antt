@@ -24,7 +24,7 @@ use Rattle.act_model.proofs.StepSound.{step_sound}
 use Rattle.two_histories.specs.Store.{Lists}
 use Rattle.two_histories.specs.ArchiveIntake.{RowLook}
 use Rattle.two_histories.specs.ArchiveStore.{StoreHalf, StoreRow, RegisteredRow, durable_at, row_with, rows_with, with_end, with_ends, same_state, changed_at, left_row, left_rows, doubted, machine_of, store_of}
-use Rattle.two_histories.specs.StoreStep.{StorePart, Does, BeginsMove, Flushes, PinsAt, DescribesAt, RenamesAt, StoreAnswer, Stored, StoreStep, answer_of, PartRuns, MayAskStore, doors_of, OverTail, FlushesBatch, appends, seen_by, number_by, rename_refused_at}
+use Rattle.two_histories.specs.StoreStep.{StorePart, Does, BeginsMove, Flushes, PinsAt, DescribesAt, RenamesAt, StoreAnswer, Stored, StoreStep, answer_of, ends_by, PartRunsFrom, PartRuns, MayAskStore, doors_of, OverTail, FlushesBatch, appends, seen_by, number_by, rename_refused_at}
 use Rattle.two_histories.proofs.Batches.{BatchFits}
 use Rattle.two_histories.proofs.Closing.{IsClosed, is_base, may_be_base}
 use Rattle.two_histories.proofs.Durables.{durable_in, durable_is, in_rows_with, in_ended, in_left_rows}
@@ -358,8 +358,12 @@ part_did who n old (RenamesAt newname look) reply after ask ran s t fits =
     by_kind r (was_closed c) = was_closed_at c
     by_kind r (is_closed mid settles free found same) = has_new_name newname look refl (goes_on n old after newname look ran.0 r mid settles s t free found same)
 
+-- where files are told, the rows end as their samples tell
+told_runs : {who n : ℕ} {old new : StoreHalf} {part : StorePart} {answer : StoreAnswer} → (step : StoreStep who n old part answer new) → old.told ≡ true → PartRuns who (number_by n old.rows) part (machine_of (doors_of part) old) step.reply step.after
+told_runs {who} {n} {old} {part = part} step t = subst (λ (b : Bool). PartRunsFrom (ends_by b step.cut) who (number_by n old.rows) part (machine_of (doors_of part) old) step.reply step.after) t step.runs
+
 pub store_did : {who n : ℕ} {old new : StoreHalf} {part : StorePart} {answer : StoreAnswer} → StoreStep who n old part answer new → IsSound (machine_of 0 old) → old.told ≡ true → BatchFits (machine_of 0 old).rows old.doubt (batch_of_part part) → StoreDid n old part new (batch_of_part part)
-store_did {who} {n} {old} {part = part} step s t fits = subst (λ m. StoreDid n old part m (batch_of_part part)) (sym step.left) (part_did who n old part step.reply step.after step.asked step.runs s t fits)
+store_did {who} {n} {old} {part = part} step s t fits = subst (λ m. StoreDid n old part m (batch_of_part part)) (sym step.left) (part_did who n old part step.reply step.after step.asked (told_runs step t) s t fits)
 
 -- A FLUSH THAT IS DONE
 
@@ -369,10 +373,10 @@ record IsFlushed (reply : Reply) : Type 0 where
   doors : ℕ
   is : reply ≡ Flushed samples bytes doors
 
-is_flushed : (batch : List RowSamples) (upto left doors n : ℕ) (new : StoreHalf) (after : Machine) (reply told : Reply) (ends : ℕ → ℕ) (rows : List RegisteredRow) (len : ℕ)
-    → answer_of (Flushes batch upto left doors) n new after reply ≡ Stored told ends rows len → IsFlushed reply
-is_flushed batch upto left doors n new after (Flushed samples bytes doors_left) told ends rows len is = record { samples = samples; bytes = bytes; doors = doors_left; is = refl }
-is_flushed batch upto left doors n new after other told ends rows len is = absurd cc
+is_flushed : (batch : List RowSamples) (upto left doors n : ℕ) (by : ℕ → ℕ) (new : StoreHalf) (reply told : Reply) (ends : ℕ → ℕ) (rows : List RegisteredRow) (len : ℕ)
+    → answer_of (Flushes batch upto left doors) n by new reply ≡ Stored told ends rows len → IsFlushed reply
+is_flushed batch upto left doors n by new (Flushed samples bytes doors_left) told ends rows len is = record { samples = samples; bytes = bytes; doors = doors_left; is = refl }
+is_flushed batch upto left doors n by new other told ends rows len is = absurd cc
 
 pub flush_stored : {who n : ℕ} {old new : StoreHalf} {part : StorePart} {answer : StoreAnswer} → StoreStep who n old part answer new
     → (batch : List RowSamples) (upto left doors : ℕ) → part ≡ Flushes batch upto left doors
@@ -380,9 +384,9 @@ pub flush_stored : {who n : ℕ} {old new : StoreHalf} {part : StorePart} {answe
     → IsSound (machine_of 0 old) → old.told ≡ true → BatchFits (machine_of 0 old).rows old.doubt batch → HalfDone old new batch
 flush_stored {who} {n} {old} {new} step batch upto left doors part_is told ends rows len answer_is s t fits =
     let m = machine_of doors old in
-    let ran = subst (λ p. PartRuns who (number_by n old.rows) p (machine_of (doors_of p) old) step.reply step.after) part_is step.runs in
-    let stored : answer_of (Flushes batch upto left doors) n new step.after step.reply ≡ Stored told ends rows len =
-    sym (ap (λ p. answer_of p n new step.after step.reply) part_is) ∙ (sym step.answered ∙ answer_is) in
-    let one = is_flushed batch upto left doors n new step.after step.reply told ends rows len stored in
+    let ran = subst (λ p. PartRuns who (number_by n old.rows) p (machine_of (doors_of p) old) step.reply step.after) part_is (told_runs step t) in
+    let by : ℕ → ℕ = ends_by old.told step.ends step.after.rows in
+    let stored : answer_of (Flushes batch upto left doors) n by new step.reply ≡ Stored told ends rows len = sym (ap (λ p. answer_of p n by new step.reply) part_is) ∙ (sym step.answered ∙ answer_is) in
+    let one = is_flushed batch upto left doors n by new step.reply told ends rows len stored in
     let done = flush_done batch left doors {old = m} {new = step.after} s t (has_tails doors old) fits ran one.samples one.bytes one.doors one.is in
     subst (λ k. HalfDone old k batch) (sym step.left) (done_half n doors old step.after batch done)

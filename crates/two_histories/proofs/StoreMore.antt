@@ -1,5 +1,5 @@
 -- An entry of the store keeps what the two histories have to say to one another.
-use Rattle.std.proofs.Common.{◌≡◌, ℕ, ◌+◌, ◌≤◌, List, [], ◌∷◌, ◌++◌, length, take, drop, Option, Some, None, false, refl, ap, sym, ◌∙◌, subst, arith, inl, inr, append-nil, length-append}
+use Rattle.std.proofs.Common.{◌≡◌, ℕ, ◌+◌, ◌≤◌, List, [], ◌∷◌, ◌++◌, length, take, drop, Option, Some, None, true, false, refl, ap, sym, ◌∙◌, subst, arith, inl, inr, append-nil, length-append}
 use Rattle.std.specs.Prelude.{◌⊎◌, slice_get}
 use Rattle.std.specs.List.{AllByRecursion}
 use Rattle.std.proofs.lemmas.Option.{same_Some}
@@ -232,6 +232,10 @@ module _ (s0 : StoreHalf) (i0 : IntakeHalf) where
     by_durable front r (shorter rest is) = prefix_through (D s0 i0 front r) (D s0 i0 s r) (durable_at e.after.rows r) (j.grown.durable front (rest, is) r) (left.up r)
     by_durable front r (whole is) = prefix_of (D s0 i0 front r) (durable_at e.after.rows r) (ap (λ w. D s0 i0 w r) is ∙ ap (λ (m : StoreHalf). durable_at m.rows r) (sym is_left))
 
+    by_told : (front : List StoreEntry) → FrontOfMore s e front → (left_by s0 front).told ≡ true
+    by_told front (shorter rest is) = j.grown.told front (rest, is)
+    by_told front (whole is) = ap (λ (w : List StoreEntry). (left_by s0 w).told) is ∙ (ap (λ (m : StoreHalf). m.told) (sym is_left) ∙ step.told)
+
     follows : (row mid last : StoreRow) → IsLater s0 i0 row mid → mid.changed ≤ length s → Follows (length s + 1) mid last → IsLater s0 i0 row last
     follows row mid last later few f = by_number f.number
       where
@@ -314,6 +318,7 @@ module _ (s0 : StoreHalf) (i0 : IntakeHalf) where
             durable = λ front p r. by_durable front r (front_of_more s e front p.0 p.1);
             rows = λ front p r row here. by_rows front r row here (front_of_more s e front p.0 p.1);
             few = λ r row there. few r row (step.numbers r row there);
+            told = λ front p. by_told front (front_of_more s e front p.0 p.1);
           });
           changes = subst (λ m. KnowsChanges s0 i0 m all i) is_left (record {
             was = λ ahead p r k here. was_more s0 i0 s e r k.changed k.state (j.changes.was ahead p r k here);

@@ -9,34 +9,37 @@ use Rattle.act_model.specs.Reply.{Reply}
 use Rattle.two_histories.specs.ArchiveIntake.{IntakeHalf, RowLook, look_at, known_as, machine_of, batch_of, bytes_in}
 use Rattle.two_histories.specs.IntakeStep.{IntakePart, LooksAt, IntakeAnswer, SawBatch, SawRow, IntakeStep, offers, ticks, no_row, sees_doors, sees_batch, sees_row, takes, takes_flush}
 use Rattle.two_histories.specs.ArchiveStore.{StoreHalf, StoreRow, RegisteredRow, registered, changed_since, durable_at}
-use Rattle.two_histories.specs.StoreStep.{StorePart, Does, BeginsMove, Flushes, PinsAt, DescribesAt, RenamesAt, StoreAnswer, Stored, StoreStep, answer_of, ends_in}
+use Rattle.two_histories.specs.StoreStep.{StorePart, Does, BeginsMove, Flushes, PinsAt, DescribesAt, RenamesAt, StoreAnswer, Stored, StoreStep, answer_of, ends_in, ends_by}
 use Rattle.two_histories.proofs.Batches.{ends_are}
 use Rattle.two_histories.proofs.Durables.{in_left_rows}
 
 -- what a flush that is done tells
-pub record FlushTold (part : StorePart) (new : StoreHalf) (after : Machine) (ends : ℕ → ℕ) (rows : List RegisteredRow) : Type 0 where
+pub record FlushTold (new : StoreHalf) (by ends : ℕ → ℕ) (rows : List RegisteredRow) : Type 0 where
   pub upto : ℕ
-  pub ends_is : ends ≡ ends_in after.rows
+  pub ends_is : ends ≡ by
   pub rows_is : rows ≡ changed_since upto 0 new.rows
 
-told_flush : (n : ℕ) (batch : List RowSamples) (upto left doors : ℕ) (new : StoreHalf) (after : Machine) (reply : Reply) (told : Reply) (ends : ℕ → ℕ) (rows : List RegisteredRow) (len : ℕ) → answer_of (Flushes batch upto left doors) n new after reply ≡ Stored told ends rows len → FlushTold (Flushes batch upto left doors) new after ends rows
-told_flush n batch upto left doors new after (Flushed samples bytes doors_left) told ends rows len is =
-    record { upto = upto; ends_is = (let same : ends_in after.rows ≡ ends = cc in sym same); rows_is = (let same : changed_since upto 0 new.rows ≡ rows = cc in sym same) }
-told_flush n batch upto left doors new after other told ends rows len is = absurd cc
+told_flush : (n : ℕ) (batch : List RowSamples) (upto left doors : ℕ) (by : ℕ → ℕ) (new : StoreHalf) (reply : Reply) (told : Reply) (ends : ℕ → ℕ) (rows : List RegisteredRow) (len : ℕ) → answer_of (Flushes batch upto left doors) n by new reply ≡ Stored told ends rows len → FlushTold new by ends rows
+told_flush n batch upto left doors by new (Flushed samples bytes doors_left) told ends rows len is =
+    record { upto = upto; ends_is = (let same : by ≡ ends = cc in sym same); rows_is = (let same : changed_since upto 0 new.rows ≡ rows = cc in sym same) }
+told_flush n batch upto left doors by new other told ends rows len is = absurd cc
 
-told_by : (n : ℕ) (part : StorePart) (new : StoreHalf) (after : Machine) (reply : Reply) (told : Reply) (ends : ℕ → ℕ) (rows : List RegisteredRow) (len : ℕ) → answer_of part n new after reply ≡ Stored told ends rows len → FlushTold part new after ends rows
-told_by n (Does act) new after reply told ends rows len is = absurd cc
-told_by n (BeginsMove store now doors) new after reply told ends rows len is = absurd cc
-told_by n (Flushes batch upto left doors) new after reply told ends rows len is = told_flush n batch upto left doors new after reply told ends rows len is
-told_by n (PinsAt query look) new after reply told ends rows len is = absurd cc
-told_by n (DescribesAt look) new after reply told ends rows len is = absurd cc
-told_by n (RenamesAt newname look) new after reply told ends rows len is = absurd cc
+told_by : (n : ℕ) (part : StorePart) (by : ℕ → ℕ) (new : StoreHalf) (reply : Reply) (told : Reply) (ends : ℕ → ℕ) (rows : List RegisteredRow) (len : ℕ) → answer_of part n by new reply ≡ Stored told ends rows len → FlushTold new by ends rows
+told_by n (Does act) by new reply told ends rows len is = absurd cc
+told_by n (BeginsMove store now doors) by new reply told ends rows len is = absurd cc
+told_by n (Flushes batch upto left doors) by new reply told ends rows len is = told_flush n batch upto left doors by new reply told ends rows len is
+told_by n (PinsAt query look) by new reply told ends rows len is = absurd cc
+told_by n (DescribesAt look) by new reply told ends rows len is = absurd cc
+told_by n (RenamesAt newname look) by new reply told ends rows len is = absurd cc
 
+-- the rows that are told, and where files are told also where each row ends
 pub store_told : {who n : ℕ} {old new : StoreHalf} {part : StorePart} {answer : StoreAnswer} → StoreStep who n old part answer new → (told : Reply) (ends : ℕ → ℕ) (rows : List RegisteredRow) (len : ℕ) → answer ≡ Stored told ends rows len
-    → ((i : ℕ) → ends i ≡ end_of (durable_at new.rows i)) × ((upto : ℕ) × (rows ≡ changed_since upto 0 new.rows))
+    → (old.told ≡ true → (i : ℕ) → ends i ≡ end_of (durable_at new.rows i)) × ((upto : ℕ) × (rows ≡ changed_since upto 0 new.rows))
 store_told {n = n} {old = old} {new = new} {part = part} step told ends rows len is =
-    let t = told_by n part new step.after step.reply told ends rows len (sym step.answered ∙ is) in (
-      λ i. ap (λ (f : ℕ → ℕ). f i) t.ends_is ∙ (ends_are step.after.rows i ∙ ap end_of (sym (in_left_rows n old.rows 0 step.after.rows i) ∙ ap (λ (m : StoreHalf). durable_at m.rows i) (sym step.left))),
+    let t = told_by n part (ends_by old.told step.ends step.after.rows) new step.reply told ends rows len (sym step.answered ∙ is) in (
+      λ files i.
+          let own : ends ≡ ends_in step.after.rows = t.ends_is ∙ ap (λ (b : Bool). ends_by b step.ends step.after.rows) files in
+          ap (λ (f : ℕ → ℕ). f i) own ∙ (ends_are step.after.rows i ∙ ap end_of (sym (in_left_rows n old.rows 0 step.after.rows i) ∙ ap (λ (m : StoreHalf). durable_at m.rows i) (sym step.left))),
       (t.upto, t.rows_is),
     )
 

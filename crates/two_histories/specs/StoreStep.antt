@@ -1,6 +1,6 @@
 -- The store's parts of acts, and its steps. An act that carries no samples is the machine's. A flush, a pin, the details of a variable and
 -- its new name carry what a Look of the intake answered, and are the machine's over that.
-use Rattle.std.specs.Prelude.{◌≡◌, ℕ, ◌-◌, ◌&&◌, List, [], ◌∷◌, ◌++◌, length, true, Option, Some, None, if◌then◌else◌, nat_le, slice_get}
+use Rattle.std.specs.Prelude.{◌≡◌, ℕ, ◌-◌, ◌&&◌, List, [], ◌∷◌, ◌++◌, length, Bool, true, false, Option, Some, None, if◌then◌else◌, nat_le, slice_get}
 use Rattle.series_model.specs.declared.batch.RowSamples.{RowSamples}
 use Rattle.series_model.specs.declared.sample.Query.{Query}
 use Rattle.series_model.specs.declared.sample.Sample.{Sample}
@@ -96,23 +96,37 @@ ends_in rows i = of (slice_get rows i)
     of None = 0
     of (Some row) = end_of (durable row)
 
--- what a flush of a batch appends
+-- where rows end: as their samples tell, or where files aren't told as these numbers do
+abbrev pub ends_by : Bool → (ℕ → ℕ) → List RowState → ℕ → ℕ
+ends_by true kept rows = ends_in rows
+ends_by false kept rows = kept
+
+-- what a flush of a batch appends, where rows end so
+abbrev pub appends_from : (List RowState → ℕ → ℕ) → List RowSamples → Machine → Change
+appends_from ends batch m = Appends (later_than (ends m.rows) batch)
+
 abbrev pub appends : List RowSamples → Machine → Change
-appends batch m = Appends (later_than (ends_in m.rows) batch)
+appends batch m = appends_from ends_in batch m
 
 -- the rows with a batch's samples as tails
 abbrev pub tailed : List RowSamples → List RowState → List RowState
 tailed batch rows = each (λ i row. record row { tail = of_row i batch }) 0 rows
 
 -- the machine whose tails are the batch's samples that are later than each row's last
+abbrev pub with_batch_from : (List RowState → ℕ → ℕ) → List RowSamples → Machine → Machine
+with_batch_from ends batch m = record m { rows = with_ends (tailed (later_than (ends m.rows) batch) m.rows) }
+
 abbrev pub with_batch : List RowSamples → Machine → Machine
-with_batch batch m = record m { rows = with_ends (tailed (later_than (ends_in m.rows) batch) m.rows) }
+with_batch batch m = with_batch_from ends_in batch m
 
 -- these samples are appended, as the machine flushes tails, and their number is told
+abbrev pub FlushesFrom : (List RowState → ℕ → ℕ) → List RowSamples → ℕ → ℕ → Machine → Reply → Machine → Type 0
+FlushesFrom ends batch left doors mid reply new =
+    ((samples : ℕ) × (mid.told ≡ true → samples ≡ count_in (later_than (ends mid.rows) batch)) × (reply ≡ Flushed samples left doors))
+    × Makes (appends_from ends batch mid) (with_batch_from ends batch mid) new
+
 abbrev pub FlushesBatch : List RowSamples → ℕ → ℕ → Machine → Reply → Machine → Type 0
-FlushesBatch batch left doors mid reply new =
-    ((samples : ℕ) × (mid.told ≡ true → samples ≡ count_in (later_than (ends_in mid.rows) batch)) × (reply ≡ Flushed samples left doors))
-    × Makes (appends batch mid) (with_batch batch mid) new
+FlushesBatch batch left doors = FlushesFrom ends_in batch left doors
 
 -- a part over the row's tail, which it doesn't change
 abbrev pub OverTail : RowLook → (Machine → Reply → Machine → Type 0) → Machine → Reply → Machine → Type 0
@@ -172,14 +186,18 @@ RenamesBy number newname look old reply new =
 
 -- STEPS
 
--- How a part leads from one machine to another, asked under this number, where a row in a state has this change number.
+-- How a part leads from one machine to another, asked under this number, where rows end so and a row in a state has this change number.
+abbrev pub PartRunsFrom : (List RowState → ℕ → ℕ) → ℕ → (ℕ → State → ℕ) → StorePart → Machine → Reply → Machine → Type 0
+PartRunsFrom ends who number (Does act) = Step who act
+PartRunsFrom ends who number (BeginsMove store now doors) = Step who (MoveBegin store now)
+PartRunsFrom ends who number (Flushes batch upto left doors) = Acts (λ m. None) (FlushesFrom ends batch left doors) (λ m. Some (appends_from ends batch m)) all_go
+PartRunsFrom ends who number (PinsAt query look) = Acts (details_refused look.name) (OverTail look (MakesPin who look.name query)) (λ m. None) all_go
+PartRunsFrom ends who number (DescribesAt look) = Acts (details_refused look.name) (OverTail look (Describes look.name)) (λ m. None) all_go
+PartRunsFrom ends who number (RenamesAt newname look) = RenamesBy number newname look
+
+-- where rows end as their samples tell
 abbrev pub PartRuns : ℕ → (ℕ → State → ℕ) → StorePart → Machine → Reply → Machine → Type 0
-PartRuns who number (Does act) = Step who act
-PartRuns who number (BeginsMove store now doors) = Step who (MoveBegin store now)
-PartRuns who number (Flushes batch upto left doors) = Acts (λ m. None) (FlushesBatch batch left doors) (λ m. Some (appends batch m)) all_go
-PartRuns who number (PinsAt query look) = Acts (details_refused look.name) (OverTail look (MakesPin who look.name query)) (λ m. None) all_go
-PartRuns who number (DescribesAt look) = Acts (details_refused look.name) (OverTail look (Describes look.name)) (λ m. None) all_go
-PartRuns who number (RenamesAt newname look) = RenamesBy number newname look
+PartRuns who number part = PartRunsFrom ends_in who number part
 
 -- the open doors that a part tells
 abbrev pub doors_of : StorePart → ℕ
@@ -199,17 +217,19 @@ MayAskStore (PinsAt query look) = Unit {0}
 MayAskStore (DescribesAt look) = Unit {0}
 MayAskStore (RenamesAt newname look) = Unit {0}
 
--- the answer with which the history has the length n and the half is so
-abbrev pub answer_of : StorePart → ℕ → StoreHalf → Machine → Reply → StoreAnswer
-answer_of (Flushes batch upto left doors) n new after (Flushed samples bytes doors_left) =
-    Stored (Flushed samples bytes doors_left) (ends_in after.rows) (changed_since upto 0 new.rows) n
-answer_of part n new after reply = Replies reply
+-- the answer with which the history has the length n, rows end so and the half is so
+abbrev pub answer_of : StorePart → ℕ → (ℕ → ℕ) → StoreHalf → Reply → StoreAnswer
+answer_of (Flushes batch upto left doors) n ends new (Flushed samples bytes doors_left) = Stored (Flushed samples bytes doors_left) ends (changed_since upto 0 new.rows) n
+answer_of part n ends new reply = Replies reply
 
--- A step of the store, with which its history has the length n.
+-- A step of the store, with which its history has the length n. Where files aren't told, it goes by ends of its own: `cut` is what a batch is cut
+-- by, and `ends` what is told.
 pub record StoreStep (who n : ℕ) (old : StoreHalf) (part : StorePart) (answer : StoreAnswer) (new : StoreHalf) : Type 0 where
   pub asked : MayAskStore part
   pub reply : Reply
   pub after : Machine
-  pub runs : PartRuns who (number_by n old.rows) part (machine_of (doors_of part) old) reply after
+  pub cut : ℕ → ℕ
+  pub ends : ℕ → ℕ
+  pub runs : PartRunsFrom (ends_by old.told cut) who (number_by n old.rows) part (machine_of (doors_of part) old) reply after
   pub left : new ≡ store_of n old after
-  pub answered : answer ≡ answer_of part n new after reply
+  pub answered : answer ≡ answer_of part n (ends_by old.told ends after.rows) new reply
