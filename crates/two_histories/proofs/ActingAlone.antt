@@ -26,7 +26,7 @@ use Rattle.two_histories.specs.ArchiveHistories.{IsIntakeOf, first_row, first_ro
 use Rattle.two_histories.specs.ArchiveIntake.{IntakeHalf, IntakeRow, as_row, intake_of, kept_row, kept_rows, machine_of, position}
 use Rattle.two_histories.specs.ArchiveLaws.{IntakeActsAlone, StepsTo, act_of}
 use Rattle.two_histories.specs.ArchiveStore.{StoreRow, left_row, left_rows}
-use Rattle.two_histories.specs.IntakeStep.{IntakeAnswer, IntakePart, IntakeStep, IsOfIntake, Replies, offers, ticks, no_row, sees_doors, sees_batch, sees_row, takes, takes_flush}
+use Rattle.two_histories.specs.IntakeStep.{IntakeAnswer, IntakePart, IntakeStep, IsOfIntake, Replies, offers, ticks, no_row, sees_doors, sees_batch, sees_row, takes, takes_flush, TakesMemory, lacks_memory, Offers, Ticks, LooksForDoors, LooksForBatch, LooksAt, Takes, TakesFlush}
 
 -- ROWS
 
@@ -362,6 +362,16 @@ module _ (who : ℕ) (m : Machine) (old : IntakeHalf) (of : IsIntakeOf m old) wh
       let gone : slice_get m.rows row ≡ None = position_none row row 0 old.rows m.rows of.rows (omega arith) none in
       record { after = m; step = rw gone (inl (refl, refl)); intake = of; store = refl }
 
+-- a part that takes memory is no act
+no_act : (part : IntakePart) → TakesMemory part → (act : Act) → act_of part ≡ Some act → ⊥
+no_act (Offers other) a act is = a
+no_act (Ticks row now) a act is = a
+no_act LooksForDoors a act is = a
+no_act (LooksForBatch limit) a act is = cc
+no_act (LooksAt name) a act is = cc
+no_act (Takes ends rows) a act is = cc
+no_act (TakesFlush len ends rows) a act is = cc
+
 alone : {who : ℕ} {old new : IntakeHalf} {part : IntakePart} {answer : IntakeAnswer} → IntakeStep who old part answer new → (m : Machine) (act : Act) (reply : Reply) → IsIntakeOf m old → act_of part ≡ Some act → answer ≡ Replies reply → StepsTo who act m reply new
 alone {who} {old} (offers after asked told is may step) m act reply of act_is told_is =
     let same : asked ≡ act = same_Some asked act act_is in
@@ -383,6 +393,7 @@ alone (sees_batch limit most) m act reply of act_is told_is = absurd (cc (act_is
 alone (sees_row name) m act reply of act_is told_is = absurd (cc (act_is))
 alone (takes ends rows) m act reply of act_is told_is = absurd (cc (act_is))
 alone (takes_flush len ends rows) m act reply of act_is told_is = absurd (cc (act_is))
+alone (lacks_memory part a) m act reply of act_is told_is = absurd (no_act part a act act_is)
 
 pub intake_acts_alone : IntakeActsAlone
 intake_acts_alone who m old new part act reply of act_is step = alone step m act reply of act_is refl

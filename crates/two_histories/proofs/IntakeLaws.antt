@@ -14,7 +14,7 @@ use Rattle.act_model.specs.Rows.{RowState, is_running}
 use Rattle.act_model.specs.Step.{Step, MayAsk}
 use Rattle.two_histories.specs.Store.{Lists}
 use Rattle.two_histories.specs.ArchiveIntake.{IntakeRow, IntakeHalf, known_at, tail_at, as_row, machine_of, kept_row, kept_rows, intake_of, trimmed, with_rows, taken}
-use Rattle.two_histories.specs.IntakeStep.{IntakePart, Offers, Ticks, LooksForDoors, LooksForBatch, LooksAt, Takes, TakesFlush, IntakeAnswer, IsOfIntake, IntakeStep, told_rows, offers, ticks, no_row, sees_doors, sees_batch, sees_row, takes, takes_flush}
+use Rattle.two_histories.specs.IntakeStep.{IntakePart, Offers, Ticks, LooksForDoors, LooksForBatch, LooksAt, Takes, TakesFlush, IntakeAnswer, IsOfIntake, IntakeStep, told_rows, offers, ticks, no_row, sees_doors, sees_batch, sees_row, takes, takes_flush, TakesMemory, lacks_memory}
 use Rattle.two_histories.specs.ArchiveStore.{RegisteredRow}
 use Rattle.two_histories.specs.ArchiveHistories.{added}
 use Rattle.two_histories.proofs.Gaining.{same_row, one_more, Gains, Fits, gains_none, offered_gains, ticked_gains}
@@ -177,8 +177,8 @@ module _ (old : IntakeHalf) (after : Machine) (accepted : Lists) (s : IntakeSoun
 
 -- NOTHING
 
-pub nothing_did : (old : IntakeHalf) (accepted : Lists) → IntakeSound old accepted → IntakeDid [] (λ r. 0) old old accepted (λ r. accepted r ++ [])
-nothing_did old accepted s =
+nothing_did : (rows : List RegisteredRow) (ends : ℕ → ℕ) (old : IntakeHalf) (accepted : Lists) → IntakeSound old accepted → IntakeDid rows ends old old accepted (λ r. accepted r ++ [])
+nothing_did rows ends old accepted s =
     record {
       sound = record {
         up = s.up;
@@ -325,13 +325,24 @@ no_tick old accepted s =
       idle = λ r k here down. all r;
     }
 
+-- nothing was done for want of memory
+no_memory : (part : IntakePart) → TakesMemory part → (old : IntakeHalf) (accepted : Lists) → IntakeSound old accepted → IntakeDid (told_rows part) (λ r. trims part r) old old accepted (λ r. accepted r ++ added part old old r)
+no_memory (Offers act) a old accepted s = absurd a
+no_memory (Ticks row now) a old accepted s = absurd a
+no_memory LooksForDoors a old accepted s = absurd a
+no_memory (LooksForBatch limit) a old accepted s = nothing_did [] (λ r. 0) old accepted s
+no_memory (LooksAt name) a old accepted s = nothing_did [] (λ r. 0) old accepted s
+no_memory (Takes ends rows) a old accepted s = nothing_did rows ends old accepted s
+no_memory (TakesFlush len ends rows) a old accepted s = nothing_did rows ends old accepted s
+
 pub intake_did : {who : ℕ} {old new : IntakeHalf} {part : IntakePart} {answer : IntakeAnswer} → IntakeStep who old part answer new → (accepted : Lists) → IntakeSound old accepted
     → IntakeDid (told_rows part) (λ r. trims part r) old new accepted (λ r. accepted r ++ added part old new r)
 intake_did {who} {old} (offers after act reply is ask step) accepted s = gains_did old after accepted s (act_gains who act (machine_of old) after reply is ask (fits_of old accepted s) step)
 intake_did {who} {old} (ticks after row now i reply here step) accepted s = gains_did old after accepted s (tick_gains who i now (machine_of old) after reply (fits_of old accepted s) step)
 intake_did {old = old} (no_row row now none) accepted s = no_tick old accepted s
-intake_did {old = old} sees_doors accepted s = nothing_did old accepted s
-intake_did {old = old} (sees_batch limit most) accepted s = nothing_did old accepted s
-intake_did {old = old} (sees_row name) accepted s = nothing_did old accepted s
+intake_did {old = old} sees_doors accepted s = nothing_did [] (λ r. 0) old accepted s
+intake_did {old = old} (sees_batch limit most) accepted s = nothing_did [] (λ r. 0) old accepted s
+intake_did {old = old} (sees_row name) accepted s = nothing_did [] (λ r. 0) old accepted s
 intake_did {old = old} (takes ends rows) accepted s = taken_did old ends rows accepted s old.upto
 intake_did {old = old} (takes_flush len ends rows) accepted s = taken_did old ends rows accepted s (max old.upto len)
+intake_did {old = old} (lacks_memory part a) accepted s = no_memory part a old accepted s

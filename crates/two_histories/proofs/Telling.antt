@@ -7,7 +7,7 @@ use Rattle.act_model.specs.declared.acts.Answer.TheVariants.{Flushed}
 use Rattle.act_model.specs.Machine.{Machine, held_bytes}
 use Rattle.act_model.specs.Reply.{Reply}
 use Rattle.two_histories.specs.ArchiveIntake.{IntakeHalf, RowLook, look_at, known_as, machine_of, batch_of, bytes_in}
-use Rattle.two_histories.specs.IntakeStep.{IntakePart, LooksAt, IntakeAnswer, SawBatch, SawRow, IntakeStep, offers, ticks, no_row, sees_doors, sees_batch, sees_row, takes, takes_flush}
+use Rattle.two_histories.specs.IntakeStep.{IntakePart, LooksAt, IntakeAnswer, SawBatch, SawRow, IntakeStep, offers, ticks, no_row, sees_doors, sees_batch, sees_row, takes, takes_flush, lacks_memory}
 use Rattle.two_histories.specs.ArchiveStore.{StoreHalf, StoreRow, RegisteredRow, registered, changed_since, durable_at}
 use Rattle.two_histories.specs.StoreStep.{StorePart, Does, BeginsMove, Flushes, PinsAt, DescribesAt, RenamesAt, StoreAnswer, Stored, StoreStep, answer_of, ends_in, ends_by}
 use Rattle.two_histories.proofs.Batches.{ends_are}
@@ -76,6 +76,7 @@ look_told {old = old} (sees_row other) name doors look part is =
     let same : other ≡ name = cc in let told : look_at other (known_as old.rows other) ≡ look = cc in sym told ∙ ap (λ w. look_at w (known_as old.rows w)) same
 look_told (takes ends rows) name doors look part is = absurd cc
 look_told (takes_flush len ends rows) name doors look part is = absurd cc
+look_told (lacks_memory other a) name doors look part is = absurd cc
 
 pub batch_told : {who : ℕ} {old new : IntakeHalf} {part : IntakePart} {answer : IntakeAnswer} → IntakeStep who old part answer new → (doors : ℕ) (batch : List RowSamples) (left upto : ℕ) → answer ≡ SawBatch doors batch left upto → BatchTold old batch left
 batch_told (offers after act reply a b c) doors batch left upto is = absurd cc
@@ -87,3 +88,4 @@ batch_told {old = old} (sees_batch limit a) doors batch left upto is =
 batch_told (sees_row name) doors batch left upto is = absurd cc
 batch_told (takes ends rows) doors batch left upto is = absurd cc
 batch_told (takes_flush len ends rows) doors batch left upto is = absurd cc
+batch_told (lacks_memory other a) doors batch left upto is = absurd cc

@@ -4,7 +4,7 @@ use Rattle.std.specs.Prelude.{◌≡◌, ℕ, ◌-◌, ◌≤◌, List, [], max,
 use Rattle.series_model.specs.declared.batch.RowSamples.{RowSamples}
 use Rattle.act_model.specs.declared.acts.Act.TheVariants.{Offer, Tick, Doors, DoorDone}
 use Rattle.act_model.specs.declared.acts.Act.{Act}
-use Rattle.act_model.specs.declared.acts.Answer.TheVariants.{NoRow}
+use Rattle.act_model.specs.declared.acts.Answer.TheVariants.{NoRow, Memory}
 use Rattle.act_model.specs.Machine.{Machine, held_bytes}
 use Rattle.act_model.specs.Reply.{Reply}
 use Rattle.act_model.specs.Step.{Step, MayAsk}
@@ -50,6 +50,16 @@ IsOfIntake Doors = Unit {0}
 IsOfIntake DoorDone = Unit {0}
 IsOfIntake act = ⊥
 
+-- the parts that take memory of their own
+abbrev pub TakesMemory : IntakePart → Type 0
+TakesMemory (Offers act) = ⊥
+TakesMemory (Ticks row now) = ⊥
+TakesMemory LooksForDoors = ⊥
+TakesMemory (LooksForBatch limit) = Unit {0}
+TakesMemory (LooksAt name) = Unit {0}
+TakesMemory (Takes ends rows) = Unit {0}
+TakesMemory (TakesFlush len ends rows) = Unit {0}
+
 -- One step, asked under this number. A tick is of the row with the number, wherever that stands.
 pub data IntakeStep (who : ℕ) : IntakeHalf → IntakePart → IntakeAnswer → IntakeHalf → Type 0 where
   offers : {old : IntakeHalf} (after : Machine) (act : Act) (reply : Reply) → IsOfIntake act → MayAsk act → Step who act (machine_of old) reply after
@@ -65,3 +75,4 @@ pub data IntakeStep (who : ℕ) : IntakeHalf → IntakePart → IntakeAnswer →
   takes : {old : IntakeHalf} (ends : ℕ → ℕ) (rows : List RegisteredRow) → IntakeStep who old (Takes ends rows) Took (taken ends rows old)
   takes_flush : {old : IntakeHalf} (len : ℕ) (ends : ℕ → ℕ) (rows : List RegisteredRow)
       → IntakeStep who old (TakesFlush len ends rows) Took (record (taken ends rows old) { upto = max old.upto len })
+  lacks_memory : {old : IntakeHalf} (part : IntakePart) → TakesMemory part → IntakeStep who old part (Replies Memory) old
