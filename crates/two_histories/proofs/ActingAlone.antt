@@ -22,7 +22,7 @@ use Rattle.act_model.specs.Reply.{Reply}
 use Rattle.act_model.specs.Rows.{RowState, number_of, standing, is_running, period_of, size_of}
 use Rattle.act_model.specs.Step.{Step}
 use Rattle.act_model.specs.Tick.{moved_on, ticked_due, ticked}
-use Rattle.two_histories.specs.ArchiveHistories.{IsIntakeOf, first_row, first_rows, store_first, unnumbered}
+use Rattle.two_histories.specs.ArchiveHistories.{IsIntakeOf, first_row, first_rows, intake_first, store_first, unnumbered}
 use Rattle.two_histories.specs.ArchiveIntake.{IntakeHalf, IntakeRow, as_row, intake_of, kept_row, kept_rows, machine_of, position}
 use Rattle.two_histories.specs.ArchiveLaws.{IntakeActsAlone, StepsTo, act_of}
 use Rattle.two_histories.specs.ArchiveStore.{StoreRow, left_row, left_rows}
@@ -300,6 +300,14 @@ module _ (s m : Machine) (bares : s.rows ≡ map bare m.rows) (doors : s.doors �
   led (sets told i f plain through) reply after (inr p) = led_same (record { answer = told; after = with_rows m (at i f) }) reply after (inr (p.0, refl)) p.1
 
 -- THE INTAKE OF A STATE
+
+first_numbers : (j : ℕ) (rows : List RowState) → map unnumbered (first_rows j rows) ≡ first_rows j rows
+first_numbers j [] = refl
+first_numbers j (row ∷ rows) = ap (λ (ks : List IntakeRow). first_row j row ∷ ks) (first_numbers (j + 1) rows)
+
+-- the one with which the histories begin
+pub intake_begins : (m : Machine) → IsIntakeOf m (intake_first m)
+intake_begins m = record { rows = first_numbers 0 m.rows; doors = refl }
 
 module _ (who : ℕ) (m : Machine) (old : IntakeHalf) (of : IsIntakeOf m old) where
   abbrev s : Machine

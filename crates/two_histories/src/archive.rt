@@ -1,4 +1,6 @@
 // Of the machine that an archive is.
+ghost use Rattle.act_model.specs.Machine.{Machine};
+ghost use Rattle.two_histories.specs.ArchiveHistories.{IsIntakeOf, intake_first};
 ghost use Rattle.two_histories.specs.ArchiveLaws.{StoreStaysSound, NothingIsLost, BasesAreDurable};
 ghost use Rattle.two_histories.specs.ArchiveLaws.{IntakeActsAlone, NamesStayApart, ReportedIsDurable};
 
@@ -10,6 +12,7 @@ pub fn two_histories_of_an_archive()
     ensures nothing_is_lost { NothingIsLost }
     ensures bases_are_durable { BasesAreDurable }
     ensures names_stay_apart { NamesStayApart }
+    ensures intake_begins { (m : Machine) → IsIntakeOf m (intake_first m) }
     ensures intake_acts_alone { IntakeActsAlone }
     ensures reported_is_durable { ReportedIsDurable }
 {}
