@@ -25,14 +25,14 @@ use Rattle.two_histories.proofs.Stepping.{batch_of_part, flush_stored, half_row,
 use Rattle.two_histories.proofs.StoreMore.{store_more, seen_of, fits_of, settled_at}
 use Rattle.two_histories.proofs.Telling.{batch_told}
 
-legal_of : (s0 : StoreHalf) (i0 : IntakeHalf) (s : List StoreEntry) (i : List IntakeEntry) → IsPair s0 i0 s i → Legal s0 i0 s i
+pub legal_of : (s0 : StoreHalf) (i0 : IntakeHalf) (s : List StoreEntry) (i : List IntakeEntry) → IsPair s0 i0 s i → Legal s0 i0 s i
 legal_of s0 i0 s i p = legal_joint store_knows intake_knows (StoreFits s0) (IntakeFits s0 i0) s i p.closed p.store p.intake
 
 first_joined : (s0 : StoreHalf) (i0 : IntakeHalf) → BeginTogether s0 i0 → s0.told ≡ true → IsJoined s0 i0 [] []
 first_joined s0 i0 b t =
     subst (λ (x : StoreHalf × IntakeHalf). IsJoined x.0 x.1 [] []) (λ k. (sym b.store k, sym b.intake k)) (begun b.state b.sound (sym (ap (λ (m : StoreHalf). m.told) b.store) ∙ t))
 
-joined_of : (s0 : StoreHalf) (i0 : IntakeHalf) (s : List StoreEntry) (i : List IntakeEntry) → BeginTogether s0 i0 → s0.told ≡ true → Legal s0 i0 s i → IsJoined s0 i0 s i
+pub joined_of : (s0 : StoreHalf) (i0 : IntakeHalf) (s : List StoreEntry) (i : List IntakeEntry) → BeginTogether s0 i0 → s0.told ≡ true → Legal s0 i0 s i → IsJoined s0 i0 s i
 joined_of s0 i0 s i b t l = holds_along store_knows intake_knows (StoreFits s0) (IntakeFits s0 i0) (λ s i. IsJoined s0 i0 s i) (first_joined s0 i0 b t) (store_more s0 i0) (intake_more s0 i0) s i l
 
 pub store_stays_sound : StoreStaysSound

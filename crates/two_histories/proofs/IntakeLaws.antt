@@ -77,7 +77,7 @@ drop_all : (xs : List Sample) → drop (length xs) xs ≡ []
 drop_all [] = refl
 drop_all (x ∷ xs) = drop_all xs
 
-drop_more : (xs ys : List Sample) → drop (length xs) (xs ++ ys) ≡ ys
+pub drop_more : (xs ys : List Sample) → drop (length xs) (xs ++ ys) ≡ ys
 drop_more [] ys = refl
 drop_more (x ∷ xs) ys = drop_more xs ys
 

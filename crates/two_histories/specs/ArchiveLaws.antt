@@ -1,5 +1,6 @@
 -- What holds of every closed legal pair of an archive whose disk tells its files.
-use Rattle.std.specs.Prelude.{◌≡◌, ℕ, ◌<◌, true, List, ◌∷◌, ◌++◌, length, take, Option, Some, None, slice_get}
+use Rattle.std.specs.Prelude.{◌≡◌, ℕ, ◌<◌, true, List, [], ◌∷◌, ◌++◌, length, take, Option, Some, None, slice_get}
+use Rattle.pb_wire.specs.declared.payload.PayloadType.{PayloadType}
 use Rattle.series_model.specs.declared.batch.RowSamples.{RowSamples}
 use Rattle.series_model.specs.Archive.{IsPrefix}
 use Rattle.act_model.specs.Machine.{Machine}
@@ -7,11 +8,12 @@ use Rattle.act_model.specs.Reply.{Reply}
 use Rattle.act_model.specs.Sound.{IsSound}
 use Rattle.act_model.specs.Step.{Step}
 use Rattle.act_model.specs.declared.acts.Act.{Act}
-use Rattle.act_model.specs.declared.acts.Act.TheVariants.{Tick}
+use Rattle.act_model.specs.declared.acts.Act.TheVariants.{Offer, Tick}
+use Rattle.act_model.specs.declared.acts.Answer.TheVariants.{Kept}
 use Rattle.two_histories.specs.Histories.{left_by}
 use Rattle.two_histories.specs.Laws.{AreOne}
 use Rattle.two_histories.specs.ArchiveStore.{StoreHalf, StoreRow, RegisteredRow, durable_at, machine_of}
-use Rattle.two_histories.specs.ArchiveIntake.{IntakeHalf, NamesAgree, tail_at}
+use Rattle.two_histories.specs.ArchiveIntake.{IntakeHalf, IntakeRow, NamesAgree, known_at, tail_at}
 use Rattle.two_histories.specs.StoreStep.{StoreEntry, Flushes, Stored}
 use Rattle.two_histories.specs.IntakeStep.{IntakeEntry, IntakePart, IntakeStep, Offers, Ticks, LooksForDoors, LooksForBatch, LooksAt, Takes}
 use Rattle.two_histories.specs.IntakeStep.{TakesFlush, Replies, SawBatch, told_rows}
@@ -48,6 +50,14 @@ StoreStaysSound = (s0 : StoreHalf) (i0 : IntakeHalf) (s : List StoreEntry) (i : 
 abbrev pub NothingIsLost : Type 0
 NothingIsLost = (s0 : StoreHalf) (i0 : IntakeHalf) (s : List StoreEntry) (i : List IntakeEntry) → IsPair s0 i0 s i → s0.told ≡ true
     → (r : ℕ) → AreOne (durable_at (left_by s0 s).rows r) (accepted_by (first_accepted s0 i0) i0 i r) (tail_at (left_by i0 i).rows r)
+
+-- a sample that is offered and kept is accepted of the row of its name
+abbrev pub KeptIsAccepted : Type 0
+KeptIsAccepted = (s0 : StoreHalf) (i0 : IntakeHalf) (s : List StoreEntry) (i : List IntakeEntry) → IsPair s0 i0 s i → s0.told ≡ true
+    → (ahead behind : List IntakeEntry) (e : IntakeEntry) → i ≡ ahead ++ e ∷ behind
+    → (name : List ℕ) (ty : PayloadType) (t : ℕ) (line : List ℕ) (now : ℕ) → e.part ≡ Offers (Offer name ty t line now) → e.answer ≡ Replies Kept
+    → (r : ℕ) × (row : IntakeRow) × (known_at (left_by i0 ahead).rows r ≡ Some row) × (row.name ≡ name)
+    × (accepted_by (first_accepted s0 i0) i0 (ahead ++ e ∷ []) r ≡ accepted_by (first_accepted s0 i0) i0 ahead r ++ record { t = t; line = line } ∷ [])
 
 -- no two rows have one name, of those that the intake knows and those that a part tells it which the store's history so far allows
 abbrev pub NamesStayApart : Type 0

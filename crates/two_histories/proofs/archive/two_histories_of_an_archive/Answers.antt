@@ -1,6 +1,7 @@
 -- The laws as a contract.
 use Rattle.two_histories.proofs.ArchiveLaw as law
 use Rattle.two_histories.proofs.ActingAlone.{intake_acts_alone, intake_begins}
+use Rattle.two_histories.proofs.KeptOffers.{kept_is_accepted}
 use Rattle.two_histories.proofs.archive.two_histories_of_an_archive.Goals as goal
 
 pub returns-clause-store_stays_sound : goal.returns-clause-store_stays_sound
@@ -20,6 +21,9 @@ returns-clause-names_stay_apart c = law.names_stay_apart
 
 pub returns-clause-intake_acts_alone : goal.returns-clause-intake_acts_alone
 returns-clause-intake_acts_alone c = intake_acts_alone
+
+pub returns-clause-kept_is_accepted : goal.returns-clause-kept_is_accepted
+returns-clause-kept_is_accepted c = kept_is_accepted
 
 pub returns-clause-intake_begins : goal.returns-clause-intake_begins
 returns-clause-intake_begins c = intake_begins
