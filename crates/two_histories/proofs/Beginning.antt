@@ -16,6 +16,7 @@ use Rattle.two_histories.proofs.Halves.{WasAccepted}
 use Rattle.two_histories.proofs.Lists.{IsTail, prefix_same}
 use Rattle.two_histories.specs.ArchiveIntake.{IntakeHalf, IntakeRow, known_at, tail_at, as_row}
 use Rattle.two_histories.specs.ArchiveStore.{StoreHalf, StoreRow, durable_at, doubted, left_row}
+use Rattle.two_histories.specs.StoreStep.{StoreEntry}
 use Rattle.two_histories.specs.ArchiveHistories.{no_store, store_first, first_row, first_rows, intake_first}
 use Rattle.two_histories.proofs.Closing.{IsClosed, is_base, may_be_base}
 use Rattle.two_histories.proofs.Durables.{durable_is, in_left_rows}

@@ -1,11 +1,10 @@
 -- A pin and details over the tail of a Look keep the machine sound.
-use Rattle.std.proofs.Common.{◌≡◌, ◌≢◌, ℕ, ◌+◌, List, Option, Some, None, Bool, true, false, refl, ap, sym, ◌∙◌, subst, arith, inl, inr}
-use Rattle.std.specs.Prelude.{slice_get, ◌⊎◌, ◌==◌, if◌then◌else◌}
+use Rattle.std.proofs.Common.{◌≡◌, ◌≢◌, ℕ, List, Option, Some, None, true, refl, ap, sym, ◌∙◌, subst, inl, inr}
+use Rattle.std.specs.Prelude.{slice_get, ◌⊎◌}
 use Rattle.std.specs.FinMap.{get, insert}
 use Rattle.std.specs.List.{AllByRecursion}
 use Rattle.series_model.specs.declared.sample.Query.{Query}
 use Rattle.series_model.specs.declared.sample.Sample.{Sample}
-use Rattle.act_model.specs.Changes.{each, at}
 use Rattle.act_model.specs.Details.{details_refused, Describes}
 use Rattle.act_model.specs.Limbo.{RowFile}
 use Rattle.act_model.specs.Machine.{Machine, PinState, Change, find_row}
@@ -16,24 +15,25 @@ use Rattle.act_model.specs.Rows.{RowState, Store, Short, Medium, Long, tier, win
 use Rattle.act_model.specs.Rule.{Rule}
 use Rattle.act_model.specs.Sound.{MayMake, EndedMove, PieceSound, IsSound}
 use Rattle.act_model.proofs.PinActs.{pin_inserted, other_pins, listed_sound}
-use Rattle.act_model.proofs.Rows.{of_all, each_get}
+use Rattle.act_model.proofs.Rows.{of_all}
 use Rattle.act_model.proofs.StepLaws.{Acts-sound, same_sound}
 use Rattle.two_histories.specs.ArchiveIntake.{RowLook}
-use Rattle.two_histories.specs.StoreStep.{tail_rows, tail_of, OverTail}
+use Rattle.two_histories.specs.StoreStep.{part_with, tail_rows, tail_of, with_batch, OverTail}
+use Rattle.two_histories.proofs.Flushing.{batch_row, with_back}
 use Rattle.act_model.proofs.RowActs.{all_fewer}
 
 -- the row without the tail of the Look: another tail is no matter to its pieces
-other_tail : (xs : List Sample) (row : RowState) (store : Store) → tier (record row { tail = xs }) store ≡ tier row store
-other_tail xs row Short = refl
-other_tail xs row Medium = refl
-other_tail xs row Long = refl
+other_tail : (xs : List Sample) (n : ℕ) (row : RowState) (store : Store) → tier (record row { tail = xs; next = n }) store ≡ tier row store
+other_tail xs n row Short = refl
+other_tail xs n row Medium = refl
+other_tail xs n row Long = refl
 
-listed_piece : (rule : Rule) (i : ℕ) (xs : List Sample) (row : RowState) (f : RowFile) → IsListedPiece rule i (record row { tail = xs }) f → IsListedPiece rule i row f
-listed_piece rule i xs row f l =
+listed_piece : (rule : Rule) (i : ℕ) (xs : List Sample) (n : ℕ) (row : RowState) (f : RowFile) → IsListedPiece rule i (record row { tail = xs; next = n }) f → IsListedPiece rule i row f
+listed_piece rule i xs n row f l =
     record {
       own = l.own;
       partition = l.partition;
-      samples = l.samples ∙ ap (λ w. window f.part w) (other_tail xs row f.store);
+      samples = l.samples ∙ ap (λ w. window f.part w) (other_tail xs n row f.store);
       some = l.some;
       file = record { whole = l.file.whole; message = l.file.message; means = l.file.means; header = l.file.header; says = l.file.says; ty = l.file.ty; lines = l.file.lines; rising = l.file.rising };
     }
@@ -43,23 +43,20 @@ record OwnRow (m : Machine) (look : RowLook) (i : ℕ) (row : RowState) : Type 0
   own : RowState
   here : slice_get m.rows i ≡ Some own
   xs : List Sample
-  is : row ≡ record own { tail = xs }
+  n : ℕ
+  is : row ≡ record own { tail = xs; next = n }
 
 own_row : (m : Machine) (look : RowLook) (i : ℕ) (row : RowState) → slice_get (tail_rows look m) i ≡ Some row → OwnRow m look i row
 own_row m look i row there = by_name (find_row m look.name) refl
   where
-    by_at : (k : ℕ) (b : Bool) → (i == k) ≡ b → (own : RowState) → slice_get m.rows i ≡ Some own → row ≡ (if b then record own { tail = look.tail } else own) → OwnRow m look i row
-    by_at k true is own here same = record { own = own; here = here; xs = look.tail; is = same }
-    by_at k false is own here same = record { own = own; here = here; xs = own.tail; is = same }
-
     by_name : (o : Option ℕ) → find_row m look.name ≡ o → OwnRow m look i row
-    by_name None none = record { own = row; here = (let same : tail_rows look m ≡ m.rows = rw none refl in sym (ap (λ w. slice_get w i) same) ∙ there); xs = row.tail; is = refl }
+    by_name None none = record { own = row; here = (let same : tail_rows look m ≡ m.rows = rw none refl in sym (ap (λ w. slice_get w i) same) ∙ there); xs = row.tail; n = row.next; is = refl }
     by_name (Some k) found =
-        let f = at k (λ (r : RowState). record r { tail = look.tail }) in
-        let same : tail_rows look m ≡ each f 0 m.rows = rw found refl in
-        let o = each_get f 0 m.rows i row (sym (ap (λ w. slice_get w i) same) ∙ there) in
-        let plain : 0 + i ≡ i = omega arith in
-        by_at k (i == k) refl o.0 o.1 (o.2 ∙ ap (λ n. f n o.0) plain)
+        let batch = part_with k look.tail in
+        let same : tail_rows look m ≡ (with_batch batch m).rows = rw found refl in
+        let o = with_back m batch i row (sym (ap (λ w. slice_get w i) same) ∙ there) in
+        let new = batch_row m batch i o.0 in
+        record { own = o.0; here = o.1; xs = new.tail; n = new.next; is = o.2 }
 
 -- PARTS
 
@@ -76,7 +73,7 @@ pinned_sound {who} look mid end new s (pins i row pin pieces found here free lea
     own_sound : (f : RowFile) → IsPieceOf mid.rule (tail_rows look mid) i row f → PieceSound mid.rule mid.rows mid.limbo f
     own_sound f p =
         let own = own_row mid look f.row p.own p.here in
-        listed_sound mid.rule mid.rows mid.limbo f.row own.own own.here s.each_unlisted f (listed_piece mid.rule f.row own.xs own.own f (subst (λ r. IsListedPiece mid.rule f.row r f) own.is p.listed))
+        listed_sound mid.rule mid.rows mid.limbo f.row own.own own.here s.each_unlisted f (listed_piece mid.rule f.row own.xs own.n own.own f (subst (λ r. IsListedPiece mid.rule f.row r f) own.is p.listed))
 
     by_case : (made : PinState) → mid.told ≡ true → (n : ℕ) (other : PinState) → ((n ≡ pin) × (other ≡ made)) ⊎ ((n ≢ pin) × (get mid.pins n ≡ Some other)) → made.pieces ≡ pieces → AllByRecursion (PieceSound mid.rule mid.rows mid.limbo) other.pieces
     by_case made t n other (inl same') has =

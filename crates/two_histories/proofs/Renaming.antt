@@ -20,8 +20,8 @@ use Rattle.act_model.proofs.RowActs.{register_may, paused_is, none_is, same_byte
 use Rattle.act_model.proofs.StepLaws.{settled_sound, settled_none, same_sound, own_change, with_doubt}
 use Rattle.two_histories.specs.ArchiveIntake.{RowLook}
 use Rattle.two_histories.specs.ArchiveStore.{appended}
-use Rattle.two_histories.specs.StoreStep.{rename_refused_at, seen_by, HasNewName, with_batch}
-use Rattle.two_histories.proofs.Batches.{BatchFits, batch_sound}
+use Rattle.two_histories.specs.StoreStep.{ends_in, rename_refused_at, seen_by, HasNewName, with_batch}
+use Rattle.two_histories.proofs.Batches.{BatchFits, batch_sound, end_is}
 use Rattle.two_histories.proofs.Closing.{IsClosed, bases_same, MakesBase, made_base}
 use Rattle.two_histories.proofs.Flushing.{LeavesSound, leaves_sound, RowsStay, stay_same, stay_trans, stay_on, batch_row, with_length, with_back, with_alike, with_stay, with_bases, with_keeps}
 use Rattle.two_histories.proofs.Keeping.{KeepsDurable, keep_same, keep_trans, renames_keeps}
@@ -63,7 +63,7 @@ pub record MayGoOn (number : ℕ → State → ℕ) (newname : List ℕ) (look :
 pub rename_free : (number : ℕ → State → ℕ) (found : Option ℕ) (newname : List ℕ) (look : RowLook) (m : Machine) → rename_refused_at number found newname look m ≡ None → (i : ℕ) → find_row m look.name ≡ Some i → MayGoOn number newname look m i
 rename_free number found newname look m none i here = by_row (slice_get m.rows i) refl
   where
-    by_tail : (row : RowState) → slice_get m.rows i ≡ Some row → is_paused row.state ≡ true → nat_le (number i row.state) (seen_by look) ≡ true → register_refused newname m ≡ None → (b : Bool) → is_empty (since (end_of (durable row)) look.tail) ≡ b → MayGoOn number newname look m i
+    by_tail : (row : RowState) → slice_get m.rows i ≡ Some row → is_paused row.state ≡ true → nat_le (number i row.state) (seen_by look) ≡ true → register_refused newname m ≡ None → (b : Bool) → is_empty (since (ends_in m.rows i) look.tail) ≡ b → MayGoOn number newname look m i
     by_tail row there up seen free true empty =
         let paused : row.state ≡ Paused = paused_is row.state up in
         record {
@@ -72,12 +72,12 @@ rename_free number found newname look m none i here = by_row (slice_get m.rows i
           paused = paused;
           seen = subst (λ w. number i w ≤ seen_by look) paused (grind (arith, nat_tests));
           free = free;
-          all = none_is (since (end_of (durable row)) look.tail) empty;
+          all = ap (λ k. since k look.tail) (sym (end_is m.rows i row there)) ∙ none_is (since (ends_in m.rows i) look.tail) empty;
         }
     by_tail row there up seen free false some = absurd (let bad = rw (here, there, up, seen, free, some) at none in cc)
 
     by_newname : (row : RowState) → slice_get m.rows i ≡ Some row → is_paused row.state ≡ true → nat_le (number i row.state) (seen_by look) ≡ true → (o : Option Reply) → register_refused newname m ≡ o → MayGoOn number newname look m i
-    by_newname row there up seen None free = by_tail row there up seen free (is_empty (since (end_of (durable row)) look.tail)) refl
+    by_newname row there up seen None free = by_tail row there up seen free (is_empty (since (ends_in m.rows i) look.tail)) refl
     by_newname row there up seen (Some reply) taken = absurd (let bad = rw (here, there, up, seen, taken) at none in cc)
 
     by_seen : (row : RowState) → slice_get m.rows i ≡ Some row → is_paused row.state ≡ true → (b : Bool) → nat_le (number i row.state) (seen_by look) ≡ b → MayGoOn number newname look m i

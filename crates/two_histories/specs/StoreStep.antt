@@ -10,7 +10,7 @@ use Rattle.act_model.specs.declared.acts.Act.{Act}
 use Rattle.act_model.specs.declared.acts.Act.TheVariants.{Register, Pause, Resume, Rename, Offer, Tick, Flush, MoveBegin, MoveStep}
 use Rattle.act_model.specs.declared.acts.Act.TheVariants.{Sweep, Pin, OpenPiece, Unpin, Names, Details, Doors, DoorDone}
 use Rattle.act_model.specs.declared.acts.Answer.TheVariants.{Flushed, NoSuchVariable, RenameNotPaused, NotDurable, Renamed}
-use Rattle.act_model.specs.Changes.{each, at, of_row}
+use Rattle.act_model.specs.Changes.{each, of_row}
 use Rattle.act_model.specs.Details.{details_refused, Describes}
 use Rattle.act_model.specs.Flush.{count_in}
 use Rattle.act_model.specs.Machine.{Machine, Change, Renames, Appends, find_row}
@@ -67,17 +67,6 @@ IsOfStore DoorDone = ⊥
 
 -- SAMPLES THAT AN ACT CARRIES
 
--- the rows, where the row with this name has this tail
-abbrev pub tail_rows : RowLook → Machine → List RowState
-tail_rows look m = by_row (find_row m look.name)
-  where
-    by_row : Option ℕ → List RowState
-    by_row None = m.rows
-    by_row (Some i) = each (at i (λ row. record row { tail = look.tail })) 0 m.rows
-
-abbrev pub tail_of : RowLook → Machine → Machine
-tail_of look m = record m { rows = tail_rows look m }
-
 -- these samples as a part of a batch, which has no part without samples
 abbrev pub part_with : ℕ → List Sample → List RowSamples
 part_with row [] = []
@@ -128,9 +117,29 @@ FlushesFrom ends batch left doors mid reply new =
 abbrev pub FlushesBatch : List RowSamples → ℕ → ℕ → Machine → Reply → Machine → Type 0
 FlushesBatch batch left doors = FlushesFrom ends_in batch left doors
 
+-- The rows, where the row with this name has as its tail what is later of a Look's than its last, and no other has any.
+abbrev pub tail_rows_from : (List RowState → ℕ → ℕ) → RowLook → Machine → List RowState
+tail_rows_from ends look m = by_row (find_row m look.name)
+  where
+    by_row : Option ℕ → List RowState
+    by_row None = m.rows
+    by_row (Some i) = (with_batch_from ends (part_with i look.tail) m).rows
+
+abbrev pub tail_of_from : (List RowState → ℕ → ℕ) → RowLook → Machine → Machine
+tail_of_from ends look m = record m { rows = tail_rows_from ends look m }
+
+abbrev pub tail_rows : RowLook → Machine → List RowState
+tail_rows look m = tail_rows_from ends_in look m
+
+abbrev pub tail_of : RowLook → Machine → Machine
+tail_of look m = tail_of_from ends_in look m
+
 -- a part over the row's tail, which it doesn't change
+abbrev pub OverTailFrom : (List RowState → ℕ → ℕ) → RowLook → (Machine → Reply → Machine → Type 0) → Machine → Reply → Machine → Type 0
+OverTailFrom ends look Runs mid reply new = (end : Machine) × Runs (tail_of_from ends look mid) reply end × (new ≡ record end { rows = mid.rows })
+
 abbrev pub OverTail : RowLook → (Machine → Reply → Machine → Type 0) → Machine → Reply → Machine → Type 0
-OverTail look Runs mid reply new = (end : Machine) × Runs (tail_of look mid) reply end × (new ≡ record end { rows = mid.rows })
+OverTail look = OverTailFrom ends_in look
 
 -- A NEW NAME
 
@@ -148,14 +157,14 @@ number_by n rows i state = changed_at n (slice_get rows i) state
 
 -- Why the variable gets no new name: as the machine refuses it, but also where its row has changed since the Look, and by the Look's tail:
 -- the intake keeps no sample more of a row that it knows as paused, until it is told of a later change.
-abbrev pub rename_refused_at : (ℕ → State → ℕ) → Option ℕ → List ℕ → RowLook → Machine → Option Reply
-rename_refused_at number found newname look m = by_name (find_row m look.name)
+abbrev pub rename_refused_from : (List RowState → ℕ → ℕ) → (ℕ → State → ℕ) → Option ℕ → List ℕ → RowLook → Machine → Option Reply
+rename_refused_from ends number found newname look m = by_name (find_row m look.name)
   where
     by_tail : ℕ → RowState → Option Reply
     by_tail i row =
-        if is_empty (since (end_of (durable row)) look.tail)
+        if is_empty (since (ends m.rows i) look.tail)
         then None
-        else Some (NotDurable (end_of (whole accepted (tail_rows look m) i) - 1) (last_durable found m i))
+        else Some (NotDurable (end_of (whole accepted (tail_rows_from ends look m) i) - 1) (last_durable found m i))
 
     by_newname : ℕ → RowState → Option Reply → Option Reply
     by_newname i row (Some reply) = Some reply
@@ -172,6 +181,9 @@ rename_refused_at number found newname look m = by_name (find_row m look.name)
     by_name (Some i) = by_row i (slice_get m.rows i)
     by_name None = Some NoSuchVariable
 
+abbrev pub rename_refused_at : (ℕ → State → ℕ) → Option ℕ → List ℕ → RowLook → Machine → Option Reply
+rename_refused_at number = rename_refused_from ends_in number
+
 -- The variable has its new row, which is told by its number, as the machine makes it where no row has a tail: the samples of a doubt that was
 -- settled as not made are in no row's tail here, but in the intake.
 abbrev pub HasNewName : List ℕ → RowLook → Machine → Reply → Machine → Type 0
@@ -179,10 +191,10 @@ HasNewName newname look mid reply new =
     (reply ≡ Renamed (length mid.rows)) × ((i : ℕ) × (find_row mid look.name ≡ Some i) × Makes (Renames i newname) (with_batch [] mid) new)
 
 -- as the machine's Rename, with these refusals
-abbrev pub RenamesBy : (ℕ → State → ℕ) → List ℕ → RowLook → Machine → Reply → Machine → Type 0
-RenamesBy number newname look old reply new =
+abbrev pub RenamesFrom : (List RowState → ℕ → ℕ) → (ℕ → State → ℕ) → List ℕ → RowLook → Machine → Reply → Machine → Type 0
+RenamesFrom ends number newname look old reply new =
     (found : Option ℕ)
-    × Acts (rename_refused_at number found newname look) (HasNewName newname look) (λ m. renames_of newname (find_row m look.name)) all_go old reply new
+    × Acts (rename_refused_from ends number found newname look) (HasNewName newname look) (λ m. renames_of newname (find_row m look.name)) all_go old reply new
 
 -- STEPS
 
@@ -191,9 +203,9 @@ abbrev pub PartRunsFrom : (List RowState → ℕ → ℕ) → ℕ → (ℕ → S
 PartRunsFrom ends who number (Does act) = Step who act
 PartRunsFrom ends who number (BeginsMove store now doors) = Step who (MoveBegin store now)
 PartRunsFrom ends who number (Flushes batch upto left doors) = Acts (λ m. None) (FlushesFrom ends batch left doors) (λ m. Some (appends_from ends batch m)) all_go
-PartRunsFrom ends who number (PinsAt query look) = Acts (details_refused look.name) (OverTail look (MakesPin who look.name query)) (λ m. None) all_go
-PartRunsFrom ends who number (DescribesAt look) = Acts (details_refused look.name) (OverTail look (Describes look.name)) (λ m. None) all_go
-PartRunsFrom ends who number (RenamesAt newname look) = RenamesBy number newname look
+PartRunsFrom ends who number (PinsAt query look) = Acts (details_refused look.name) (OverTailFrom ends look (MakesPin who look.name query)) (λ m. None) all_go
+PartRunsFrom ends who number (DescribesAt look) = Acts (details_refused look.name) (OverTailFrom ends look (Describes look.name)) (λ m. None) all_go
+PartRunsFrom ends who number (RenamesAt newname look) = RenamesFrom ends number newname look
 
 -- where rows end as their samples tell
 abbrev pub PartRuns : ℕ → (ℕ → State → ℕ) → StorePart → Machine → Reply → Machine → Type 0
