@@ -83,20 +83,23 @@ bases_are_durable s0 i0 s i p t k row b here base =
     (j.closed b (is_base (record { at = k; row = half_row (doubted m.doubt) m.rows k row; here = half_forth (doubted m.doubt) m.rows k row here; base = base }))).all
 
 pub reported_is_durable : ReportedIsDurable
-reported_is_durable s0 i0 s i p t front back e is ahead behind look is' low doors upto batch saw part reply ends rows len answer r =
-    let at = legal_at store_knows intake_knows (StoreFits s0) (IntakeFits s0 i0) s i (legal_of s0 i0 s i p) front back e is in
+reported_is_durable s0 i0 s i p t ahead e f r =
+    let front = f.front in
+    let batch = f.batch in
+    let low = f.known in
+    let at = legal_at store_knows intake_knows (StoreFits s0) (IntakeFits s0 i0) s i (legal_of s0 i0 s i p) front f.back e f.is in
     let first = at.first in
     let within = at.low in
     let joined = joined_of s0 i0 front first p.begins t at.pair in
     let j = joined.joined in
-    let there : IsPrefix ahead first = prefix_shorter ahead first i (look ∷ behind, is') (at.rest, at.is) (omega arith) in
-    let told = batch_told (p.intake ahead behind look is').0 doors batch 0 upto saw in
+    let there : IsPrefix ahead first = prefix_shorter ahead first i (f.look ∷ f.behind, f.looks) (at.rest, at.is) (omega arith) in
+    let told = batch_told (p.intake ahead f.behind f.look f.looks).0 f.doors batch 0 f.upto f.saw in
     let left = told.left_is in
     let all : of_row r batch ≡ T s0 i0 ahead r = ap (λ b. of_row r b) told.batch_is ∙ batch_whole told.limit 0 r (left_by i0 ahead).rows 0 (j.sounds ahead there).up (omega arith) in
     let old = left_by s0 front in
     let seen = seen_of s0 i0 front first e.other e.part at.pair j at.fit.1 in
-    let fits = subst (λ b. BatchFits (store_machine 0 old).rows old.doubt (batch_of_part b)) part (fits_of s0 i0 old first (batch_of_part e.part) j (λ k c. (joined.closed k c).all) seen) in
-    let done = flush_stored at.fit.0 batch upto 0 doors part reply ends rows len answer j.sound j.told fits in
+    let fits = subst (λ b. BatchFits (store_machine 0 old).rows old.doubt (batch_of_part b)) f.part (fits_of s0 i0 old first (batch_of_part e.part) j (λ k c. (joined.closed k c).all) seen) in
+    let done = flush_stored at.fit.0 batch f.upto 0 f.doors f.part f.reply f.ends f.rows f.len f.done j.sound j.told fits in
     let mid = done.mid r in
     let now = (settled_at s0 i0 old first done.mid r j (done.settled r)).1 in
     let was = now.each ahead there in

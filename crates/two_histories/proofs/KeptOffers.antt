@@ -1,11 +1,13 @@
--- What an offer keeps is accepted of the row of its name.
-use Rattle.std.proofs.Common.{◌≡◌, ℕ, zero, suc, ◌+◌, ◌≤◌, List, [], ◌∷◌, ◌++◌, length, map, drop, Option, Some, None, true, false, refl, ap, sym, ◌∙◌, subst, arith, inl, inr}
-use Rattle.std.specs.Prelude.{◌==◌, slice_get}
+-- What an offer keeps is accepted of the row of its name, and durable once all of it is flushed.
+use Rattle.std.proofs.Common.{◌≡◌, ℕ, zero, suc, ◌+◌, ◌≤◌, List, [], ◌∷◌, ◌++◌, length, map, drop, Option, Some, None, true, false, refl, ap, sym, ◌∙◌, subst, arith, inl, inr, append_assoc}
+use Rattle.std.specs.Prelude.{◌==◌, Contains, slice_get}
 use Rattle.std.proofs.lemmas.Bool.Decides.{nat_tests}
+use Rattle.std.proofs.lemmas.List.Elements.{Contains-append_left, Contains-push}
 use Rattle.pb_messages.specs.declared.about.Method.{Method}
 use Rattle.pb_messages.specs.declared.about.Method.TheVariants.{Monitor, Scan}
 use Rattle.pb_wire.specs.declared.payload.PayloadType.{PayloadType}
 use Rattle.series_model.specs.Admission.{refused_by_row}
+use Rattle.series_model.specs.Archive.{IsPrefix}
 use Rattle.series_model.specs.declared.admission.Reason.{Reason}
 use Rattle.series_model.specs.declared.sample.Sample.{Sample}
 use Rattle.act_model.specs.declared.acts.Act.{Act}
@@ -21,14 +23,18 @@ use Rattle.act_model.specs.Step.{Step}
 use Rattle.act_model.proofs.Onward.{each_forward}
 use Rattle.act_model.proofs.RowActs.{tried_is}
 use Rattle.two_histories.specs.Histories.{left_by}
+use Rattle.two_histories.specs.Store.{Lists}
 use Rattle.two_histories.specs.ArchiveHistories.{accepted_by, added, first_accepted}
 use Rattle.two_histories.specs.ArchiveIntake.{IntakeHalf, IntakeRow, known_at, tail_at, as_row, kept_row, kept_rows, intake_of, machine_of}
-use Rattle.two_histories.specs.ArchiveLaws.{KeptIsAccepted}
-use Rattle.two_histories.specs.IntakeStep.{IntakePart, Offers, IntakeAnswer, Replies, IntakeStep, offers, ticks, no_row, sees_doors, sees_batch, sees_row, takes, takes_flush, lacks_memory}
+use Rattle.two_histories.specs.ArchiveLaws.{KeptIsAccepted, KeptIsDurable}
+use Rattle.two_histories.specs.ArchiveStore.{StoreHalf, durable_at}
+use Rattle.two_histories.specs.IntakeStep.{IntakePart, Offers, IntakeAnswer, IntakeEntry, Replies, IntakeStep, offers, ticks, no_row, sees_doors, sees_batch, sees_row, takes, takes_flush, lacks_memory}
 use Rattle.two_histories.proofs.ArchiveJoined.{accepted_more}
-use Rattle.two_histories.proofs.ArchiveLaw.{joined_of, legal_of}
+use Rattle.two_histories.proofs.ArchiveLaw.{joined_of, legal_of, reported_is_durable}
+use Rattle.two_histories.proofs.Halves.{left_by_more}
 use Rattle.two_histories.proofs.IntakeLaws.{tail_known, drop_more}
 use Rattle.two_histories.proofs.KnownRows.{Ascends}
+use Rattle.two_histories.proofs.Lists.{prefix_same, prefix_through}
 use Rattle.two_histories.proofs.Renaming.{found_name}
 
 -- THE MACHINE
@@ -106,15 +112,14 @@ record TailGains (old new : IntakeHalf) (name : List ℕ) (s : Sample) : Type 0 
   tail_is : tail_at new.rows number ≡ tail_at old.rows number ++ s ∷ []
 
 kept_step : {who : ℕ} {old new : IntakeHalf} {part : IntakePart} {answer : IntakeAnswer} → IntakeStep who old part answer new → Ascends 0 old.rows
-    → (name : List ℕ) (ty : PayloadType) (t : ℕ) (line : List ℕ) (now : ℕ) → part ≡ Offers (Offer name ty t line now) → answer ≡ Replies Kept → TailGains old new name (record { t = t; line = line })
-kept_step {who} {old} (offers after act reply of may step) up name ty t line now asked said =
-    let same : act ≡ Offer name ty t line now = cc in
+    → (name : List ℕ) (ty : PayloadType) (x : Sample) (now : ℕ) → part ≡ Offers (Offer name ty x.t x.line now) → answer ≡ Replies Kept → TailGains old new name x
+kept_step {who} {old} (offers after act reply of may step) up name ty x now asked said =
+    let same : act ≡ Offer name ty x.t x.line now = cc in
     let told : reply ≡ Kept = cc in
     by_end (subst (λ (a : Act). Step who a (machine_of old) Kept after) same (subst (λ (y : Reply). Step who act (machine_of old) y after) told step))
   where
-    by_end : OfferStep name ty (record { t = t; line = line }) now (machine_of old) Kept after → TailGains old (intake_of old after) name (record { t = t; line = line })
+    by_end : OfferStep name ty x now (machine_of old) Kept after → TailGains old (intake_of old after) name x
     by_end (inl ends) =
-        let x : Sample = record { t = t; line = line } in
         let k = kept_in (machine_of old) name ty x now (sym ends.0) in
         let b = as_back old.rows k.place k.row k.here in
         let plain : 0 + k.place ≡ k.place = omega arith in
@@ -133,21 +138,20 @@ kept_step {who} {old} (offers after act reply of may step) up name ty t line now
           tail_is = tail_known (kept_rows old.rows after.rows) b.0.row (kept_row b.0 (gains x k.row)) h.1 ∙ ap (λ (w : List Sample). w ++ x ∷ []) tail;
         }
     by_end (inr lacks) = absurd (let bad = lacks.0 in cc)
-kept_step (ticks after row then_at i reply a b) up name ty t line now asked said = absurd cc
-kept_step (no_row row then_at a) up name ty t line now asked said = absurd cc
-kept_step sees_doors up name ty t line now asked said = absurd cc
-kept_step (sees_batch limit a) up name ty t line now asked said = absurd cc
-kept_step (sees_row other) up name ty t line now asked said = absurd cc
-kept_step (takes ends rows) up name ty t line now asked said = absurd cc
-kept_step (takes_flush len ends rows) up name ty t line now asked said = absurd cc
-kept_step (lacks_memory other a) up name ty t line now asked said = absurd cc
+kept_step (ticks after row then_at i reply a b) up name ty x now asked said = absurd cc
+kept_step (no_row row then_at a) up name ty x now asked said = absurd cc
+kept_step sees_doors up name ty x now asked said = absurd cc
+kept_step (sees_batch limit a) up name ty x now asked said = absurd cc
+kept_step (sees_row other) up name ty x now asked said = absurd cc
+kept_step (takes ends rows) up name ty x now asked said = absurd cc
+kept_step (takes_flush len ends rows) up name ty x now asked said = absurd cc
+kept_step (lacks_memory other a) up name ty x now asked said = absurd cc
 
 pub kept_is_accepted : KeptIsAccepted
-kept_is_accepted s0 i0 s i p files ahead behind e is name ty t line now asked said =
+kept_is_accepted s0 i0 s i p files ahead behind e is name ty x now asked said =
     let j = joined_of s0 i0 s i p.begins files (legal_of s0 i0 s i p) in
     let old = left_by i0 ahead in
-    let x : Sample = record { t = t; line = line } in
-    let k = kept_step (p.intake ahead behind e is).0 (j.joined.sounds ahead (e ∷ behind, is)).up name ty t line now asked said in
+    let k = kept_step (p.intake ahead behind e is).0 (j.joined.sounds ahead (e ∷ behind, is)).up name ty x now asked said in
     let gained : added e.part old e.after k.number ≡ x ∷ [] =
     ap (λ (q : IntakePart). added q old e.after k.number) asked ∙ (ap (λ (w : List Sample). drop (length (tail_at old.rows k.number)) w) k.tail_is ∙ drop_more (tail_at old.rows k.number) (x ∷ [])) in (
       k.number,
@@ -156,3 +160,35 @@ kept_is_accepted s0 i0 s i p files ahead behind e is name ty t line now asked sa
       k.named,
       accepted_more (first_accepted s0 i0) i0 ahead e k.number ∙ ap (λ (w : List Sample). accepted_by (first_accepted s0 i0) i0 ahead k.number ++ w) gained,
     )
+
+-- WHAT IS ACCEPTED STAYS SO
+
+accepted_first : (lists : Lists) (m : IntakeHalf) (h : List IntakeEntry) (r : ℕ) → IsPrefix (lists r) (accepted_by lists m h r)
+accepted_first lists m [] r = prefix_same (lists r)
+accepted_first lists m (e ∷ h) r =
+    prefix_through (lists r) (lists r ++ added e.part m e.after r) (accepted_by lists m (e ∷ h) r) (added e.part m e.after r, refl) (accepted_first (λ k. lists k ++ added e.part m e.after k) e.after h r)
+
+accepted_on : (lists : Lists) (m : IntakeHalf) (front back : List IntakeEntry) (r : ℕ) → IsPrefix (accepted_by lists m front r) (accepted_by lists m (front ++ back) r)
+accepted_on lists m [] back r = accepted_first lists m back r
+accepted_on lists m (e ∷ front) back r = accepted_on (λ k. lists k ++ added e.part m e.after k) e.after front back r
+
+in_longer : (a b : List Sample) (x : Sample) → IsPrefix a b → Contains a x → Contains b x
+in_longer a b x p has = subst (λ (w : List Sample). Contains w x) (sym p.1) (Contains-append_left a p.0 x has)
+
+pub kept_is_durable : KeptIsDurable
+kept_is_durable s0 i0 s i p files ahead e f early late kept cut name ty x now asked said =
+    let there : i ≡ early ++ kept ∷ (late ++ f.look ∷ f.behind) = f.looks ∙ (ap (λ (w : List IntakeEntry). w ++ f.look ∷ f.behind) cut ∙ append_assoc early (kept ∷ late) (f.look ∷ f.behind)) in
+    let k = kept_is_accepted s0 i0 s i p files early (late ++ f.look ∷ f.behind) kept there name ty x now asked said in
+    let r : ℕ = k.0 in
+    let first = first_accepted s0 i0 in
+    let at_end : Contains (accepted_by first i0 (early ++ kept ∷ []) r) x = subst (λ (w : List Sample). Contains w x) (sym k.4) (Contains-push (accepted_by first i0 early r) x) in
+    let front : ahead ≡ (early ++ kept ∷ []) ++ late = cut ∙ sym (append_assoc early (kept ∷ []) late) in
+    let grows : IsPrefix (accepted_by first i0 (early ++ kept ∷ []) r) (accepted_by first i0 ahead r)
+    = subst (λ (w : List IntakeEntry). IsPrefix (accepted_by first i0 (early ++ kept ∷ []) r) (accepted_by first i0 w r)) (sym front) (accepted_on first i0 (early ++ kept ∷ []) late r) in
+    let at_look = in_longer (accepted_by first i0 (early ++ kept ∷ []) r) (accepted_by first i0 ahead r) x grows at_end in
+    let flushed = in_longer (accepted_by first i0 ahead r) (durable_at e.after.rows r) x (reported_is_durable s0 i0 s i p files ahead e f r) at_look in
+    let j = joined_of s0 i0 s i p.begins files (legal_of s0 i0 s i p) in
+    let stays = j.grown.durable (f.front ++ e ∷ []) (f.back, f.is ∙ sym (append_assoc f.front (e ∷ []) f.back)) r in
+    let after : durable_at (left_by s0 (f.front ++ e ∷ [])).rows r ≡ durable_at e.after.rows r = ap (λ (m : StoreHalf). durable_at m.rows r) (left_by_more s0 f.front e) in
+    let last = in_longer (durable_at (left_by s0 (f.front ++ e ∷ [])).rows r) (durable_at (left_by s0 s).rows r) x stays (subst (λ (w : List Sample). Contains w x) (sym after) flushed) in
+    (r, k.1, k.2, k.3, flushed, last)

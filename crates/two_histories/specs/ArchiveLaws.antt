@@ -1,7 +1,8 @@
 -- What holds of every closed legal pair of an archive whose disk tells its files.
-use Rattle.std.specs.Prelude.{◌≡◌, ℕ, ◌<◌, true, List, [], ◌∷◌, ◌++◌, length, take, Option, Some, None, slice_get}
+use Rattle.std.specs.Prelude.{◌≡◌, ℕ, ◌<◌, true, List, [], ◌∷◌, ◌++◌, length, take, Contains, Option, Some, None, slice_get}
 use Rattle.pb_wire.specs.declared.payload.PayloadType.{PayloadType}
 use Rattle.series_model.specs.declared.batch.RowSamples.{RowSamples}
+use Rattle.series_model.specs.declared.sample.Sample.{Sample}
 use Rattle.series_model.specs.Archive.{IsPrefix}
 use Rattle.act_model.specs.Machine.{Machine}
 use Rattle.act_model.specs.Reply.{Reply}
@@ -55,9 +56,9 @@ NothingIsLost = (s0 : StoreHalf) (i0 : IntakeHalf) (s : List StoreEntry) (i : Li
 abbrev pub KeptIsAccepted : Type 0
 KeptIsAccepted = (s0 : StoreHalf) (i0 : IntakeHalf) (s : List StoreEntry) (i : List IntakeEntry) → IsPair s0 i0 s i → s0.told ≡ true
     → (ahead behind : List IntakeEntry) (e : IntakeEntry) → i ≡ ahead ++ e ∷ behind
-    → (name : List ℕ) (ty : PayloadType) (t : ℕ) (line : List ℕ) (now : ℕ) → e.part ≡ Offers (Offer name ty t line now) → e.answer ≡ Replies Kept
+    → (name : List ℕ) (ty : PayloadType) (x : Sample) (now : ℕ) → e.part ≡ Offers (Offer name ty x.t x.line now) → e.answer ≡ Replies Kept
     → (r : ℕ) × (row : IntakeRow) × (known_at (left_by i0 ahead).rows r ≡ Some row) × (row.name ≡ name)
-    × (accepted_by (first_accepted s0 i0) i0 (ahead ++ e ∷ []) r ≡ accepted_by (first_accepted s0 i0) i0 ahead r ++ record { t = t; line = line } ∷ [])
+    × (accepted_by (first_accepted s0 i0) i0 (ahead ++ e ∷ []) r ≡ accepted_by (first_accepted s0 i0) i0 ahead r ++ x ∷ [])
 
 -- no two rows have one name, of those that the intake knows and those that a part tells it which the store's history so far allows
 abbrev pub NamesStayApart : Type 0
@@ -70,11 +71,36 @@ BasesAreDurable = (s0 : StoreHalf) (i0 : IntakeHalf) (s : List StoreEntry) (i : 
     → (k : ℕ) (row : StoreRow) (b : ℕ) → slice_get (left_by s0 s).rows k ≡ Some row → row.base ≡ Some b
     → accepted_by (first_accepted s0 i0) i0 i b ≡ durable_at (left_by s0 s).rows b
 
--- after a flush of all that a Look found, what is durable begins with what was accepted at the Look
+-- A flush that is done of all that a Look found, behind these entries of the intake.
+pub record FlushesAll (s : List StoreEntry) (i : List IntakeEntry) (ahead : List IntakeEntry) (e : StoreEntry) : Type 0 where
+  pub front : List StoreEntry
+  pub back : List StoreEntry
+  pub is : s ≡ front ++ e ∷ back
+  pub look : IntakeEntry
+  pub behind : List IntakeEntry
+  pub looks : i ≡ ahead ++ look ∷ behind
+  pub known : length ahead < e.other
+  pub doors : ℕ
+  pub upto : ℕ
+  pub batch : List RowSamples
+  pub saw : look.answer ≡ SawBatch doors batch 0 upto
+  pub part : e.part ≡ Flushes batch upto 0 doors
+  pub reply : Reply
+  pub ends : ℕ → ℕ
+  pub rows : List RegisteredRow
+  pub len : ℕ
+  pub done : e.answer ≡ Stored reply ends rows len
+
+-- behind it, what is durable begins with what was accepted at the Look
 abbrev pub ReportedIsDurable : Type 0
 ReportedIsDurable = (s0 : StoreHalf) (i0 : IntakeHalf) (s : List StoreEntry) (i : List IntakeEntry) → IsPair s0 i0 s i → s0.told ≡ true
-    → (front back : List StoreEntry) (e : StoreEntry) → s ≡ front ++ e ∷ back
-    → (ahead behind : List IntakeEntry) (look : IntakeEntry) → i ≡ ahead ++ look ∷ behind → length ahead < e.other
-    → (doors upto : ℕ) (batch : List RowSamples) → look.answer ≡ SawBatch doors batch 0 upto → e.part ≡ Flushes batch upto 0 doors
-    → (reply : Reply) (ends : ℕ → ℕ) (rows : List RegisteredRow) (len : ℕ) → e.answer ≡ Stored reply ends rows len
+    → (ahead : List IntakeEntry) (e : StoreEntry) → FlushesAll s i ahead e
     → (r : ℕ) → IsPrefix (accepted_by (first_accepted s0 i0) i0 ahead r) (durable_at e.after.rows r)
+
+-- so a sample that was kept before the Look is durable from then on, in the row of its name
+abbrev pub KeptIsDurable : Type 0
+KeptIsDurable = (s0 : StoreHalf) (i0 : IntakeHalf) (s : List StoreEntry) (i : List IntakeEntry) → IsPair s0 i0 s i → s0.told ≡ true
+    → (ahead : List IntakeEntry) (e : StoreEntry) → FlushesAll s i ahead e → (early late : List IntakeEntry) (kept : IntakeEntry) → ahead ≡ early ++ kept ∷ late
+    → (name : List ℕ) (ty : PayloadType) (x : Sample) (now : ℕ) → kept.part ≡ Offers (Offer name ty x.t x.line now) → kept.answer ≡ Replies Kept
+    → (r : ℕ) × (row : IntakeRow) × (known_at (left_by i0 early).rows r ≡ Some row) × (row.name ≡ name)
+    × Contains (durable_at e.after.rows r) x × Contains (durable_at (left_by s0 s).rows r) x

@@ -1,7 +1,7 @@
 -- The laws as a contract.
 use Rattle.two_histories.proofs.ArchiveLaw as law
 use Rattle.two_histories.proofs.ActingAlone.{intake_acts_alone, intake_begins}
-use Rattle.two_histories.proofs.KeptOffers.{kept_is_accepted}
+use Rattle.two_histories.proofs.KeptOffers.{kept_is_accepted, kept_is_durable}
 use Rattle.two_histories.proofs.archive.two_histories_of_an_archive.Goals as goal
 
 pub returns-clause-store_stays_sound : goal.returns-clause-store_stays_sound
@@ -24,6 +24,9 @@ returns-clause-intake_acts_alone c = intake_acts_alone
 
 pub returns-clause-kept_is_accepted : goal.returns-clause-kept_is_accepted
 returns-clause-kept_is_accepted c = kept_is_accepted
+
+pub returns-clause-kept_is_durable : goal.returns-clause-kept_is_durable
+returns-clause-kept_is_durable c = kept_is_durable
 
 pub returns-clause-intake_begins : goal.returns-clause-intake_begins
 returns-clause-intake_begins c = intake_begins
