@@ -1,5 +1,5 @@
 -- The parts that may be asked of the half, as those of the intake's histories, and how each ends.
-use Rattle.std.specs.Prelude.{◌≡◌, ◌≤◌, ℕ, Option, Some, None}
+use Rattle.std.specs.Prelude.{◌≤◌}
 use Rattle.act_model.specs.Asks.{offered_reply, ticked_reply}
 use Rattle.act_model.specs.Event.{IsEvent}
 use Rattle.act_model.specs.declared.acts.Act.TheVariants as act
@@ -23,16 +23,15 @@ part_of (LookAt name) = step.LooksAt name
 part_of (Take ends rows) = step.Takes (end_in ends.items) rows.items
 part_of (TakeFlush len ends rows) = step.TakesFlush len (end_in ends.items) rows.items
 
--- what is answered, unless memory was wanting for a look or a take
-abbrev pub answer_of : IntakeAnswer → Option step.IntakeAnswer
-answer_of (Offered told) = Some (step.Replies (offered_reply told))
-answer_of (Ticked told) = Some (step.Replies (ticked_reply told))
-answer_of (DoorsLeft doors) = Some (step.Replies (reply.DoorsLeft doors))
-answer_of (SawDoors doors) = Some (step.SawDoors doors)
-answer_of (SawBatch look) = Some (step.SawBatch look.doors look.batch look.left look.upto)
-answer_of (SawRow doors look) = Some (step.SawRow doors look)
-answer_of Took = Some step.Took
-answer_of Memory = None
+abbrev pub answer_of : IntakeAnswer → step.IntakeAnswer
+answer_of (Offered told) = step.Replies (offered_reply told)
+answer_of (Ticked told) = step.Replies (ticked_reply told)
+answer_of (DoorsLeft doors) = step.Replies (reply.DoorsLeft doors)
+answer_of (SawDoors doors) = step.SawDoors doors
+answer_of (SawBatch look) = step.SawBatch look.doors look.batch look.left look.upto
+answer_of (SawRow doors look) = step.SawRow doors look
+answer_of Took = step.Took
+answer_of Memory = step.Replies reply.Memory
 
 -- what may be asked at all
 abbrev pub MayBeAsked : IntakePart → Type 0
@@ -57,8 +56,3 @@ FitsPart half (LookForBatch limit) = Unit {0}
 FitsPart half (LookAt name) = Unit {0}
 FitsPart half (Take ends rows) = NamesAgree half.rows rows.items
 FitsPart half (TakeFlush len ends rows) = NamesAgree half.rows rows.items
-
--- so a part ends: as a step of the intake, or memory was wanting and all is as it was
-abbrev pub PartEnds : ℕ → IntakeHalf → IntakePart → Option step.IntakeAnswer → IntakeHalf → Type 0
-PartEnds who old part (Some told) new = step.IntakeStep who old (part_of part) told new
-PartEnds who old part None new = new ≡ old

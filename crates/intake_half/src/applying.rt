@@ -11,13 +11,14 @@ impl Room for IntakeHalf {
 
     type Answer = IntakeAnswer;
 
-    ghost use Rattle.intake_half.specs.Parts.{MayBeAsked, FitsPart, PartEnds, answer_of};
+    ghost use Rattle.two_histories.specs.IntakeStep.{IntakeStep};
+    ghost use Rattle.intake_half.specs.Parts.{MayBeAsked, FitsPart, answer_of, part_of};
 
     ghost asks = { MayBeAsked };
 
     ghost fits = { λ half who n part. FitsPart half part };
 
-    ghost steps = { λ old who n part told new. PartEnds who old part (answer_of told) new };
+    ghost steps = { λ old who n part told new. IntakeStep who old (part_of part) (answer_of told) new };
 
     fn apply(&mut self, _who: u64, _n: u64, part: IntakePart) -> IntakeAnswer {
         match part {
