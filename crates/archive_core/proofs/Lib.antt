@@ -4,6 +4,7 @@ pub mod LimboSwept
 pub mod KeptRows
 pub mod LimboTying
 pub mod Standing
+pub mod Forgetting
 pub mod Batches
 pub mod Acting
 pub mod MoveChoice

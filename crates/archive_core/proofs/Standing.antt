@@ -1,10 +1,10 @@
 -- The archive stands for the next machine where a row changes in memory, as by offers and ticks.
-use Rattle.std.proofs.Common.{◌≡◌, ◌⊎◌, inl, inr, ℕ, ◌+◌, ◌<◌, List, length, Bool, true, false, Option, Some, None, refl, sym, ◌∙◌, ap, subst, arith, ◌≢◌, ◌∷◌, ◌++◌, ◌≤◌}
+use Rattle.std.proofs.Common.{◌≡◌, ◌⊎◌, inl, inr, ℕ, ◌+◌, ◌<◌, List, length, map, Bool, true, false, Option, Some, None, refl, sym, ◌∙◌, ap, subst, arith, ◌≢◌, ◌∷◌, ◌++◌, ◌≤◌}
 use Rattle.std.specs.Prelude.{slice_get, slice_set, ◌==◌}
 use Rattle.std.proofs.lemmas.Bool.Decides.{nat_tests}
 use Rattle.intake.specs.Tails.{TailState, tail_at}
 use Rattle.pv_catalog.specs.declared.row.Row.{Row}
-use Rattle.act_model.specs.Rows.{RowState, is_running, next_store, tier, standing, number_of, period_of}
+use Rattle.act_model.specs.Rows.{RowState, is_running, next_store, standing, number_of, period_of}
 use Rattle.act_model.specs.Machine.{Machine, MoveState, PinState, Change, AddsRow, SetsState, Renames, Appends, Publishes, Unlists, find_row}
 use Rattle.act_model.specs.Changes.{at, with_rows, each}
 use Rattle.intake_half.specs.declared.memory.RowMemory.{RowMemory}
@@ -20,12 +20,12 @@ use Rattle.pb_messages.specs.declared.about.State.TheVariants.{Paused}
 use Rattle.pins.specs.Pieces.{PinOf}
 use Rattle.act_model.specs.Crash.{DurableRow, kept_of}
 use Rattle.act_model.specs.Sound.{IsSound, IsHeld, LinesSound}
-use Rattle.act_model.proofs.Rows.{each_forward, each_get, length-each}
+use Rattle.act_model.proofs.Rows.{each_forward, length-each}
 use Rattle.archive_core.specs.Growing.{HasRunning}
 use Rattle.archive_core.specs.Pins.{ArePinsOf}
 use Rattle.archive_core.proofs.Lists.{same_or_not, set_same}
 use Rattle.archive_core.proofs.KeptRows.{rows_at, rows_spared, held_is}
-use Rattle.archive_core.proofs.Windows.{kept_each, kept_changed, count_of}
+use Rattle.archive_core.proofs.Windows.{alike_at, kept_each, made_alike, count_of}
 use Rattle.archive_core.proofs.LimboTying.{limbo_rows, bare_each, tier_kept, KeepsNames, pins_stay, names_at}
 use Rattle.archive_core.proofs.Batches.{told_stands}
 use Rattle.archive_core.proofs.MovesKept.{SameLater, moves_left}
@@ -61,29 +61,30 @@ use Rattle.act_model.specs.declared.answers.Ticked.{Ticked as TickAnswer}
 
 -- An archive stands for the next machine, where a row changes in memory.
 
--- the stores are as much those of the machine
-between_rows : (tells : Bool) (at : Seen) (limbo : List Retired) (slots : List (Option (Running Moving))) (m : Machine) (g : ℕ → RowState → RowState) → KeepsNames m.rows (each g 0 m.rows) → ((i : ℕ) (r : RowState) → kept_of (g i r) ≡ kept_of r) → IsBetween tells at limbo slots m → IsBetween tells at limbo slots (with_rows m g)
-between_rows tells at limbo slots m g names stays s = record {
+pub names_alike : (rows news : List RowState) → map kept_of news ≡ map kept_of rows → KeepsNames rows news
+names_alike rows news same = λ i r here. let new = alike_at rows news same i r here in record { row = new.0; here = new.1; name = ap (λ (d : DurableRow). d.name) new.2 }
+
+-- the stores are as much those of the machine with other rows of which the same is durable
+pub between_alike : (tells : Bool) (at : Seen) (limbo : List Retired) (slots : List (Option (Running Moving))) (m : Machine) (news : List RowState) (doors : ℕ) → map kept_of news ≡ map kept_of m.rows → IsBetween tells at limbo slots m → IsBetween tells at limbo slots (record m { rows = news; doors = doors })
+between_alike tells at limbo slots m news doors same s = record {
   before = s.before;
   told = s.told;
   disk = s.disk;
-  holds = subst (λ (ds : List DurableRow). AreDurable m.told s.before ds) (sym (kept_each g 0 m.rows stays)) s.holds;
+  holds = subst (λ (ds : List DurableRow). AreDurable m.told s.before ds) (sym same) s.holds;
   whole = s.whole;
-  moves = moves_left tells (beside at limbo) (beside at limbo) m.told m.rows (each g 0 m.rows) m.limbo m.limbo s.before refl (told_stands tells m.told s.before.stands s.told) m.moves slots same (count_of s.before m s.holds) (nothing_leaves tells (beside at limbo)) s.moves;
+  moves = moves_left tells (beside at limbo) (beside at limbo) m.told m.rows news m.limbo m.limbo s.before refl (told_stands tells m.told s.before.stands s.told) m.moves slots later (count_of s.before m s.holds) (nothing_leaves tells (beside at limbo)) s.moves;
   is_open = by_open s.is_open;
 }
   where
-    same : SameLater (HasRunning m.moves) m.rows (each g 0 m.rows) m.limbo m.limbo
-    same = record {
-      rows_there = λ i store row of low here.
-          let from = each_get g 0 m.rows i row here in
-          (from.0, from.1, ap (λ (r : RowState). tier r (next_store store)) from.2 ∙ tier_kept (g (0 + i) from.0) from.0 (next_store store) (stays (0 + i) from.0));
+    later : SameLater (HasRunning m.moves) m.rows news m.limbo m.limbo
+    later = record {
+      rows_there = λ i store row of low here. let was = alike_at news m.rows (sym same) i row here in (was.0, was.1, tier_kept row was.0 (next_store store) (sym was.2));
       limbo_there = λ i store of. refl;
     }
 
-    by_open : Has tells at s.before ⊎ InDoubt tells at limbo s.before m → Has tells at s.before ⊎ InDoubt tells at limbo s.before (with_rows m g)
+    by_open : Has tells at s.before ⊎ InDoubt tells at limbo s.before m → Has tells at s.before ⊎ InDoubt tells at limbo s.before (record m { rows = news; doors = doors })
     by_open (inl has) = inl has
-    by_open (inr d) = inr (record { change = d.change; is = d.is; after = d.after; doubts = d.doubts; stand = d.stand; go = go_named tells at limbo m.told m.rows (each g 0 m.rows) m.moves s.before d.after names d.change d.go; holds = subst (λ (ds : List DurableRow). AreDurable m.told d.after ds) (sym (kept_changed m g d.change stays)) d.holds })
+    by_open (inr d) = inr (record { change = d.change; is = d.is; after = d.after; doubts = d.doubts; stand = d.stand; go = go_named tells at limbo m.told m.rows news m.moves s.before d.after (names_alike m.rows news same) d.change d.go; holds = subst (λ (ds : List DurableRow). AreDurable m.told d.after ds) (sym (made_alike m news d.change same)) d.holds })
 
 at_stays : (k : ℕ) (f : RowState → RowState) → ((r : RowState) → kept_of (f r) ≡ kept_of r) → (i : ℕ) (r : RowState) → kept_of (at k f i r) ≡ kept_of r
 at_stays k f stays i r = by_test (i == k) refl
@@ -130,7 +131,7 @@ row_stands tells p m s i f memory new row r here there up is others stays sound 
   rows = rows_at p.at.catalogue.rows p.kept p.tails new m.rows s.rows i f memory row r here there is others;
   doubt = s.doubt;
   ready = still_ready p.kept m.rows i f memory (slice_get_within m.rows i r there) stays m.moves m.doubt s.ready (not_renamed m i r s.sound there up);
-  store = between_rows tells p.at p.limbo p.slots m (at i f) (names_at i f m.rows stays) (at_stays i f stays) s.store;
+  store = between_alike tells p.at p.limbo p.slots m (each (at i f) 0 m.rows) m.doors (kept_each (at i f) 0 m.rows (at_stays i f stays)) s.store;
 }
 
 -- spares change

@@ -27,8 +27,8 @@ use Rattle.tier_store.specs.Change.{Has, IsKnown, Registers, Switches, Flushes, 
 use Rattle.tier_store.specs.Pinning.{files_in, state_of, placed_at, placed, Placed, files_of_line}
 use Rattle.tier_store.specs.Seen.{Seen, granularities}
 use Rattle.act_model.specs.Pin.{IsListedPiece, ComesBefore, InOrder, IsPieceOf}
-use Rattle.act_model.proofs.Rows.{of_append, Came, from_row, is_new, came, each_forward, each_get, more_rows, of_all}
-use Rattle.act_model.specs.Changes.{each, at, changed, added, made, of_row, published, retired, without_held, with_rows as with_each}
+use Rattle.act_model.proofs.Rows.{of_append, Came, from_row, is_new, came, more_rows, of_all}
+use Rattle.act_model.specs.Changes.{each, at, changed, added, made, of_row, published, retired, without_held}
 use Rattle.pb_messages.specs.declared.about.State.{State}
 use Rattle.pb_messages.specs.declared.about.State.TheVariants.{Paused, Retired}
 use Rattle.pv_catalog.specs.Rows.{switched, renamed_row as added_row}
@@ -95,43 +95,7 @@ changed_same told limbo (Appends batch) i a b same = by_told told
 changed_same told limbo (Publishes k store copied) i a b same = at_same k (published told (files_of k (next_store store) limbo) (next_store store) copied) i a b same (published_same told (files_of k (next_store store) limbo) (next_store store) copied a b same)
 changed_same told limbo (Unlists k store to) i a b same = at_same k (retired told store to) i a b same (retired_same told store to a b same)
 
--- so it is of all rows, where a change in memory leaves what is durable
-rows_same : (told : Bool) (limbo : List RowFile) (c : Change) (g : ℕ → RowState → RowState) (k : ℕ) (rows : List RowState) → ((i : ℕ) (r : RowState) → kept_of (g i r) ≡ kept_of r)
-    → map kept_of (each (changed told limbo c) k (each g k rows)) ≡ map kept_of (each (changed told limbo c) k rows)
-rows_same told limbo c g k [] stays = refl
-rows_same told limbo c g k (r ∷ rows) stays =
-    let head = changed_same told limbo c k (g k r) r (stays k r) in
-    let tail = rows_same told limbo c g (k + 1) rows stays in
-    cc (head, tail)
-
-pub kept_each : (g : ℕ → RowState → RowState) (k : ℕ) (rows : List RowState) → ((i : ℕ) (r : RowState) → kept_of (g i r) ≡ kept_of r) → map kept_of (each g k rows) ≡ map kept_of rows
-kept_each g k [] stays = refl
-kept_each g k (r ∷ rows) stays = let head = stays k r in let tail = kept_each g (k + 1) rows stays in cc (head, tail)
-
--- of a row that a change adds the same is durable
-added_same : (c : Change) (g : ℕ → RowState → RowState) (rows : List RowState) → ((i : ℕ) (r : RowState) → kept_of (g i r) ≡ kept_of r) → map kept_of (added c (each g 0 rows)) ≡ map kept_of (added c rows)
-added_same (AddsRow name about) g rows stays = refl
-added_same (SetsState k state) g rows stays = refl
-added_same (Renames k name) g rows stays = by_row (slice_get rows k) refl (slice_get (each g 0 rows) k) refl
-  where
-    by_row : (o : Option RowState) → slice_get rows k ≡ o → (new : Option RowState) → slice_get (each g 0 rows) k ≡ new → map kept_of (added (Renames k name) (each g 0 rows)) ≡ map kept_of (added (Renames k name) rows)
-    by_row None here None there = rw (here, there) refl
-    by_row None here (Some q) there = absurd (let old = each_get g 0 rows k q there in let both = sym here ∙ old.1 in cc (both))
-    by_row (Some r) here new there =
-        let set = each_forward g 0 rows k r here in
-        rw (here, set) (ap (λ (d : DurableRow). record { name = name; about = d.about; state = Paused; base = Some k; short = []; medium = []; long = [] } ∷ []) (stays (0 + k) r))
-added_same (Appends batch) g rows stays = refl
-added_same (Publishes k store copied) g rows stays = refl
-added_same (Unlists k store to) g rows stays = refl
-
-pub kept_changed : (m : Machine) (g : ℕ → RowState → RowState) (c : Change) → ((i : ℕ) (r : RowState) → kept_of (g i r) ≡ kept_of r) → kept (made [] c (with_each m g)) ≡ kept (made [] c m)
-kept_changed m g c stays =
-    map-append kept_of (each (changed m.told m.limbo c) 0 (each g 0 m.rows)) (added c (each g 0 m.rows))
-    ∙ (ap (λ (ds : List DurableRow). ds ++ map kept_of (added c (each g 0 m.rows))) (rows_same m.told m.limbo c g 0 m.rows stays)
-    ∙ (ap (λ (ds : List DurableRow). map kept_of (each (changed m.told m.limbo c) 0 m.rows) ++ ds) (added_same c g m.rows stays)
-    ∙ sym (map-append kept_of (each (changed m.told m.limbo c) 0 m.rows) (added c m.rows))))
-
--- A CHANGE IS MADE
+-- ROWS OF WHICH THE SAME IS DURABLE
 
 pub kept_from : (rs : List RowState) (i : ℕ) (d : DurableRow) → slice_get (map kept_of rs) i ≡ Some d → (r : RowState) × (slice_get rs i ≡ Some r) × (kept_of r ≡ d)
 kept_from [] i d here = absurd (cc (here))
@@ -142,6 +106,54 @@ pub kept_to : (rs : List RowState) (i : ℕ) (r : RowState) → slice_get rs i �
 kept_to [] i r here = absurd (cc (here))
 kept_to (q ∷ rs) zero r here = ap (λ (x : RowState). Some (kept_of x)) (same_Some q r here)
 kept_to (q ∷ rs) (suc i) r here = kept_to rs i r here
+
+pub kept_each : (g : ℕ → RowState → RowState) (k : ℕ) (rows : List RowState) → ((i : ℕ) (r : RowState) → kept_of (g i r) ≡ kept_of r) → map kept_of (each g k rows) ≡ map kept_of rows
+kept_each g k [] stays = refl
+kept_each g k (r ∷ rows) stays = let head = stays k r in let tail = kept_each g (k + 1) rows stays in cc (head, tail)
+
+-- one at a place has the other's durable part
+pub alike_at : (rows news : List RowState) → map kept_of news ≡ map kept_of rows → (i : ℕ) (r : RowState) → slice_get rows i ≡ Some r → (new : RowState) × (slice_get news i ≡ Some new) × (kept_of new ≡ kept_of r)
+alike_at rows news same i r here = kept_from news i (kept_of r) (ap (λ (ds : List DurableRow). slice_get ds i) same ∙ kept_to rows i r here)
+
+pub length_alike : (rows news : List RowState) → map kept_of news ≡ map kept_of rows → length news ≡ length rows
+length_alike rows news same = sym (length-map news kept_of) ∙ (ap length same ∙ length-map rows kept_of)
+
+rows_alike : (told : Bool) (limbo : List RowFile) (c : Change) (k : ℕ) (rows news : List RowState) → map kept_of news ≡ map kept_of rows → map kept_of (each (changed told limbo c) k news) ≡ map kept_of (each (changed told limbo c) k rows)
+rows_alike told limbo c k [] [] same = refl
+rows_alike told limbo c k [] (new ∷ news) same = absurd (cc (same))
+rows_alike told limbo c k (r ∷ rows) [] same = absurd (cc (same))
+rows_alike told limbo c k (r ∷ rows) (new ∷ news) same =
+    let one : kept_of new ≡ kept_of r = cc (same) in
+    let others : map kept_of news ≡ map kept_of rows = cc (same) in
+    let head = changed_same told limbo c k new r one in
+    let tail = rows_alike told limbo c (k + 1) rows news others in
+    cc (head, tail)
+
+-- of a row that a change adds the same is durable
+added_alike : (c : Change) (rows news : List RowState) → map kept_of news ≡ map kept_of rows → map kept_of (added c news) ≡ map kept_of (added c rows)
+added_alike (AddsRow name about) rows news same = refl
+added_alike (SetsState k state) rows news same = refl
+added_alike (Renames k name) rows news same = by_row (slice_get rows k) refl (slice_get news k) refl
+  where
+    by_row : (o : Option RowState) → slice_get rows k ≡ o → (new : Option RowState) → slice_get news k ≡ new → map kept_of (added (Renames k name) news) ≡ map kept_of (added (Renames k name) rows)
+    by_row None here None there = rw (here, there) refl
+    by_row None here (Some q) there = absurd (let was = alike_at news rows (sym same) k q there in let both = sym here ∙ was.1 in cc (both))
+    by_row (Some r) here new there =
+        let set = alike_at rows news same k r here in
+        rw (here, set.1) (ap (λ (d : DurableRow). record { name = name; about = d.about; state = Paused; base = Some k; short = []; medium = []; long = [] } ∷ []) set.2)
+added_alike (Appends batch) rows news same = refl
+added_alike (Publishes k store copied) rows news same = refl
+added_alike (Unlists k store to) rows news same = refl
+
+-- so it is once a change is made
+pub made_alike : (m : Machine) (news : List RowState) (c : Change) → map kept_of news ≡ map kept_of m.rows → kept (made [] c (record m { rows = news })) ≡ kept (made [] c m)
+made_alike m news c same =
+    map-append kept_of (each (changed m.told m.limbo c) 0 news) (added c news)
+    ∙ (ap (λ (ds : List DurableRow). ds ++ map kept_of (added c news)) (rows_alike m.told m.limbo c 0 m.rows news same)
+    ∙ (ap (λ (ds : List DurableRow). map kept_of (each (changed m.told m.limbo c) 0 m.rows) ++ ds) (added_alike c m.rows news same)
+    ∙ sym (map-append kept_of (each (changed m.told m.limbo c) 0 m.rows) (added c m.rows))))
+
+-- A CHANGE IS MADE
 
 -- the rows that a change makes are durable, where each is
 pub durable_made : (m : Machine) (c : Change) (new : Stores) → length m.rows + length (added c m.rows) ≡ length new.rows → ((i : ℕ) (r : RowState) → slice_get m.rows i ≡ Some r → IsDurableAt m.told new i (kept_of (changed m.told m.limbo c i r)))

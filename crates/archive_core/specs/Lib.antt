@@ -22,3 +22,4 @@ pub mod Strays
 pub mod Acting
 pub mod Retiring
 pub mod Running
+pub mod Halves

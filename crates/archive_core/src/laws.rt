@@ -47,13 +47,16 @@ ghost use Rattle.act_model.specs.Rows.{RowState, Store, Short, Long, accepted, d
 ghost use Rattle.act_model.specs.Rule.{Rule, index_of};
 ghost use Rattle.act_model.specs.Sound.{IsSound};
 ghost use Rattle.act_model.specs.Whole.{AllFollow};
+ghost use Rattle.two_histories.specs.ArchiveStore.{StoreHalf as HalfOf, store_of};
 ghost use Rattle.archive_core.specs.declared.memory.Doubt.{Doubt};
 ghost use Rattle.intake_half.specs.declared.memory.RowMemory.{RowMemory};
 ghost use Rattle.archive_core.specs.Ends.{LeavesBetween};
 ghost use Rattle.archive_core.specs.declared.archive.Archive.{Archive};
+ghost use Rattle.archive_core.specs.declared.archive.StoreHalf.{StoreHalf};
+ghost use Rattle.archive_core.specs.Halves.{StandsFor};
 ghost use Rattle.archive_core.specs.Leaving.{Leaves};
 ghost use Rattle.archive_core.specs.Opening.{IsOpened};
-ghost use Rattle.archive_core.specs.Parts.{parts};
+ghost use Rattle.archive_core.specs.Parts.{InMemory, parts, parts_beside};
 ghost use Rattle.archive_core.specs.Running.{RunsOn};
 ghost use Rattle.archive_core.specs.LimboTies.{IsLimboOf};
 ghost use Rattle.archive_core.specs.MoveChoice.{HaveDurable, AreNumbers, GoesOnBy, file_parts, move_end, move_rule};
@@ -200,4 +203,13 @@ pub fn moves_are_the_machines()
         → HaveDurable catalogue ms s m → AreNumbers m running → store ≢ Long
         → IsChoice (move_rule m.rule store now) (index_of store) running s choice
         → GoesOnBy m s store now choice }
+{}
+
+/// What is on the disk after a step, beside whatever memory, stands by itself for the half that the step leaves in a
+/// history of the store: beside a memory of which the tails are the samples in doubt, and which holds nothing for a
+/// tick.
+pub fn what_is_left_stands_alone<D: Disk>()
+    ensures { (half : StoreHalf D D.Reader) (w : InMemory) (n : ℕ) (old : HalfOf) (after : Machine)
+        → Stands D.tells (parts_beside D.Disk half w) after
+        → StandsFor D.tells D.Disk half (store_of n old after) }
 {}
