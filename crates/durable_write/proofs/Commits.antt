@@ -1,18 +1,20 @@
 -- A commit that lists other files: how it ends, and a retirement, which drops parts.
-use Rattle.std.proofs.Common.{◌≡◌, ℕ, List, map, refl, sym, ◌∙◌, arith, true, false, inl, inr, ◌≤◌, [], ◌∷◌, ◌++◌, Bool, ap, subst, ◌≢◌, get_or, cond, suc}
+use Rattle.std.proofs.Common.{◌≡◌, ℕ, List, map, refl, sym, ◌∙◌, arith, true, false, inl, inr, ◌≤◌, [], ◌∷◌, ◌++◌, Bool, ap, subst, ◌≢◌, get_or, cond, suc, Result, Ok, Err}
 use Rattle.disk_model.specs.Files.{Name, Files}
+use Rattle.disk_model.specs.declared.disk.DiskErr.{DiskErr}
+use Rattle.disk_model.specs.declared.disk.DiskErr.TheVariants.{Fault, Memory}
 use Rattle.disk_model.specs.Past.{Past, Passes}
 use Rattle.gate_journal.specs.Journal.{JournalState}
 use Rattle.store_manifest.specs.declared.entry.Entry.{Entry}
 use Rattle.store_manifest.specs.Entries.{all_changed, place, comes_before, put, AllCanFollow, changed, Place, without}
 use Rattle.durable_write.specs.Held.{Held, entry_of, Shelf, Filed, filed_at, AreIn, shelf_of}
-use Rattle.std.specs.Prelude.{All, filter, IsTrue}
+use Rattle.std.specs.Prelude.{All, filter, IsTrue, OnOk}
 use Rattle.std.proofs.lemmas.List.{map-append}
 use Rattle.disk_model.proofs.Passing.{passes_then, passes_none, passes_weaker}
 use Rattle.gate_journal.specs.Generations.{IsOwn, AtOwn}
 use Rattle.partition_names.specs.declared.granularity.Granularity.{Granularity}
 use Rattle.store_manifest.specs.Batches.{Configured, Folds}
-use Rattle.store_manifest.specs.Manifest.{manifest_name, ManifestState, IsKept as IsManifestKept, IsUnsure as IsManifestUnsure}
+use Rattle.store_manifest.specs.Manifest.{manifest_name, ManifestState, CommitsEntries, IsKept as IsManifestKept, IsUnsure as IsManifestUnsure}
 use Rattle.durable_write.specs.Stored.{HoldsEither, IsStored, IsInDoubt, AreHeld, AreSafe, CatalogueStored}
 use Rattle.durable_write.proofs.Staying.{stored_left, not_in, catalogue_stays, own_stay, own_long, safe_stays}
 use Rattle.store_manifest.specs.declared.entry.Change.{Change}
@@ -29,6 +31,7 @@ use Rattle.pv_catalog.specs.Catalogue.{catalogue_name}
 use Rattle.durable_write.specs.Flush.{Grows, put_all, PlacesRise}
 use Rattle.durable_write.specs.Writing.{set_of, Behind, IsStoredAs, IsDoubtedAs}
 use Rattle.std.proofs.lemmas.Bool.{cases_lt}
+use Rattle.durable_write.specs.Relisting.{ManifestEnds, Relists, TouchesOwn}
 use Rattle.durable_write.specs.Three.{Anything, Beside}
 use Rattle.gate_journal.specs.Kept as journal
 use Rattle.gate_journal.specs.DiskShown.{DiskShown}
@@ -169,62 +172,6 @@ lists_in_doubt g catalogue manifest listing old new held next commit is unsound 
   stand = commit.same_stands;
 }
 
--- One commit that lists other files.
-
-pub relists : (catalogue : JournalState) (m : ManifestState) (rows : Shelf) (old new : DiskShown) (held next : Held) (changes : List Change) → CanRelist catalogue m rows old held next changes
-    → Passes (AtOwn m.journal.name (journal.SaysEither (Folds m.granularity) m.entries (all_changed m.entries changes) m.journal.name)) old.past new.past → ((n : Name) → (IsOwn m.journal.name n → ⊥) → new.files n ≡ old.files n) → ((n : Name) → new.opened n ≤ old.opened n) → Lists m.granularity catalogue m.journal old new held next
-relists catalogue m rows old new held next changes can passes others fewer = record {
-  stored = can.stored.stored;
-  same_shelf = can.same_shelf;
-  same_stands = can.same_stands;
-  valid = can.valid;
-  safe = can.safe;
-  passes =
-      let named = subst (λ (n : Name). Passes (AtOwn n (journal.SaysEither (Folds m.granularity) m.entries (all_changed m.entries changes) n)) old.past new.past) can.stored.stored.tier.named passes in
-      let both = subst (λ (es : List Entry). Passes (AtOwn (manifest_name held.store) (journal.SaysEither (Folds m.granularity) m.entries es (manifest_name held.store))) old.past new.past) can.lists named in
-      subst (λ (es : List Entry). Passes (AtOwn (manifest_name held.store) (journal.SaysEither (Folds m.granularity) es (map entry_of next.files) (manifest_name held.store))) old.past new.past) can.stored.entries both;
-  elsewhere = λ n other. others n (λ own. other (subst (λ (m : Name). IsOwn m n) can.stored.stored.tier.named own));
-  fewer = fewer;
-}
-
-pub relist_moment : (catalogue : JournalState) (m : ManifestState) (rows : Shelf) (old new : DiskShown) (held next : Held) (changes : List Change) → CanRelist catalogue m rows old held next changes
-    → Lists m.granularity catalogue m.journal old new held next → Passes (HoldsEither m.granularity held next) old.past new.past
-relist_moment catalogue m rows old new held next changes can commit =
-    lists_either m.granularity catalogue m.journal old.past old new held next commit (passes_none (HoldsEither m.granularity held next) old.past (λ a left. inl (stored_left m.granularity catalogue m.journal old held can.stored.stored a left)))
-
-pub relist_made : (catalogue : JournalState) (m made : ManifestState) (rows : Shelf) (old new : DiskShown) (held next : Held) (changes : List Change) → CanRelist catalogue m rows old held next changes
-    → Lists m.granularity catalogue m.journal old new held next → made.granularity ≡ m.granularity → made.journal.name ≡ m.journal.name → made.journal.sound ≡ true → made.entries ≡ all_changed m.entries changes → IsManifestKept made new → IsStoredAs catalogue made rows new next
-relist_made catalogue m made rows old new held next changes can commit same_g name sound entries kept =
-    let now : made.entries ≡ map entry_of next.files = entries ∙ can.lists in
-    let k = subst (λ (g : Granularity). journal.IsKept (Configured g) made.journal new made.entries) same_g kept in
-    let stored = lists_stored m.granularity catalogue m.journal made.journal old new held next commit (name ∙ can.stored.stored.tier.named) sound (subst (journal.IsKept (Configured m.granularity) made.journal new) now k) in
-    record { stored = subst (λ (g : Granularity). IsStored g catalogue made.journal new next) (sym same_g) stored; of_rows = can.same_shelf ∙ can.stored.of_rows; entries = now }
-
--- the commit took no effect
-pub relist_unmade : (catalogue : JournalState) (m made : ManifestState) (rows : Shelf) (old new : DiskShown) (held next : Held) (changes : List Change) → CanRelist catalogue m rows old held next changes
-    → Lists m.granularity catalogue m.journal old new held next → made.granularity ≡ m.granularity → made.journal.name ≡ m.journal.name → made.journal.sound ≡ true → made.entries ≡ m.entries → IsManifestKept made new → IsStoredAs catalogue made rows new held
-relist_unmade catalogue m made rows old new held next changes can commit same_g name sound entries kept =
-    let now : made.entries ≡ map entry_of held.files = entries ∙ can.stored.entries in
-    let k = subst (λ (g : Granularity). journal.IsKept (Configured g) made.journal new made.entries) same_g kept in
-    let stored = lists_unmade m.granularity catalogue m.journal made.journal old new held next commit (name ∙ can.stored.stored.tier.named) sound (subst (journal.IsKept (Configured m.granularity) made.journal new) now k) in
-    record { stored = subst (λ (g : Granularity). IsStored g catalogue made.journal new held) (sym same_g) stored; of_rows = can.stored.of_rows; entries = now }
-
-pub relist_doubted : (catalogue : JournalState) (m made : ManifestState) (rows : Shelf) (old new : DiskShown) (held next : Held) (changes : List Change) → CanRelist catalogue m rows old held next changes
-    → Lists m.granularity catalogue m.journal old new held next → made.granularity ≡ m.granularity → made.journal.name ≡ m.journal.name → made.journal.sound ≡ false → (made.entries ≡ m.entries) × (made.next ≡ all_changed m.entries changes) → IsManifestUnsure made new
-    → IsDoubtedAs catalogue made rows new held next
-relist_doubted catalogue m made rows old new held next changes can commit same_g name unsound entries unsure =
-    let now : made.entries ≡ map entry_of held.files = entries.0 ∙ can.stored.entries in
-    let then : made.next ≡ map entry_of next.files = entries.1 ∙ can.lists in
-    let a = subst (λ (g : Granularity). journal.IsUnsure (Configured g) made.journal new made.entries made.next) same_g unsure in
-    let b = subst (λ (es : List Entry). journal.IsUnsure (Configured m.granularity) made.journal new es made.next) now a in
-    let c = subst (λ (es : List Entry). journal.IsUnsure (Configured m.granularity) made.journal new (map entry_of held.files) es) then b in
-    let doubt = lists_in_doubt m.granularity catalogue m.journal made.journal old new held next commit (name ∙ can.stored.stored.tier.named) unsound c in
-    record {
-      in_doubt = subst (λ (g : Granularity). IsInDoubt g catalogue made.journal new held next) (sym same_g) doubt;
-      of_rows = (can.stored.of_rows, can.same_shelf ∙ can.stored.of_rows);
-      entries = (now, then);
-    }
-
 -- no name is opened further: no reader of the journal's files was opened, and none is
 pub none_further : (name : Name) (opened after : Name → ℕ) → ((n : Name) → (IsOwn name n → ⊥) → after n ≡ opened n) → ((n : Name) → IsOwn name n → after n ≡ 0) → (n : Name) → after n ≤ opened n
 none_further name opened after others own n = elim (cases_lt (opened n) (after n)) [
@@ -242,6 +189,148 @@ made_further made name disk opened is others kept =
 pub unsure_further : (made : ManifestState) (name : Name) (disk : DiskShown) (opened : Name → ℕ) → made.journal.name ≡ name → ((n : Name) → (IsOwn name n → ⊥) → disk.opened n ≡ opened n) → IsManifestUnsure made disk → (n : Name) → disk.opened n ≤ opened n
 unsure_further made name disk opened is others unsure =
     none_further name opened disk.opened others (λ n own. unsure_unopened (Configured made.granularity) made.journal disk made.entries made.next unsure n (subst (λ (m : Name). IsOwn m n) (sym is) own))
+
+further : (m made : ManifestState) (after : List Entry) (r : Result (Unit {0}) DiskErr) (old new : DiskShown) → made.journal.name ≡ m.journal.name → CommitsEntries Folds after r m made old new → (n : Name) → new.opened n ≤ old.opened n
+further m made after (Ok a) old new name commits = made_further made m.journal.name new old.opened name commits.opened commits.made
+further m made after (Err Fault) old new name commits = unsure_further made m.journal.name new old.opened name commits.opened (commits.doubt refl)
+further m made after (Err Memory) old new name commits = made_further made m.journal.name new old.opened name commits.opened (commits.unchanged refl)
+
+-- One commit that lists other files.
+
+module _ (catalogue : JournalState) (m made : ManifestState) (shelf : Shelf) (old new : DiskShown) (held next : Held) (changes : List Change) (can : CanRelist catalogue m shelf old held next changes) (r : Result (Unit {0}) DiskErr)
+    (commits : CommitsEntries Folds (all_changed m.entries changes) r m made old new) (ends : ManifestEnds m made (all_changed m.entries changes) r) where
+  commit : Lists m.granularity catalogue m.journal old new held next
+  commit = record {
+    stored = can.stored.stored;
+    same_shelf = can.same_shelf;
+    same_stands = can.same_stands;
+    valid = can.valid;
+    safe = can.safe;
+    passes =
+        let named = subst (λ (n : Name). Passes (AtOwn n (journal.SaysEither (Folds m.granularity) m.entries (all_changed m.entries changes) n)) old.past new.past) can.stored.stored.tier.named commits.any_moment in
+        let both = subst (λ (es : List Entry). Passes (AtOwn (manifest_name held.store) (journal.SaysEither (Folds m.granularity) m.entries es (manifest_name held.store))) old.past new.past) can.lists named in
+        subst (λ (es : List Entry). Passes (AtOwn (manifest_name held.store) (journal.SaysEither (Folds m.granularity) es (map entry_of next.files) (manifest_name held.store))) old.past new.past) can.stored.entries both;
+    elsewhere = λ n other. commits.elsewhere n (λ own. other (subst (λ (m : Name). IsOwn m n) can.stored.stored.tier.named own));
+    fewer = further m made (all_changed m.entries changes) r old new ends.name commits;
+  }
+
+  moment : Passes (HoldsEither m.granularity held next) old.past new.past
+  moment = lists_either m.granularity catalogue m.journal old.past old new held next commit (passes_none (HoldsEither m.granularity held next) old.past (λ a left. inl (stored_left m.granularity catalogue m.journal old held can.stored.stored a left)))
+
+  named : made.journal.name ≡ manifest_name held.store
+  named = ends.name ∙ can.stored.stored.tier.named
+
+  listed : made.journal.sound ≡ true → made.entries ≡ all_changed m.entries changes → IsManifestKept made new → IsStoredAs catalogue made shelf new next
+  listed sound entries kept =
+      let now : made.entries ≡ map entry_of next.files = entries ∙ can.lists in
+      let k = subst (λ (g : Granularity). journal.IsKept (Configured g) made.journal new made.entries) ends.granularity kept in
+      let stored = lists_stored m.granularity catalogue m.journal made.journal old new held next commit named sound (subst (journal.IsKept (Configured m.granularity) made.journal new) now k) in
+      record { stored = subst (λ (g : Granularity). IsStored g catalogue made.journal new next) (sym ends.granularity) stored; of_rows = can.same_shelf ∙ can.stored.of_rows; entries = now }
+
+  -- the commit took no effect
+  unlisted : made.journal.sound ≡ true → made.entries ≡ m.entries → IsManifestKept made new → IsStoredAs catalogue made shelf new held
+  unlisted sound entries kept =
+      let now : made.entries ≡ map entry_of held.files = entries ∙ can.stored.entries in
+      let k = subst (λ (g : Granularity). journal.IsKept (Configured g) made.journal new made.entries) ends.granularity kept in
+      let stored = lists_unmade m.granularity catalogue m.journal made.journal old new held next commit named sound (subst (journal.IsKept (Configured m.granularity) made.journal new) now k) in
+      record { stored = subst (λ (g : Granularity). IsStored g catalogue made.journal new held) (sym ends.granularity) stored; of_rows = can.stored.of_rows; entries = now }
+
+  doubted : made.journal.sound ≡ false → made.entries ≡ m.entries → made.next ≡ all_changed m.entries changes → IsManifestUnsure made new → IsDoubtedAs catalogue made shelf new held next
+  doubted unsound entries after unsure =
+      let now : made.entries ≡ map entry_of held.files = entries ∙ can.stored.entries in
+      let then : made.next ≡ map entry_of next.files = after ∙ can.lists in
+      let a = subst (λ (g : Granularity). journal.IsUnsure (Configured g) made.journal new made.entries made.next) ends.granularity unsure in
+      let b = subst (λ (es : List Entry). journal.IsUnsure (Configured m.granularity) made.journal new es made.next) now a in
+      let c = subst (λ (es : List Entry). journal.IsUnsure (Configured m.granularity) made.journal new (map entry_of held.files) es) then b in
+      let doubt = lists_in_doubt m.granularity catalogue m.journal made.journal old new held next commit named unsound c in
+      record {
+        in_doubt = subst (λ (g : Granularity). IsInDoubt g catalogue made.journal new held next) (sym ends.granularity) doubt;
+        of_rows = (can.stored.of_rows, can.same_shelf ∙ can.stored.of_rows);
+        entries = (now, then);
+      }
+
+-- what the manifest in memory is then
+pub commit_ends : (m made : ManifestState) (after : List Entry) (r : Result (Unit {0}) DiskErr) → made.granularity ≡ m.granularity → made.journal.name ≡ m.journal.name → OnOk r (made.entries ≡ after) → OnOk r (made.journal.sound ≡ true)
+    → (r ≡ Err Fault → (made.entries ≡ m.entries) × (made.next ≡ after)) → (r ≡ Err Memory → (made.journal.sound ≡ true) × (made.entries ≡ m.entries)) → ManifestEnds m made after r
+commit_ends m made after (Ok a) same_g name entries sound fault memory = record { granularity = same_g; name = name; entries = entries; sound = sound; unchanged = tt; next = tt; memory = λ is. sound }
+commit_ends m made after (Err Fault) same_g name entries sound fault memory = record {
+  granularity = same_g;
+  name = name;
+  entries = tt;
+  sound = tt;
+  unchanged = (fault refl).0;
+  next = λ unsound. (fault refl).1;
+  memory = λ is. (memory is).0;
+}
+commit_ends m made after (Err Memory) same_g name entries sound fault memory = record {
+  granularity = same_g;
+  name = name;
+  entries = tt;
+  sound = tt;
+  unchanged = (memory refl).1;
+  next = λ unsound. let still : made.journal.sound ≡ true = (memory refl).0 in absurd (cc (still, unsound));
+  memory = λ is. (memory is).0;
+}
+
+-- what it leaves of other names
+pub commit_touches : (m made : ManifestState) (after : List Entry) (r : Result (Unit {0}) DiskErr) (old new : DiskShown) → made.journal.name ≡ m.journal.name → CommitsEntries Folds after r m made old new → TouchesOwn m.journal.name old new
+commit_touches m made after r old new name commits = record {
+  elsewhere = commits.elsewhere;
+  frame = passes_weaker (AtOwn m.journal.name (journal.SaysEither (Folds m.granularity) m.entries after m.journal.name)) (AtOwn m.journal.name Anything) old.past new.past commits.any_moment (λ a b was step. record { here = tt; elsewhere = step.elsewhere });
+  opened = commits.opened;
+  no_more = further m made after r old new name commits;
+}
+
+-- and what the store has
+pub commit_lists : (catalogue : JournalState) (m made : ManifestState) (shelf : Shelf) (old new : DiskShown) (held next : Held) (changes : List Change) → CanRelist catalogue m shelf old held next changes → (r : Result (Unit {0}) DiskErr) → CommitsEntries Folds (all_changed m.entries changes) r m made old new
+    → ManifestEnds m made (all_changed m.entries changes) r → (r ≡ Err Fault → made.journal.sound ≡ false) → Relists catalogue m made shelf r old new held next
+commit_lists catalogue m made shelf old new held next changes can (Ok a) commits ends fault = record {
+  any_moment = moment catalogue m made shelf old new held next changes can (Ok a) commits ends;
+  made = listed catalogue m made shelf old new held next changes can (Ok a) commits ends ends.sound ends.entries commits.made;
+  unmade = tt;
+  in_doubt = tt;
+}
+commit_lists catalogue m made shelf old new held next changes can (Err Fault) commits ends fault = record {
+  any_moment = moment catalogue m made shelf old new held next changes can (Err Fault) commits ends;
+  made = tt;
+  unmade = λ sound. let unsound : made.journal.sound ≡ false = fault refl in absurd (cc (sound, unsound));
+  in_doubt = λ unsound. doubted catalogue m made shelf old new held next changes can (Err Fault) commits ends unsound ends.unchanged (ends.next unsound) (commits.doubt refl);
+}
+commit_lists catalogue m made shelf old new held next changes can (Err Memory) commits ends fault = record {
+  any_moment = moment catalogue m made shelf old new held next changes can (Err Memory) commits ends;
+  made = tt;
+  unmade = λ sound. unlisted catalogue m made shelf old new held next changes can (Err Memory) commits ends sound ends.unchanged (commits.unchanged refl);
+  in_doubt = λ unsound. let sound : made.journal.sound ≡ true = ends.memory refl in absurd (cc (sound, unsound));
+}
+
+-- no commit was made: the call failed before
+module _ (e : DiskErr) (r : Result (Unit {0}) DiskErr) (failed : r ≡ Err e) (m : ManifestState) (sound : m.journal.sound ≡ true) where
+  pub ends_early : (after : List Entry) → ManifestEnds m m after r
+  ends_early after = subst (λ (x : Result (Unit {0}) DiskErr). ManifestEnds m m after x) (sym failed) (record {
+    granularity = refl;
+    name = refl;
+    entries = tt;
+    sound = tt;
+    unchanged = refl;
+    next = λ unsound. absurd (cc (sound, unsound));
+    memory = λ is. sound;
+  })
+
+  pub lists_nothing : (catalogue : JournalState) (shelf : Shelf) (old new : DiskShown) (held next : Held) → Passes (HoldsEither m.granularity held next) old.past new.past → IsStoredAs catalogue m shelf new held → Relists catalogue m m shelf r old new held next
+  lists_nothing catalogue shelf old new held next passes store = subst (λ (x : Result (Unit {0}) DiskErr). Relists catalogue m m shelf x old new held next) (sym failed) (record {
+    any_moment = passes;
+    made = tt;
+    unmade = λ still. store;
+    in_doubt = λ unsound. absurd (cc (sound, unsound));
+  })
+
+pub touches_nothing : (name : Name) (disk : DiskShown) → TouchesOwn name disk disk
+touches_nothing name disk = record {
+  elsewhere = λ n other. refl;
+  frame = passes_none (AtOwn name Anything) disk.past (λ a left. record { here = tt; elsewhere = λ n other. refl });
+  opened = λ n other. refl;
+  no_more = λ n. omega arith;
+}
 
 -- THE FLUSH
 

@@ -1,20 +1,22 @@
 -- What is written ahead of what is listed: write by write, beside what is listed, and beside files in limbo.
-use Rattle.std.proofs.Common.{◌≡◌, ◌≢◌, inl, inr, ℕ, zero, suc, ◌≤◌, List, [], ◌∷◌, length, get_or, None, Some, refl, sym, ◌∙◌, ap, subst, arith, ◌⊎◌, ◌++◌, map, take, Bool, true, false, Option, ◌<◌, cond, ◌+◌}
+use Rattle.std.proofs.Common.{◌≡◌, ◌≢◌, inl, inr, ℕ, zero, suc, ◌≤◌, List, [], ◌∷◌, length, get_or, None, Some, refl, sym, ◌∙◌, ap, subst, arith, ◌⊎◌, ◌++◌, map, take, Bool, true, false, Option, ◌<◌, cond, ◌+◌, Result, Err}
 use Rattle.std.specs.Prelude.{All, Contains, IsTrue, filter}
 use Rattle.std.specs.List.{AllZip}
 use Rattle.std.proofs.lemmas.List.Elements.{All-contains, All-map, Contains-get_or, Contains-append_left, Contains-append_right, All-nil, All-cons, All-head, All-tail, All-more}
 use Rattle.disk_model.specs.Files.{Name, Files, HasFile, Content, At}
 use Rattle.disk_model.specs.Past.{Past, Passes, MayLeave, Only}
+use Rattle.disk_model.specs.declared.disk.DiskErr.{DiskErr}
 use Rattle.partition_names.specs.declared.granularity.Granularity.{Granularity}
 use Rattle.store_manifest.specs.declared.entry.Entry.{Entry}
 use Rattle.store_manifest.specs.Entries.{Place, put, comes_before, all_changed}
 use Rattle.durable_write.specs.declared.file_write.FileWrite.{FileWrite}
 use Rattle.durable_write.specs.Held.{Filed, Held, IsIn, IsListed, file_of, filed_at, bytes_of, shelf_of, Shelf, IsListedTo, KeepsListed, ListsStill, entry_of, listing_of, IsFiled, AreIn}
 use Rattle.durable_write.specs.Flush.{Grows, PlacesRise, file_at, start_of, listed_len, MakesFiles, put_all, with_files, is_place, listed_bytes, HoldsBoth, Flushes}
-use Rattle.durable_write.specs.Stored.{AreLong, AreSafe, AreHeld, Holds, KeysDiffer}
-use Rattle.durable_write.specs.Writing.{Behind, LeavesListed, IsStoredAs, IsSafe, IsWritten, IsSynced, set_of}
+use Rattle.durable_write.specs.Relisting.{FlushesFiles, Relists, StaysBeside, TouchesOwn}
+use Rattle.durable_write.specs.Stored.{AreLong, AreSafe, AreHeld, Holds, HoldsEither, KeysDiffer}
+use Rattle.durable_write.specs.Writing.{Behind, LeavesListed, IsStoredAs, IsSafe, IsWritten, IsSynced, IsOfNone, WritesBehind, set_of}
 use Rattle.durable_write.proofs.Places.{before_apart, found, is_place-true, is_place-same, rise_at, listed_at, all_put_all, rise_put_all}
-use Rattle.durable_write.proofs.Staying.{same_file, same_place, name_cases, keeps_earlier, leaves_earlier, leaves_own, holds_behind, stored_left, not_in, still_stored_as, listed_as, AllowTo, AreApart, whole_in, step_behind, call_behind, behind_on, behind_then, own_long, safe_both}
+use Rattle.durable_write.proofs.Staying.{same_file, same_place, name_cases, keeps_earlier, leaves_earlier, leaves_own, holds_behind, stored_left, not_in, still_stored_as, listed_as, AllowTo, AreApart, whole_in, step_behind, call_behind, behind_on, behind_then, own_long, safe_both, still_held, leaves_on, leaves_committed, leaves_none, behind_itself, behind_none, behind_same}
 use Rattle.std.proofs.lemmas.List.{take_all, length-append, take-take, take_at, length-map, get_or-map, length-take, get_or-take, get_or_default}
 use Rattle.disk_model.proofs.Passing.{passes_weaker}
 use Rattle.gate_journal.specs.Journal.{JournalState}
@@ -31,7 +33,7 @@ use Rattle.pv_catalog.specs.declared.row.Row.{Row}
 use Rattle.series_model.specs.declared.batch.RowSamples.{RowSamples}
 use Rattle.store_manifest.specs.declared.entry.Change.{Change}
 use Rattle.durable_write.specs.Three.{Anything}
-use Rattle.durable_write.proofs.Commits.{entries_are}
+use Rattle.durable_write.proofs.Commits.{beside_commit, beside_files, beside_none, entries_are, lists_nothing, then_either}
 
 -- What is written ahead of what is listed leaves that alone.
 
@@ -608,20 +610,6 @@ safe_over held ahead fs disk shelf stands rise own safe = safe_both held fs disk
       (All-contains (IsIn (shelf_of ahead) image) (put_all ahead.files fs) f (safe.left image left (subst IsTrue (sym stands) is_so)) (put_all_new fs ahead.files f rise (Contains-get_or fs k d lt)));
 })
 
--- what was written ahead may be listed
-pub can_relist_over : (catalogue : JournalState) (m : ManifestState) (shelf : Shelf) (old mid : DiskShown) (held ahead : Held) (ps : List FileWrite) (fs : List Filed) (changes : List Change) → HasCopied catalogue m shelf old held ahead → MakesFiles m.granularity ahead ps fs
-    → changes ≡ map set_of ps → Passes (Behind ahead) old.past mid.past → AreLong ahead mid.files → ((n : Name) → n.0 ≢ shelf.0 → mid.files n ≡ old.files n) → ((n : Name) → mid.opened n ≤ old.opened n) → AreSafe (with_files ahead fs) mid → CanRelist catalogue m shelf mid held (with_files held fs) changes
-can_relist_over catalogue m shelf old mid held ahead ps fs changes has makes are behind long elsewhere fewer safe =
-    let stored = still_copied catalogue m shelf old mid held ahead has behind long elsewhere fewer in
-    record {
-      stored = stored;
-      same_shelf = refl;
-      same_stands = refl;
-      valid = valid_over m.granularity held ahead ps fs has.leads has.stored.stored.tier.valid makes;
-      safe = safe_over held ahead fs mid has.leads.same_shelf has.leads.same_stands makes.apart stored.stored.tier.safe safe;
-      lists = entries_over m held ahead ps fs changes has.stored.entries are makes;
-    }
-
 -- THE BYTES OF WHAT IS AHEAD
 
 pub leaves_ahead : (ahead : Held) (files later : Files) (old new : Past) → Behind ahead files later → Passes (Behind ahead) old new → LeavesListed (listing_of ahead) files later old new
@@ -641,3 +629,89 @@ ahead_long catalogue m shelf disk between later held ahead has elsewhere long =
     let tier = has.stored.stored.tier in
     let numbered : 1 ≤ ahead.store = (let own = tier.valid.filed.numbered in let same = ap (λ (s : Shelf). s.0) has.leads.same_shelf in omega (arith, own, same)) in
     own_long ahead m.journal.name between later (not_in ahead.store m.journal.name (manifest_name held.store) numbered tier.named refl) elsewhere long
+
+-- THE FLUSH
+
+-- files are written, and then synced
+pub writes_synced : (held : Held) (old mid new : DiskShown) → Passes (Behind held) old.past mid.past → Behind held old.files mid.files → AreLong held mid.files → Passes (λ a b. b ≡ a) mid.past new.past → new.files ≡ mid.files → WritesBehind held old new
+writes_synced held old mid new passes behind long synced same = record {
+  any_moment = behind_same held old.past mid.past new.past passes synced;
+  behind = subst (Behind held old.files) (sym same) behind;
+  still = subst (AreLong held) (sym same) long;
+}
+
+pub writes_none : (held : Held) (disk : DiskShown) → AreLong held disk.files → WritesBehind held disk disk
+writes_none held disk long = record { any_moment = behind_none held disk.past; behind = behind_itself held disk.files; still = long }
+
+pub stays_none : (shelf : Shelf) (m : ManifestState) (writes : List FileWrite) (disk : DiskShown) → StaysBeside shelf m writes disk disk
+stays_none shelf m writes disk = record {
+  listed = leaves_none (shelf, m.entries) disk.files disk.past;
+  elsewhere = λ n other apart. refl;
+  others = λ n none apart. refl;
+  frame = beside_none shelf.0 m.journal.name disk.past;
+  no_more = λ n. omega arith;
+}
+
+-- the files are written behind what is ahead
+module _ (catalogue : JournalState) (m : ManifestState) (shelf : Shelf) (old mid : DiskShown) (held ahead : Held) (fs : List Filed) (has : HasCopied catalogue m shelf old held ahead) (goes : WritesBehind ahead old mid) (fewer : (n : Name) → mid.opened n ≤ old.opened n) where
+  elsewhere : (n : Name) → n.0 ≢ shelf.0 → mid.files n ≡ old.files n
+  elsewhere n other = goes.behind.elsewhere n (λ is. other (is ∙ ap (λ (s : Shelf). s.0) has.safe.of_rows))
+
+  stored : IsStoredAs catalogue m shelf mid held
+  stored = still_copied catalogue m shelf old mid held ahead has goes.any_moment goes.still elsewhere fewer
+
+  -- what was written may be listed
+  pub can_list : (writes : List FileWrite) (changes : List Change) → MakesFiles m.granularity ahead writes fs → changes ≡ map set_of writes → AreSafe (with_files ahead fs) mid → CanRelist catalogue m shelf mid held (with_files held fs) changes
+  can_list writes changes makes are safe = record {
+    stored = stored;
+    same_shelf = refl;
+    same_stands = refl;
+    valid = valid_over m.granularity held ahead writes fs has.leads has.stored.stored.tier.valid makes;
+    safe = safe_over held ahead fs mid has.leads.same_shelf has.leads.same_stands makes.apart stored.stored.tier.safe safe;
+    lists = entries_over m held ahead writes fs changes has.stored.entries are makes;
+  }
+
+  still_either : Passes (HoldsEither m.granularity held (with_files held fs)) old.past mid.past
+  still_either = still_held catalogue m shelf old mid.past held (with_files held fs) has.stored (leads_behind held ahead old mid.past has.leads has.safe.safe goes.any_moment)
+
+  -- the call fails before the commit
+  pub flushes_nothing : (e : DiskErr) (r : Result (Unit {0}) DiskErr) → r ≡ Err e → m.journal.sound ≡ true → FlushesFiles catalogue m m shelf r old mid held ahead fs
+  flushes_nothing e r failed sound = record {
+    lists = lists_nothing e r failed m sound catalogue shelf old mid held (with_files held fs) still_either stored;
+    leaves = leaves_ahead ahead old.files mid.files old.past mid.past goes.behind goes.any_moment;
+    long = goes.still;
+  }
+
+  pub stays_written : (writes : List FileWrite) → ((n : Name) → IsOfNone shelf writes n → mid.files n ≡ old.files n) → StaysBeside shelf m writes old mid
+  stays_written writes others = record {
+    listed = leaves_copied catalogue m shelf old mid.files mid.past held ahead has goes.behind goes.any_moment;
+    elsewhere = λ n other apart. elsewhere n other;
+    others = λ n none apart. others n none;
+    frame = beside_files shelf.0 m.journal.name ahead old.past mid.past (ap (λ (s : Shelf). s.0) has.safe.of_rows) goes.any_moment;
+    no_more = fewer;
+  }
+
+  -- the commit is tried
+  module _ (new : DiskShown) (touches : TouchesOwn m.journal.name mid new) where
+    pub flushes_committed : (made : ManifestState) (r : Result (Unit {0}) DiskErr) → Relists catalogue m made shelf r mid new held (with_files held fs) → FlushesFiles catalogue m made shelf r old new held ahead fs
+    flushes_committed made r lists = record {
+      lists = record {
+        any_moment = then_either m.granularity held (with_files held fs) old.past mid.past new.past still_either lists.any_moment;
+        made = lists.made;
+        unmade = lists.unmade;
+        in_doubt = lists.in_doubt;
+      };
+      leaves = leaves_on (listing_of ahead) old.files mid.files new.files old.past mid.past new.past (leaves_ahead ahead old.files mid.files old.past mid.past goes.behind goes.any_moment)
+          (ahead_committed catalogue m shelf old mid.files new.files mid.past new.past held ahead has touches.elsewhere touches.frame);
+      long = ahead_long catalogue m shelf old mid.files new.files held ahead has touches.elsewhere goes.still;
+    }
+
+    pub stays_committed : (writes : List FileWrite) → StaysBeside shelf m writes old mid → StaysBeside shelf m writes old new
+    stays_committed writes stays = record {
+      listed = leaves_on (shelf, m.entries) old.files mid.files new.files old.past mid.past new.past stays.listed
+          (leaves_committed catalogue m shelf old mid.files new.files mid.past new.past held has.stored touches.elsewhere touches.frame);
+      elsewhere = λ n other apart. touches.elsewhere n apart ∙ stays.elsewhere n other apart;
+      others = λ n none apart. touches.elsewhere n apart ∙ stays.others n none apart;
+      frame = beside_commit shelf.0 m.journal.name old.past mid.past new.past stays.frame touches.frame;
+      no_more = λ n. let first = stays.no_more n in let second = touches.no_more n in omega (arith, first, second);
+    }

@@ -3,6 +3,7 @@ pub mod Ends
 pub mod Flush
 pub mod Held
 pub mod Plan
+pub mod Relisting
 pub mod Revival
 pub mod Stored
 pub mod Three

@@ -10,7 +10,7 @@ use Rattle.store_manifest.specs.declared.entry.Change.{Change}
 use Rattle.store_manifest.specs.declared.entry.Change.TheVariants.{Set}
 use Rattle.durable_write.specs.declared.file_write.FileWrite.{FileWrite}
 use Rattle.durable_write.specs.Held.{Filed, Held, AreIn, Listing, KeepsListed, bytes_of, file_of, entry_of, listing_of, shelf_of, Shelf}
-use Rattle.durable_write.specs.Stored.{AreHeld, AreSafe, IsStored, IsInDoubt}
+use Rattle.durable_write.specs.Stored.{AreHeld, AreLong, AreSafe, IsStored, IsInDoubt}
 
 -- The other stores are as they were, and files that were there still are. Whatever the listed files have, they have the same up to
 -- their listed lengths.
@@ -18,6 +18,12 @@ pub record Behind (held : Held) (old new : Files) : Type 0 where
   pub elsewhere : (n : Name) → n.0 ≢ held.store → new n ≡ old n
   pub stays : AreIn held old → AreIn held new
   pub listed : KeepsListed (listing_of held) old new
+
+-- Files were written behind what is held, and nothing but that, at any moment too; and its files are as long as they are listed.
+pub record WritesBehind (held : Held) (old new : DiskShown) : Type 0 where
+  pub any_moment : Passes (Behind held) old.past new.past
+  pub behind : Behind held old.files new.files
+  pub still : AreLong held new.files
 
 -- reads give the listed bytes as they did, and so does whatever a crash leaves at each moment
 pub record LeavesListed (listing : Listing) (files later : Files) (old new : Past) : Type 0 where

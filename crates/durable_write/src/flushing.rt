@@ -1,20 +1,16 @@
 // The durable part of a flush: the files are written and synced, and only then one commit lists them.
-ghost use Rattle.std.specs.Prelude.{◌≡◌, ◌≢◌, ◌≤◌, ◌<◌, ◌*◌, ℕ, List, All, length, map, IfOk, OnOk, OnErr, IsErrOf};
-ghost use Rattle.std.specs.Prelude.{IsTrue, true, false};
-ghost use Rattle.disk_model.specs.Files.{Name, Rose};
-ghost use Rattle.disk_model.specs.Past.{Passes};
+ghost use Rattle.std.specs.Prelude.{◌≡◌, ◌≤◌, ◌<◌, ◌*◌, List, All, length, map, IfOk, IsErrOf, IsTrue};
+ghost use Rattle.disk_model.specs.Files.{Rose};
 ghost use Rattle.gate_journal.specs.Batches.{greatest_batch};
-ghost use Rattle.gate_journal.specs.Generations.{IsOwn};
 ghost use Rattle.gate_journal.specs.Journal.{JournalState};
 ghost use Rattle.gate_journal.specs.DiskShown.{shown_by};
 ghost use Rattle.partition_names.specs.Part.{IsPart};
 ghost use Rattle.store_manifest.specs.Entries.{all_changed};
-ghost use Rattle.durable_write.specs.Held.{Filed, Held, listing_of};
-ghost use Rattle.durable_write.specs.Flush.{MakesFiles, with_files};
-ghost use Rattle.durable_write.specs.Stored.{HoldsEither, AreLong};
-ghost use Rattle.durable_write.specs.Writing.{LeavesListed, IsStoredAs, IsDoubtedAs, IsOfNone, set_of};
+ghost use Rattle.durable_write.specs.Held.{Filed, Held};
+ghost use Rattle.durable_write.specs.Flush.{MakesFiles};
+ghost use Rattle.durable_write.specs.Relisting.{FlushesFiles, ManifestEnds, StaysBeside};
+ghost use Rattle.durable_write.specs.Writing.{set_of};
 ghost use Rattle.durable_write.specs.Ahead.{HasCopied};
-ghost use Rattle.durable_write.specs.Three.{Beside};
 
 use crate::file_write::FileWrite;
 use crate::relisting::relist;
@@ -60,56 +56,19 @@ pub fn flush_files<D: Disk>(
         × HasCopied catalogue manifest.old (store, rows.now) (shown_by D.Disk disk.old) held ahead
         × MakesFiles manifest.old.granularity ahead writes.now fs }
 
-    ensures any_moment { IsTrue D.tells → (catalogue : JournalState) (held ahead : Held) (fs : List Filed)
+    ensures flushes { IsTrue D.tells → (catalogue : JournalState) (held ahead : Held) (fs : List Filed)
         → HasCopied catalogue manifest.old (store, rows.now) (shown_by D.Disk disk.old) held ahead
         → MakesFiles manifest.old.granularity ahead writes.now fs
-        → Passes (HoldsEither manifest.old.granularity held (with_files held fs)) (D.past disk.old) (D.past disk.new) }
-    ensures made { IsTrue D.tells → (catalogue : JournalState) (held ahead : Held) (fs : List Filed)
-        → HasCopied catalogue manifest.old (store, rows.now) (shown_by D.Disk disk.old) held ahead
-        → MakesFiles manifest.old.granularity ahead writes.now fs
-        → OnOk result (IsStoredAs catalogue manifest.new (store, rows.now) (shown_by D.Disk disk.new)
-        (with_files held fs)) }
-    ensures unmade { IsTrue D.tells → (catalogue : JournalState) (held ahead : Held) (fs : List Filed)
-        → HasCopied catalogue manifest.old (store, rows.now) (shown_by D.Disk disk.old) held ahead
-        → MakesFiles manifest.old.granularity ahead writes.now fs
-        → OnErr result (manifest.new.journal.sound ≡ true
-        → IsStoredAs catalogue manifest.new (store, rows.now) (shown_by D.Disk disk.new) held) }
-    ensures in_doubt { IsTrue D.tells → (catalogue : JournalState) (held ahead : Held) (fs : List Filed)
-        → HasCopied catalogue manifest.old (store, rows.now) (shown_by D.Disk disk.old) held ahead
-        → MakesFiles manifest.old.granularity ahead writes.now fs
-        → OnErr result (manifest.new.journal.sound ≡ false
-        → IsDoubtedAs catalogue manifest.new (store, rows.now) (shown_by D.Disk disk.new) held (with_files held fs)) }
-
-    ensures ahead { IsTrue D.tells → (catalogue : JournalState) (held ahead : Held) (fs : List Filed)
-        → HasCopied catalogue manifest.old (store, rows.now) (shown_by D.Disk disk.old) held ahead
-        → MakesFiles manifest.old.granularity ahead writes.now fs
-        → LeavesListed (listing_of ahead) (D.files disk.old) (D.files disk.new) (D.past disk.old) (D.past disk.new) }
-    ensures long { IsTrue D.tells → (catalogue : JournalState) (held ahead : Held) (fs : List Filed)
-        → HasCopied catalogue manifest.old (store, rows.now) (shown_by D.Disk disk.old) held ahead
-        → MakesFiles manifest.old.granularity ahead writes.now fs → AreLong ahead (D.files disk.new) }
-    ensures listed { IsTrue D.tells → LeavesListed ((store, rows.now), manifest.old.entries)
-        (D.files disk.old) (D.files disk.new) (D.past disk.old) (D.past disk.new) }
-    ensures elsewhere { IsTrue D.tells → (n : Name) → n.0 ≢ store → (IsOwn manifest.old.journal.name n → ⊥)
-        → D.files disk.new n ≡ D.files disk.old n }
-    ensures others { IsTrue D.tells → (n : Name) → IsOfNone (store, rows.now) writes.now n
-        → (IsOwn manifest.old.journal.name n → ⊥)
-        → D.files disk.new n ≡ D.files disk.old n }
-    ensures frame { IsTrue D.tells
-        → Passes (Beside store manifest.old.journal.name) (D.past disk.old) (D.past disk.new) }
-    ensures no_more { IsTrue D.tells → (n : Name) → D.opened disk.new n ≤ D.opened disk.old n }
-    ensures entries { OnOk result (manifest.new.entries ≡ all_changed manifest.old.entries (map set_of writes.now)) }
-    ensures unchanged { OnErr result (manifest.new.entries ≡ manifest.old.entries) }
-    ensures next { OnErr result (manifest.new.journal.sound ≡ false
-        → manifest.new.next ≡ all_changed manifest.old.entries (map set_of writes.now)) }
-    ensures state { (manifest.new.granularity ≡ manifest.old.granularity)
-        × (manifest.new.journal.name ≡ manifest.old.journal.name) }
-    ensures sound { OnOk result (manifest.new.journal.sound ≡ true) }
-    ensures memory { IsErrOf result DiskErr.Memory → manifest.new.journal.sound ≡ true }
+        → FlushesFiles catalogue manifest.old manifest.new (store, rows.now) result
+        (shown_by D.Disk disk.old) (shown_by D.Disk disk.new) held ahead fs }
+    ensures stays { IsTrue D.tells → StaysBeside (store, rows.now) manifest.old writes.now
+        (shown_by D.Disk disk.old) (shown_by D.Disk disk.new) }
+    ensures ends { ManifestEnds manifest.old manifest.new
+        (all_changed manifest.old.entries (map set_of writes.now)) result }
     ensures faults { D.faults disk.old ≤ D.faults disk.new }
     ensures cause { IsErrOf result DiskErr.Fault → Rose (D.faults disk.old) (D.faults disk.new) }
 {
     let changes = changes_of(alloc, writes)?;
     write_all(alloc, disk, store, rows, writes)?;
-    relist(disk, manifest, &changes)?;
-    Ok(())
+    relist(disk, manifest, &changes)
 }

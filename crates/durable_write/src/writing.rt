@@ -10,7 +10,7 @@ ghost use Rattle.partition_names.specs.declared.granularity.Granularity.{Granula
 ghost use Rattle.durable_write.specs.Held.{Filed, Held, file_of};
 ghost use Rattle.durable_write.specs.Flush.{Grows, MakesFiles, start_of, with_files};
 ghost use Rattle.durable_write.specs.Stored.{AreLong, AreSafe};
-ghost use Rattle.durable_write.specs.Writing.{Behind, IsSafe, IsWritten, IsSynced, IsOfNone};
+ghost use Rattle.durable_write.specs.Writing.{Behind, IsSafe, IsWritten, IsSynced, IsOfNone, WritesBehind};
 
 use crate::file_write::FileWrite;
 use disk_model::{Disk, DiskErr, FileName};
@@ -198,15 +198,9 @@ pub(crate) fn write_all<D: Disk>(
     requires can { IsTrue D.tells → (g : Granularity) × (held : Held) × (fs : List Filed)
         × IsSafe g (store, rows.now) (shown_by D.Disk disk.old) held × MakesFiles g held writes.now fs }
 
-    ensures any_moment { IsTrue D.tells → (g : Granularity) (held : Held) (fs : List Filed)
+    ensures goes { IsTrue D.tells → (g : Granularity) (held : Held) (fs : List Filed)
         → IsSafe g (store, rows.now) (shown_by D.Disk disk.old) held → MakesFiles g held writes.now fs
-        → Passes (Behind held) (D.past disk.old) (D.past disk.new) }
-    ensures behind { IsTrue D.tells → (g : Granularity) (held : Held) (fs : List Filed)
-        → IsSafe g (store, rows.now) (shown_by D.Disk disk.old) held → MakesFiles g held writes.now fs
-        → Behind held (D.files disk.old) (D.files disk.new) }
-    ensures still { IsTrue D.tells → (g : Granularity) (held : Held) (fs : List Filed)
-        → IsSafe g (store, rows.now) (shown_by D.Disk disk.old) held → MakesFiles g held writes.now fs
-        → AreLong held (D.files disk.new) }
+        → WritesBehind held (shown_by D.Disk disk.old) (shown_by D.Disk disk.new) }
     ensures written { IsTrue D.tells → (g : Granularity) (held : Held) (fs : List Filed)
         → IsSafe g (store, rows.now) (shown_by D.Disk disk.old) held → MakesFiles g held writes.now fs
         → OnOk result (AreSafe (with_files held fs) (shown_by D.Disk disk.new)) }

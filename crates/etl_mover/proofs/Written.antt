@@ -1,7 +1,7 @@
 -- What is written: one file behind its front, one more ahead of what is listed, and the commit that lists them.
-use Rattle.std.proofs.Common.{◌≡◌, inl, ℕ, List, refl, sym, ◌∙◌, ap, ◌≢◌, inr, ◌≤◌, [], ◌∷◌, ◌++◌, length, take, None, Some, subst, arith, zero, suc, ◌<◌, get_or, Option, map, Bool, true, false, Err, ◌⊎◌}
+use Rattle.std.proofs.Common.{◌≡◌, inl, ℕ, List, refl, sym, ◌∙◌, ap, ◌≢◌, inr, ◌≤◌, [], ◌∷◌, ◌++◌, length, take, None, Some, subst, arith, zero, suc, ◌<◌, get_or, Option, map, ◌⊎◌}
 use Rattle.disk_model.specs.Files.{Name, Files, HasFile, Content, At, Overwritten, Torn, Cut}
-use Rattle.disk_model.specs.Past.{Past, Passes, MayLeave, Only}
+use Rattle.disk_model.specs.Past.{Passes, MayLeave, Only}
 use Rattle.std.proofs.lemmas.List.{length-take, length-append, take_all, take_at}
 use Rattle.gate_journal.specs.Journal.{JournalState}
 use Rattle.gate_journal.specs.DiskShown.{DiskShown}
@@ -9,26 +9,23 @@ use Rattle.partition_names.specs.declared.granularity.Granularity.{Granularity}
 use Rattle.store_manifest.specs.Manifest.{ManifestState}
 use Rattle.durable_write.specs.Held.{Filed, Held, filed_at, Shelf, IsFiled, IsListed, IsIn, file_of, bytes_of, shelf_of, entry_of}
 use Rattle.durable_write.specs.Flush.{put_all, file_at, listed_bytes, listed_len, start_of, with_files}
-use Rattle.durable_write.specs.Writing.{IsStoredAs, Behind, IsSafe, IsDoubtedAs}
+use Rattle.durable_write.specs.Writing.{IsStoredAs, Behind, IsSafe}
 use Rattle.durable_write.specs.Ahead.{HasCopied, Leads, CanRelist}
-use Rattle.durable_write.proofs.Staying.{name_cases, same_place, same_file, having, AllowTo, whole_in, call_behind, still_safe, safe_both, still_stored_as, stored_left, appended, cut_kept, cut_of, written_keeps}
+use Rattle.durable_write.proofs.Staying.{name_cases, same_place, same_file, having, AllowTo, whole_in, call_behind, still_safe, safe_both, still_stored_as, appended, cut_kept, cut_of, written_keeps}
 use Rattle.etl_mover.specs.Writing.{WritesFile, LeavesFile}
 use Rattle.std.specs.Prelude.{Contains, IsTrue, All}
 use Rattle.std.proofs.lemmas.List.Elements.{All-nil, All-cons, All-contains, Contains-get_or, All-head, All-tail}
 use Rattle.store_files.specs.Fronts.{Begins, Keeps}
 use Rattle.store_files.proofs.Stays.{front_file, keeps_more, torn_keeps}
 use Rattle.store_manifest.specs.Entries.{Place, comes_before, put, all_changed, changed, AllCanFollow}
-use Rattle.durable_write.specs.Stored.{AreHeld, AreLong, AreSafe, Holds, HoldsEither}
+use Rattle.durable_write.specs.Stored.{AreHeld, AreLong, AreSafe, Holds}
 use Rattle.durable_write.proofs.Written.{copied_moment, leads_on, leads_behind, leads_long, put_all_has}
 use Rattle.durable_write.proofs.Places.{found, listed_at, all_put_all, rise_put_all}
 use Rattle.etl_mover.specs.Growing.{IsPlaced, BecomesFile}
-use Rattle.disk_model.specs.declared.disk.DiskErr.{DiskErr}
-use Rattle.disk_model.proofs.Passing.{passes_none}
 use Rattle.partition_names.specs.Part.{IsPart}
 use Rattle.store_manifest.specs.declared.entry.Entry.{Entry}
 use Rattle.durable_write.proofs.Commits.{map-put, can_publish}
 use Rattle.etl_mover.specs.Move.{Moving, IsAhead, set_entry}
-use Rattle.etl_mover.specs.Lists.{Unmade, published, Stands, Relists, Knows}
 
 -- One file more is written ahead of what is listed.
 
@@ -225,31 +222,6 @@ may_publish catalogue m shelf disk held ahead move has is =
 pub sets_follow : (g : Granularity) (pending entries : List Entry) → All (λ (e : Entry). IsPart g e.part) pending → AllCanFollow g entries (map set_entry pending)
 sets_follow g [] entries parts = tt
 sets_follow g (e ∷ es) entries parts = (All-head (λ (x : Entry). IsPart g x.part) e es parts, sets_follow g es (changed entries (set_entry e)) (All-tail (λ (x : Entry). IsPart g x.part) e es parts))
-
--- HOW IT ENDS
-
--- nothing has changed
-pub nothing_listed : (catalogue : JournalState) (m : ManifestState) (shelf : Shelf) (disk : DiskShown) (held next : Held) → IsStoredAs catalogue m shelf disk held → Relists catalogue m m shelf disk.past disk held next Unmade
-nothing_listed catalogue m shelf disk held next store = record {
-  any_moment = passes_none (HoldsEither m.granularity held next) disk.past (λ a left. inl (stored_left m.granularity catalogue m.journal disk held store.stored a left));
-  stands = store;
-}
-
--- a commit that failed wasn't made, or it isn't known whether it was
-pub failed_listing : (catalogue : JournalState) (m made : ManifestState) (shelf : Shelf) (old : Past) (new : DiskShown) (held next : Held) (e : DiskErr) → Passes (HoldsEither m.granularity held next) old new.past → (made.journal.sound ≡ true → IsStoredAs catalogue made shelf new held)
-    → (made.journal.sound ≡ false → IsDoubtedAs catalogue made shelf new held next) → Relists catalogue m made shelf old new held next (published (Err e) made.journal.sound)
-failed_listing catalogue m made shelf old new held next e passes unmade doubted = record { any_moment = passes; stands = go made.journal.sound refl }
-  where
-    go : (b : Bool) → made.journal.sound ≡ b → Stands catalogue made shelf new held next (published (Err e) b)
-    go true is = unmade is
-    go false is = doubted is
-
-pub failed_knows : (m made : ManifestState) (next : List Entry) (e : DiskErr) → made.entries ≡ m.entries → (made.journal.sound ≡ false → made.next ≡ next) → Knows m made next (published (Err e) made.journal.sound)
-failed_knows m made next e same doubt = go made.journal.sound refl
-  where
-    go : (b : Bool) → made.journal.sound ≡ b → Knows m made next (published (Err e) b)
-    go true is = (same, is)
-    go false is = (same, doubt is, is)
 
 -- One file is written behind its front.
 

@@ -2,7 +2,6 @@ pub mod Copying
 pub mod Growing
 pub mod Laws
 pub mod Lines
-pub mod Lists
 pub mod Move
 pub mod Moving
 pub mod Reading

@@ -1,17 +1,14 @@
 // The publication: one commit lists what was copied.
-ghost use Rattle.std.specs.Prelude.{◌≡◌, ◌≢◌, ◌≤◌, ℕ, map, true, IfOk, OnOk, OnErr, IsErrOf, IsTrue};
-ghost use Rattle.disk_model.specs.Files.{Name, Rose};
-ghost use Rattle.disk_model.specs.Past.{Passes};
-ghost use Rattle.gate_journal.specs.Generations.{IsOwn, AtOwn};
+ghost use Rattle.std.specs.Prelude.{◌≡◌, ◌≤◌, map, true, IfOk, OnOk, OnErr, IsErrOf, IsTrue};
+ghost use Rattle.disk_model.specs.Files.{Rose};
 ghost use Rattle.gate_journal.specs.Journal.{JournalState};
 ghost use Rattle.gate_journal.specs.DiskShown.{shown_by};
 ghost use Rattle.partition_names.specs.declared.granularity.Granularity.{Granularity};
 ghost use Rattle.store_manifest.specs.Entries.{all_changed};
 ghost use Rattle.durable_write.specs.Held.{Held, Shelf};
+ghost use Rattle.durable_write.specs.Relisting.{ManifestEnds, Relists, TouchesOwn};
 ghost use Rattle.durable_write.specs.Ahead.{HasCopied};
-ghost use Rattle.durable_write.specs.Three.{Anything};
 ghost use Rattle.etl_mover.specs.Move.{IsMove, IsAhead, IsCopied, set_entry};
-ghost use Rattle.etl_mover.specs.Lists.{Relists, Commits, published};
 ghost use Rattle.etl_mover.specs.declared.moving.Stage.TheVariants.{Published};
 
 use crate::moving::{Move, Stage};
@@ -46,20 +43,14 @@ impl Move {
 
         ensures relists { IsTrue D.tells → (catalogue : JournalState) (shelf : Shelf) (held ahead : Held)
             → HasCopied catalogue dest.old shelf (shown_by D.Disk disk.old) held ahead → IsAhead self.old held ahead
-            → Relists catalogue dest.old dest.new shelf (D.past disk.old) (shown_by D.Disk disk.new) held ahead
-            (published result dest.new.journal.sound) }
-        ensures commits { Commits dest.old dest.new
-            (all_changed dest.old.entries (map set_entry self.old.pending)) (published result dest.new.journal.sound) }
+            → Relists catalogue dest.old dest.new shelf result
+            (shown_by D.Disk disk.old) (shown_by D.Disk disk.new) held ahead }
+        ensures commits { ManifestEnds dest.old dest.new
+            (all_changed dest.old.entries (map set_entry self.old.pending)) result }
         ensures stage { OnOk result (self.new ≡ record self.old { stage = Published }) }
         ensures unchanged { OnErr result (self.new ≡ self.old) }
-        ensures memory { IsErrOf result DiskErr.Memory → dest.new.journal.sound ≡ true }
-        ensures elsewhere { IsTrue D.tells → (n : Name) → (IsOwn dest.old.journal.name n → ⊥)
-            → D.files disk.new n ≡ D.files disk.old n }
-        ensures frame { IsTrue D.tells
-            → Passes (AtOwn dest.old.journal.name Anything) (D.past disk.old) (D.past disk.new) }
-        ensures opened { IsTrue D.tells → (n : Name) → (IsOwn dest.old.journal.name n → ⊥)
-            → D.opened disk.new n ≡ D.opened disk.old n }
-        ensures no_more { IsTrue D.tells → (n : Name) → D.opened disk.new n ≤ D.opened disk.old n }
+        ensures touches { IsTrue D.tells
+            → TouchesOwn dest.old.journal.name (shown_by D.Disk disk.old) (shown_by D.Disk disk.new) }
         ensures faults { D.faults disk.old ≤ D.faults disk.new }
         ensures cause { IsErrOf result DiskErr.Fault → Rose (D.faults disk.old) (D.faults disk.new) }
     {

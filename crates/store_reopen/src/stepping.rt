@@ -90,6 +90,5 @@ pub(crate) fn add_files<D: Disk>(
     ensures faults { D.faults disk.old ≤ D.faults disk.new }
     ensures cause { IsErrOf result DiskErr.Fault → Rose (D.faults disk.old) (D.faults disk.new) }
 {
-    relist(disk, &mut manifests[place], changes)?;
-    Ok(())
+    relist(disk, &mut manifests[place], changes)
 }

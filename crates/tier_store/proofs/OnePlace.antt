@@ -36,6 +36,7 @@ use Rattle.durable_write.specs.declared.file_write.FileWrite.{FileWrite}
 use Rattle.store_manifest.specs.declared.entry.Entry.{Entry}
 use Rattle.durable_write.specs.Flush.{HoldsBoth}
 use Rattle.durable_write.specs.Flush as flush
+use Rattle.durable_write.specs.Relisting.{ManifestEnds, Relists, TouchesOwn}
 use Rattle.durable_write.specs.Writing.{IsStoredAs, IsDoubtedAs}
 use Rattle.store_manifest.specs.Entries.{all_changed}
 use Rattle.store_manifest.specs.declared.entry.Change.{Change}
@@ -404,6 +405,12 @@ planned ms n m there here rows limbo batch writes count plan =
 pub on_store : (tells : Bool) (at : Seen) (held : Stores) (i : ℕ) (m : ManifestState) → slice_get at.manifests i ≡ Some m → Has tells at held → (tells_it : IsTrue tells) → (new : DiskShown) → Passes (Beside (i + 1) m.journal.name) at.past new.past → ((n : Name) → n.0 ≢ i + 1 → (IsOwn m.journal.name n → ⊥) → new.files n ≡ at.files n) → ((n : Name) → new.opened n ≤ at.opened n) → OnStore (i + 1) m.journal.name (on_disk at) new
 on_store tells at held i m here has told new passes same fewer = record { numbered = omega arith; named = ((has.disk told).each i m here).named; passes = passes; same = same; fewer = fewer }
 
+-- and what a commit of its manifest alone does
+pub own_store : (tells : Bool) (at : Seen) (held : Stores) (i : ℕ) (m : ManifestState) → slice_get at.manifests i ≡ Some m → Has tells at held → (tells_it : IsTrue tells) → (new : DiskShown) → TouchesOwn m.journal.name (on_disk at) new → OnStore (i + 1) m.journal.name (on_disk at) new
+own_store tells at held i m here has told new touches =
+    on_store tells at held i m here has told new (passes_weaker (AtOwn m.journal.name Anything) (Beside (i + 1) m.journal.name) at.past new.past touches.frame (λ a x was step n other apart. step.elsewhere n apart))
+    (λ n other apart. touches.elsewhere n apart) touches.no_more
+
 -- OTHER FILES AT ONE PLACE
 
 module _ {S : Type 0} (shows : S → DiskShown) (faults_of : S → ℕ) (tells : Bool) (c : CatalogueState) (ms : List ManifestState) (i : ℕ) (m made : ManifestState) (here : slice_get ms i ≡ Some m) (d after : S) (changes : List Change)
@@ -429,8 +436,8 @@ module _ {S : Type 0} (shows : S → DiskShown) (faults_of : S → ℕ) (tells :
   valid : (held : Stores) (has : Has tells list_before held) → AreHeld m.granularity (holding i held (files held has))
   valid held has = subst (AreHeld m.granularity) (are held has) ((can held has).1.valid m here)
 
-  lists : (held : Stores) (has : Has tells list_before held) → all_changed m.entries changes ≡ map entry_of (files held has)
-  lists held has = ap (λ (es : List Entry). all_changed es changes) (has.known.each i m here).entries ∙ (can held has).1.lists
+  entries_next : (held : Stores) (has : Has tells list_before held) → all_changed m.entries changes ≡ map entry_of (files held has)
+  entries_next held has = ap (λ (es : List Entry). all_changed es changes) (has.known.each i m here).entries ∙ (can held has).1.lists
 
   pub can_relist : (held : Stores) (has : Has tells list_before held) → IsTrue tells → Can c.journal shelf (tier i held) (holding i held (files held has))
   can_relist held has told = record {
@@ -439,35 +446,28 @@ module _ {S : Type 0} (shows : S → DiskShown) (faults_of : S → ℕ) (tells :
     same_stands = refl;
     valid = valid held has;
     safe = subst (λ (t : Held). AreSafe t (shows d)) (are held has) ((can held has).1.safe told);
-    lists = lists held has;
+    lists = entries_next held has;
   }
 
-  pub beside_all : (held : Stores) → Has tells list_before held → IsTrue tells → Passes (AtOwn m.journal.name Anything) (shows d).past (shows after).past → ((n : Name) → (IsOwn m.journal.name n → ⊥) → (shows after).files n ≡ (shows d).files n) → ((n : Name) → (shows after).opened n ≤ (shows d).opened n)
-      → OnStore (i + 1) m.journal.name (shows d) (shows after)
-  beside_all held has told passes elsewhere fewer =
-      on_store tells list_before held i m here has told (shows after) (passes_weaker (AtOwn m.journal.name Anything) (Beside (i + 1) m.journal.name) (shows d).past (shows after).past passes (λ a x was step n other apart. step.elsewhere n apart))
-      (λ n other apart. elsewhere n apart) fewer
+  -- the call says so of any stores that are held
+  abbrev Lists : Result (Unit {0}) DiskErr → Type 0
+  Lists r = (catalogue : JournalState) (s : Shelf) (held next : Held) → Can catalogue s held next → Relists catalogue m made s r (shows d) (shows after) held next
 
-  module _ (same_g : made.granularity ≡ m.granularity) (moment : IsTrue tells → (catalogue : JournalState) (s : Shelf) (held next : Held) → Can catalogue s held next → Passes (HoldsEither m.granularity held next) (shows d).past (shows after).past)
-      (beside : IsTrue tells → OnStore (i + 1) m.journal.name (shows d) (shows after)) (faults : faults_of d ≤ faults_of after) where
-    at_moment : IsTrue tells → (held : Stores) (has : Has tells list_before held) → Passes (HoldsEither m.granularity (tier i held) (holding i held (files held has))) (shows d).past (shows after).past
-    at_moment told held has = moment told c.journal shelf (tier i held) (holding i held (files held has)) (can_relist held has told)
+  lists_here : (r : Result (Unit {0}) DiskErr) → (IsTrue tells → Lists r) → IsTrue tells → (held : Stores) (has : Has tells list_before held) → Relists c.journal m made shelf r (shows d) (shows after) (tier i held) (holding i held (files held has))
+  lists_here r lists told held has = lists told c.journal shelf (tier i held) (holding i held (files held has)) (can_relist held has told)
 
-    -- by whatever call lists these files
-    module _ (call : StoreCall (Unit {0}) ⊥) (by : (held : Stores) (has : Has tells list_before held) → call.by held (with_list i (files held has) held)) (says : (held : Stores) (has : Has tells list_before held) → call.says tt held (with_list i (files held has) held)) where
-      pub call_done : made.entries ≡ all_changed m.entries changes → made.journal.sound ≡ true
-          → (IsTrue tells → (catalogue : JournalState) (s : Shelf) (held next : Held) → Can catalogue s held next → IsStoredAs catalogue made s (shows after) next)
-          → Changes tells call list_before list_behind (Done tt)
-      call_done entries sound stored =
-          place_done shows faults_of tells c ms i m made here d after same_g beside faults call files by valid at_moment tt says sound (λ held has. entries ∙ lists held has)
-          (λ told held has. (stored told c.journal shelf (tier i held) (holding i held (files held has)) (can_relist held has told)).stored.tier)
+  -- whatever call it is that lists these files
+  module _ (touches : IsTrue tells → TouchesOwn m.journal.name (shows d) (shows after)) (was : IsTrue tells → (held : Stores) × Has tells list_before held) (faults : faults_of d ≤ faults_of after)
+      (call : StoreCall (Unit {0}) ⊥) (by : (held : Stores) (has : Has tells list_before held) → call.by held (with_list i (files held has) held)) (says : (a : Unit {0}) (held : Stores) (has : Has tells list_before held) → call.says a held (with_list i (files held has) held)) where
+    beside : IsTrue tells → OnStore (i + 1) m.journal.name (shows d) (shows after)
+    beside told = own_store tells list_before (was told).0 i m here (was told).1 told (shows after) (touches told)
 
-      pub call_cut : made.entries ≡ m.entries → (made.journal.sound ≡ false → made.next ≡ all_changed m.entries changes)
-          → (IsTrue tells → (catalogue : JournalState) (s : Shelf) (held next : Held) → Can catalogue s held next → made.journal.sound ≡ true → IsStoredAs catalogue made s (shows after) held)
-          → (IsTrue tells → (catalogue : JournalState) (s : Shelf) (held next : Held) → Can catalogue s held next → made.journal.sound ≡ false → IsDoubtedAs catalogue made s (shows after) held next)
-          → (e : DiskErr) (end : End (Unit {0}) ⊥) → end ≡ end_of_error e → (e ≡ Memory → made.journal.sound ≡ true) → (e ≡ Fault → Rose (faults_of d) (faults_of after)) → Changes tells call list_before list_behind end
-      call_cut unchanged next unmade in_doubt e end is memory cause =
-          place_cut shows faults_of tells c ms i m made here d after same_g beside faults call files by valid at_moment unchanged (λ held has unsound. next unsound ∙ lists held has)
-          (λ told held has sound. (unmade told c.journal shelf (tier i held) (holding i held (files held has)) (can_relist held has told) sound).stored.tier)
-          (λ told held has unsound. list_unsure c.journal made shelf (shows after) (tier i held) (holding i held (files held has)) (in_doubt told c.journal shelf (tier i held) (holding i held (files held has)) (can_relist held has told) unsound) unsound)
-          e end is memory cause
+    pub call_ends : (r : Result (Unit {0}) DiskErr) → ManifestEnds m made (all_changed m.entries changes) r → (IsTrue tells → Lists r) → (r ≡ Err Fault → Rose (faults_of d) (faults_of after)) → Changes tells call list_before list_behind (end_of_disk r)
+    call_ends (Ok a) ends lists cause =
+        place_done shows faults_of tells c ms i m made here d after ends.granularity beside faults call files by valid (λ told held has. (lists_here (Ok a) lists told held has).any_moment) a (says a) ends.sound
+        (λ held has. ends.entries ∙ entries_next held has) (λ told held has. (lists_here (Ok a) lists told held has).made.stored.tier)
+    call_ends (Err e) ends lists cause =
+        place_cut shows faults_of tells c ms i m made here d after ends.granularity beside faults call files by valid (λ told held has. (lists_here (Err e) lists told held has).any_moment) ends.unchanged
+        (λ held has unsound. ends.next unsound ∙ entries_next held has) (λ told held has sound. ((lists_here (Err e) lists told held has).unmade sound).stored.tier)
+        (λ told held has unsound. list_unsure c.journal made shelf (shows after) (tier i held) (holding i held (files held has)) ((lists_here (Err e) lists told held has).in_doubt unsound) unsound)
+        e (end_of_error e) refl (λ memory. ends.memory (ap (λ (x : DiskErr). Err x) memory)) (λ fault. cause (ap (λ (x : DiskErr). Err x) fault))

@@ -1,11 +1,11 @@
 -- A flush beside files in limbo: what it makes of the store, and that what is listed or in limbo stays so, through it and while a doubt is settled.
-use Rattle.std.proofs.Common.{◌≡◌, inl, inr, true, false, Bool, ℕ, ◌≤◌, List, [], ◌∷◌, map, length, get_or, None, Some, refl, sym, ◌∙◌, ap, subst, arith, ◌<◌, ◌+◌, Ok, Err, Option}
+use Rattle.std.proofs.Common.{◌≡◌, inl, inr, true, Bool, ℕ, ◌≤◌, List, [], ◌∷◌, map, length, get_or, None, Some, refl, sym, ◌∙◌, ap, subst, arith, ◌<◌, ◌+◌, Ok, Err, Option}
 use Rattle.std.specs.Prelude.{All, Contains, IsTrue, slice_get, slice_set, OnErr, OnOk, Result}
 use Rattle.std.proofs.lemmas.List.Elements.{All-nil, All-cons, All-contains, All-head, All-tail, Contains-get_or, All-filter, filter_passes}
 use Rattle.disk_model.specs.Files.{Name, Files, HasFile, Rose}
 use Rattle.disk_model.specs.Past.{Passes}
 use Rattle.disk_model.specs.declared.disk.DiskErr.{DiskErr}
-use Rattle.disk_model.specs.declared.disk.DiskErr.TheVariants.{Fault, Memory}
+use Rattle.disk_model.specs.declared.disk.DiskErr.TheVariants.{Fault}
 use Rattle.gate_journal.specs.Journal.{JournalState}
 use Rattle.gate_journal.specs.DiskShown.{DiskShown}
 use Rattle.partition_names.specs.Part.{IsPart}
@@ -20,9 +20,10 @@ use Rattle.durable_write.specs.Ahead.{HasCopied}
 use Rattle.durable_write.specs.Ends.{End, Done, end_of_error}
 use Rattle.durable_write.specs.Flush.{HoldsBoth, MakesFiles, PlacesRise, file_at, put_all, with_files}
 use Rattle.durable_write.specs.Held.{Filed, Held, IsFiled, IsIn, IsListed, entry_of, file_of, filed_at, shelf_of, AreFiled, ListsStill, listing_of, bytes_of}
+use Rattle.durable_write.specs.Relisting.{FlushesFiles, ManifestEnds, Relists}
 use Rattle.durable_write.specs.Revival.{having, AreUnlisted, ListsNoShorter}
-use Rattle.durable_write.specs.Stored.{HoldsEither, AreHeld, AreSafe, AreLong}
-use Rattle.durable_write.specs.Writing.{IsStoredAs, IsDoubtedAs, set_of, LeavesListed}
+use Rattle.durable_write.specs.Stored.{AreHeld, AreSafe, AreLong}
+use Rattle.durable_write.specs.Writing.{IsStoredAs, set_of, LeavesListed}
 use Rattle.durable_write.proofs.Written.{contains_entry, copied_beside, entries_over, flushes_over, holds_both, leads_beside, one_of_place, valid_over, listed_stays, put_all_one, limbo_stays}
 use Rattle.durable_write.proofs.Places.{found, listed_at, rise_filter}
 use Rattle.durable_write.proofs.Staying.{contains_map, filed_still, safe_grows, same_file, safe_stays, same_cases}
@@ -234,30 +235,27 @@ module _ {S : Type 0} (shows : S → DiskShown) (faults_of : S → ℕ) (tells :
   abbrev files_then : (held : Stores) → Has tells before held → Whole held → List Filed
   files_then held has whole = put_all held.short (to held whole has).filed
 
-  module _ (same_g : made.granularity ≡ m.granularity)
-      (moment : IsTrue tells → (catalogue : JournalState) (held ahead : Held) (fs : List Filed) → IsAheadOf catalogue held ahead → MakesFiles m.granularity ahead writes fs → Passes (HoldsEither m.granularity held (with_files held fs)) (shows d).past (shows after).past)
-      (on_store : IsTrue tells → OnStore 1 m.journal.name (shows d) (shows after)) (faults : faults_of d ≤ faults_of after) where
-    at_moment : IsTrue tells → (held : Stores) (has : Has tells before held) (whole : Whole held) → Passes (HoldsEither m.granularity (tier 0 held) (with_files (tier 0 held) (to held whole has).filed)) (shows d).past (shows after).past
-    at_moment told held has whole = let t = to held whole has in moment told c.journal (tier 0 held) (with_files (tier 0 held) t.by.back) t.filed (is_ahead held whole has told) t.makes
+  abbrev Flushed : Result (Unit {0}) DiskErr → Type 0
+  Flushed r = (catalogue : JournalState) (held ahead : Held) (fs : List Filed) → IsAheadOf catalogue held ahead → MakesFiles m.granularity ahead writes fs → FlushesFiles catalogue m made (1, rows) r (shows d) (shows after) held ahead fs
 
-    pub over_done : made.entries ≡ all_changed m.entries (map set_of writes) → made.journal.sound ≡ true
-        → (IsTrue tells → (catalogue : JournalState) (held ahead : Held) (fs : List Filed) → IsAheadOf catalogue held ahead → MakesFiles m.granularity ahead writes fs → IsStoredAs catalogue made (1, rows) (shows after) (with_files held fs))
-        → ChangesGiven Whole tells (flushing_over limbo files batch) before (seen_on shows faults_of c (slice_set ms 0 made) after) (Done count)
-    over_done entries sound stored =
-        given_done shows faults_of tells c ms 0 m made here d after same_g on_store faults Whole (flushing_over limbo files batch) files_then (λ held has whole. (to held whole has).by) (λ held has whole. (to held whole has).valid) at_moment count (λ held has whole. (to held whole has).counts) sound
-        (λ held has whole. entries ∙ (to held whole has).lists)
-        (λ told held has whole. let t = to held whole has in (stored told c.journal (tier 0 held) (with_files (tier 0 held) t.by.back) t.filed (is_ahead held whole has told) t.makes).stored.tier)
+  lists_here : (r : Result (Unit {0}) DiskErr) → (IsTrue tells → Flushed r) → IsTrue tells → (held : Stores) (has : Has tells before held) (whole : Whole held) → Relists c.journal m made (1, rows) r (shows d) (shows after) (tier 0 held) (with_files (tier 0 held) (to held whole has).filed)
+  lists_here r flushed told held has whole = let t = to held whole has in (flushed told c.journal (tier 0 held) (with_files (tier 0 held) t.by.back) t.filed (is_ahead held whole has told) t.makes).lists
 
-    pub over_cut : made.entries ≡ m.entries → (made.journal.sound ≡ false → made.next ≡ all_changed m.entries (map set_of writes))
-        → (IsTrue tells → (catalogue : JournalState) (held ahead : Held) (fs : List Filed) → IsAheadOf catalogue held ahead → MakesFiles m.granularity ahead writes fs → made.journal.sound ≡ true → IsStoredAs catalogue made (1, rows) (shows after) held)
-        → (IsTrue tells → (catalogue : JournalState) (held ahead : Held) (fs : List Filed) → IsAheadOf catalogue held ahead → MakesFiles m.granularity ahead writes fs → made.journal.sound ≡ false → IsDoubtedAs catalogue made (1, rows) (shows after) held (with_files held fs))
-        → (e : DiskErr) (end : End ℕ ⊥) → end ≡ end_of_error e → (e ≡ Memory → made.journal.sound ≡ true) → (e ≡ Fault → Rose (faults_of d) (faults_of after)) → ChangesGiven Whole tells (flushing_over limbo files batch) before (seen_on shows faults_of c (slice_set ms 0 made) after) end
-    over_cut unchanged next unmade in_doubt e end is memory cause =
-        given_cut shows faults_of tells c ms 0 m made here d after same_g on_store faults Whole (flushing_over limbo files batch) files_then (λ held has whole. (to held whole has).by) (λ held has whole. (to held whole has).valid) at_moment unchanged
-        (λ held has whole unsound. next unsound ∙ (to held whole has).lists)
-        (λ told held has whole sound. let t = to held whole has in (unmade told c.journal (tier 0 held) (with_files (tier 0 held) t.by.back) t.filed (is_ahead held whole has told) t.makes sound).stored.tier)
-        (λ told held has whole unsound. let t = to held whole has in list_unsure c.journal made (1, rows) (shows after) (tier 0 held) (with_files (tier 0 held) t.filed) (in_doubt told c.journal (tier 0 held) (with_files (tier 0 held) t.by.back) t.filed (is_ahead held whole has told) t.makes unsound) unsound)
-        e end is memory cause
+  module _ (on_store : IsTrue tells → OnStore 1 m.journal.name (shows d) (shows after)) (faults : faults_of d ≤ faults_of after) where
+    pub over_done : (a : Unit {0}) → ManifestEnds m made (all_changed m.entries (map set_of writes)) (Ok a) → (IsTrue tells → Flushed (Ok a)) → ChangesGiven Whole tells (flushing_over limbo files batch) before (seen_on shows faults_of c (slice_set ms 0 made) after) (Done count)
+    over_done a ends flushed =
+        given_done shows faults_of tells c ms 0 m made here d after ends.granularity on_store faults Whole (flushing_over limbo files batch) files_then (λ held has whole. (to held whole has).by) (λ held has whole. (to held whole has).valid)
+        (λ told held has whole. (lists_here (Ok a) flushed told held has whole).any_moment) count (λ held has whole. (to held whole has).counts) ends.sound (λ held has whole. ends.entries ∙ (to held whole has).lists)
+        (λ told held has whole. (lists_here (Ok a) flushed told held has whole).made.stored.tier)
+
+    pub over_cut : (e : DiskErr) → ManifestEnds m made (all_changed m.entries (map set_of writes)) (Err e) → (IsTrue tells → Flushed (Err e)) → (end : End ℕ ⊥) → end ≡ end_of_error e → (e ≡ Fault → Rose (faults_of d) (faults_of after))
+        → ChangesGiven Whole tells (flushing_over limbo files batch) before (seen_on shows faults_of c (slice_set ms 0 made) after) end
+    over_cut e ends flushed end is cause =
+        given_cut shows faults_of tells c ms 0 m made here d after ends.granularity on_store faults Whole (flushing_over limbo files batch) files_then (λ held has whole. (to held whole has).by) (λ held has whole. (to held whole has).valid)
+        (λ told held has whole. (lists_here (Err e) flushed told held has whole).any_moment) ends.unchanged (λ held has whole unsound. ends.next unsound ∙ (to held whole has).lists)
+        (λ told held has whole sound. ((lists_here (Err e) flushed told held has whole).unmade sound).stored.tier)
+        (λ told held has whole unsound. list_unsure c.journal made (1, rows) (shows after) (tier 0 held) (with_files (tier 0 held) (to held whole has).filed) ((lists_here (Err e) flushed told held has whole).in_doubt unsound) unsound)
+        e end is (λ memory. ends.memory (ap (λ (x : DiskErr). Err x) memory)) cause
 
 -- WHAT IS LISTED
 

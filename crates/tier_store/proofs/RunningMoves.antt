@@ -1,6 +1,6 @@
 -- Running moves beside the stores: names that a call leaves as they are, how a move begins and copies beside the stores and does so still behind
 -- other calls, and what it has written, which stands ahead of what its destination lists, and may be listed.
-use Rattle.std.proofs.Common.{◌≡◌, ◌≢◌, inr, Bool, ℕ, ◌≤◌, ◌+◌, List, zero, suc, [], ◌∷◌, refl, sym, ap, subst, ◌∙◌, arith, inl, ◌<◌, ◌++◌, ◌==◌, Option, None, Some, length, map, filter, get_or, take, drop, append-nil, true, false, Ok, Err}
+use Rattle.std.proofs.Common.{◌≡◌, ◌≢◌, inr, Bool, ℕ, ◌≤◌, ◌+◌, List, zero, suc, [], ◌∷◌, refl, sym, ap, subst, ◌∙◌, arith, inl, ◌<◌, ◌++◌, ◌==◌, Option, None, Some, length, map, filter, get_or, take, drop, append-nil, Ok, Err}
 use Rattle.std.specs.FinMap.{FinMap}
 use Rattle.std.specs.Ordering.{nat_cmp}
 use Rattle.std.specs.Prelude.{All, Contains, IsTrue, nat_eq, slice_get, Result, slice_set}
@@ -45,14 +45,13 @@ use Rattle.std.proofs.lemmas.Option.{same_Some, slice_get_within}
 use Rattle.durable_write.specs.Ahead.{Leads, HasCopied}
 use Rattle.tier_store.proofs.OnePlace.{stored_as, list_unsure, OnStore, given_done, given_cut}
 use Rattle.disk_model.specs.declared.disk.DiskErr.{DiskErr}
-use Rattle.disk_model.specs.declared.disk.DiskErr.TheVariants.{Fault, Memory}
-use Rattle.etl_mover.specs.Lists.{Relists, Commits, Knows, Stands, published}
+use Rattle.disk_model.specs.declared.disk.DiskErr.TheVariants.{Fault}
+use Rattle.durable_write.specs.Relisting.{ManifestEnds, Relists}
 use Rattle.etl_mover.proofs.Written.{entries_with}
 use Rattle.gate_journal.specs.Journal.{JournalState}
 use Rattle.gate_journal.specs.DiskShown.{DiskShown}
 use Rattle.pv_catalog.specs.Catalogue.{CatalogueState}
 use Rattle.durable_write.specs.Ends.{end_of_disk, end_of_error}
-use Rattle.durable_write.specs.Writing.{IsStoredAs, IsDoubtedAs}
 use Rattle.tier_store.specs.Given.{ChangesGiven}
 use Rattle.etl_mover.specs.Copying.{last_of}
 use Rattle.series_model.specs.Series.{end_of, since}
@@ -554,24 +553,6 @@ is_ahead i tells all move files held runs = record { files = files; are = refl; 
 
 -- A publication where nothing stands in doubt, by what the move's commit says
 
--- WHAT A FAILED COMMIT SAYS
-
-unchanged_by : (m made : ManifestState) (next : List Entry) (e : DiskErr) (b : Bool) → Knows m made next (published (Err e) b) → made.entries ≡ m.entries
-unchanged_by m made next e true knows = knows.0
-unchanged_by m made next e false knows = knows.0
-
-next_by : (m made : ManifestState) (next : List Entry) (e : DiskErr) (b : Bool) → b ≡ false → Knows m made next (published (Err e) b) → made.next ≡ next
-next_by m made next e true is knows = absurd (cc (is))
-next_by m made next e false is knows = knows.1
-
-unmade_by : (catalogue : JournalState) (made : ManifestState) (shelf : Shelf) (disk : DiskShown) (held next : Held) (e : DiskErr) (b : Bool) → b ≡ true → Stands catalogue made shelf disk held next (published (Err e) b) → IsStoredAs catalogue made shelf disk held
-unmade_by catalogue made shelf disk held next e true is stands = stands
-unmade_by catalogue made shelf disk held next e false is stands = absurd (cc (is))
-
-doubted_by : (catalogue : JournalState) (made : ManifestState) (shelf : Shelf) (disk : DiskShown) (held next : Held) (e : DiskErr) (b : Bool) → b ≡ false → Stands catalogue made shelf disk held next (published (Err e) b) → IsDoubtedAs catalogue made shelf disk held next
-doubted_by catalogue made shelf disk held next e true is stands = absurd (cc (is))
-doubted_by catalogue made shelf disk held next e false is stands = stands
-
 -- THE CALL
 
 module _ {S : Type 0} (shows : S → DiskShown) (faults_of : S → ℕ) (tells : Bool) (c : CatalogueState) (ms : List ManifestState) (limbo : List Retired) (i : ℕ) (m made : ManifestState) (here : slice_get ms i ≡ Some m) (d after : S)
@@ -604,26 +585,23 @@ module _ {S : Type 0} (shows : S → DiskShown) (faults_of : S → ℕ) (tells :
       ∙ entries_with (list_at i held) fs
 
   abbrev Relisted : Result (Unit {0}) DiskErr → Type 0
-  Relisted r = (catalogue : JournalState) (s : Shelf) (held ahead : Held) → HasCopied catalogue m s (shows d) held ahead → IsAhead move held ahead → Relists catalogue m made s (shows d).past (shows after) held ahead (published r made.journal.sound)
+  Relisted r = (catalogue : JournalState) (s : Shelf) (held ahead : Held) → HasCopied catalogue m s (shows d) held ahead → IsAhead move held ahead → Relists catalogue m made s r (shows d) (shows after) held ahead
 
-  pub publish_ends : (r : Result (Unit {0}) DiskErr) → Commits m made (all_changed m.entries (map set_entry move.pending)) (published r made.journal.sound) → (IsTrue tells → Relisted r)
-      → (IsTrue tells → OnStore (i + 1) m.journal.name (shows d) (shows after)) → faults_of d ≤ faults_of after
-      → (r ≡ Err Memory → made.journal.sound ≡ true) → (r ≡ Err Fault → Rose (faults_of d) (faults_of after)) → ChangesGiven Is tells (publishing i fs) before behind (end_of_disk r)
-  publish_ends (Ok a) commits relisted on_store faults memory cause =
-      given_done shows faults_of tells c ms i m made here d after commits.granularity on_store faults Is (publishing i fs) next (λ held has is. refl) (λ held has is. valid_with i tells (beside before limbo) held fs is.ahead m here has)
-      (λ told held has is. (relisted told c.journal shelf (tier i held) (then held) (copied held has is told) (is_ahead i tells (beside before limbo) move fs held is)).any_moment) a (λ held has is. tt) commits.knows.1 (λ held has is. commits.knows.0 ∙ lists held has is)
-      (λ told held has is. (relisted told c.journal shelf (tier i held) (then held) (copied held has is told) (is_ahead i tells (beside before limbo) move fs held is)).stands.stored.tier)
-  publish_ends (Err e) commits relisted on_store faults memory cause =
-      given_cut shows faults_of tells c ms i m made here d after commits.granularity on_store faults Is (publishing i fs) next (λ held has is. refl) (λ held has is. valid_with i tells (beside before limbo) held fs is.ahead m here has)
-      (λ told held has is. (relisted told c.journal shelf (tier i held) (then held) (copied held has is told) (is_ahead i tells (beside before limbo) move fs held is)).any_moment)
-      (unchanged_by m made (all_changed m.entries (map set_entry move.pending)) e made.journal.sound commits.knows)
-      (λ held has is unsound. next_by m made (all_changed m.entries (map set_entry move.pending)) e made.journal.sound unsound commits.knows ∙ lists held has is)
-      (λ told held has is sound.
-      (unmade_by c.journal made shelf (shows after) (tier i held) (then held) e made.journal.sound sound (relisted told c.journal shelf (tier i held) (then held) (copied held has is told) (is_ahead i tells (beside before limbo) move fs held is)).stands).stored.tier)
-      (λ told held has is unsound.
-      list_unsure c.journal made shelf (shows after) (tier i held) (then held)
-      (doubted_by c.journal made shelf (shows after) (tier i held) (then held) e made.journal.sound unsound (relisted told c.journal shelf (tier i held) (then held) (copied held has is told) (is_ahead i tells (beside before limbo) move fs held is)).stands) unsound)
-      e (end_of_error e) refl (λ is. memory (ap (λ (x : DiskErr). Err x) is)) (λ is. cause (ap (λ (x : DiskErr). Err x) is))
+  lists_here : (r : Result (Unit {0}) DiskErr) → (IsTrue tells → Relisted r) → IsTrue tells → (held : Stores) (has : Has tells before held) (is : Is held) → Relists c.journal m made shelf r (shows d) (shows after) (tier i held) (then held)
+  lists_here r relisted told held has is = relisted told c.journal shelf (tier i held) (then held) (copied held has is told) (is_ahead i tells (beside before limbo) move fs held is)
+
+  pub publish_ends : (r : Result (Unit {0}) DiskErr) → ManifestEnds m made (all_changed m.entries (map set_entry move.pending)) r → (IsTrue tells → Relisted r)
+      → (IsTrue tells → OnStore (i + 1) m.journal.name (shows d) (shows after)) → faults_of d ≤ faults_of after → (r ≡ Err Fault → Rose (faults_of d) (faults_of after)) → ChangesGiven Is tells (publishing i fs) before behind (end_of_disk r)
+  publish_ends (Ok a) ends relisted on_store faults cause =
+      given_done shows faults_of tells c ms i m made here d after ends.granularity on_store faults Is (publishing i fs) next (λ held has is. refl) (λ held has is. valid_with i tells (beside before limbo) held fs is.ahead m here has)
+      (λ told held has is. (lists_here (Ok a) relisted told held has is).any_moment) a (λ held has is. tt) ends.sound (λ held has is. ends.entries ∙ lists held has is)
+      (λ told held has is. (lists_here (Ok a) relisted told held has is).made.stored.tier)
+  publish_ends (Err e) ends relisted on_store faults cause =
+      given_cut shows faults_of tells c ms i m made here d after ends.granularity on_store faults Is (publishing i fs) next (λ held has is. refl) (λ held has is. valid_with i tells (beside before limbo) held fs is.ahead m here has)
+      (λ told held has is. (lists_here (Err e) relisted told held has is).any_moment) ends.unchanged (λ held has is unsound. ends.next unsound ∙ lists held has is)
+      (λ told held has is sound. ((lists_here (Err e) relisted told held has is).unmade sound).stored.tier)
+      (λ told held has is unsound. list_unsure c.journal made shelf (shows after) (tier i held) (then held) ((lists_here (Err e) relisted told held has is).in_doubt unsound) unsound)
+      e (end_of_error e) refl (λ memory. ends.memory (ap (λ (x : DiskErr). Err x) memory)) (λ fault. cause (ap (λ (x : DiskErr). Err x) fault))
 
 -- IT COPIES BESIDE THEM
 

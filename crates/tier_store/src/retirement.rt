@@ -80,8 +80,7 @@ impl<D: Disk> TierStore<D> {
         ensures pins { self.new.pinned ≡ self.old.pinned }
         ensures limbo { self.new.limbo ≡ self.old.limbo }
     {
-        relist(&mut self.disk, &mut self.manifests[place], drops)?;
-        Ok(())
+        relist(&mut self.disk, &mut self.manifests[place], drops)
     }
 
     // Asks which of the files that are to leave no pin names and are there, and then drops these from their list.

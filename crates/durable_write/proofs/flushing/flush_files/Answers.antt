@@ -1,56 +1,21 @@
-use Rattle.std.proofs.Common.{◌≡◌, ◌*◌, List, length, sym, ◌∙◌, ap, subst, arith}
+use Rattle.std.proofs.Common.{◌≡◌, ◌*◌, List, length, map, sym, ◌∙◌, ap, subst, arith}
 use Rattle.std.proofs.lemmas.Result.{err_from_is_err_and}
+use Rattle.gate_journal.specs.DiskShown.{shown_by}
 use Rattle.store_manifest.specs.declared.entry.Change.{Change}
-use Rattle.store_manifest.specs.Entries.{AllCanFollow}
+use Rattle.store_manifest.specs.Entries.{AllCanFollow, all_changed}
 use Rattle.store_manifest.specs.Batches.{batch_of}
 use Rattle.durable_write.specs.Flush.{with_files}
-use Rattle.durable_write.specs.Held.{Shelf, listing_of}
-use Rattle.durable_write.proofs.Written.{leads_behind, leaves_copied, still_copied, ahead_committed, ahead_long, can_relist_over, leaves_ahead}
-use Rattle.durable_write.proofs.Staying.{leaves_none, leaves_on, behind_none, sets_long, still_held, leaves_committed}
-use Rattle.durable_write.proofs.Commits.{all_follow, then_either, beside_none, beside_files, beside_commit}
+use Rattle.durable_write.specs.Relisting.{ManifestEnds}
+use Rattle.durable_write.specs.Writing.{set_of}
+use Rattle.durable_write.proofs.Commits.{all_follow, ends_early}
+use Rattle.durable_write.proofs.Staying.{sets_long}
+use Rattle.durable_write.proofs.Written.{can_list, flushes_committed, flushes_nothing, stays_committed, stays_none, stays_written, writes_none}
 use Rattle.durable_write.proofs.flushing.flush_files.Goals as goal
 
 pub write_all-requires-clause-can : goal.write_all-requires-clause-can
 write_all-requires-clause-can g c tells =
     let can = c.requires.stored tells in
     (c.args.manifest.now.granularity, can.2, can.3, can.4.safe, can.5)
-
-pub returns-in_err-changes-clause-any_moment : goal.returns-in_err-changes-clause-any_moment
-returns-in_err-changes-clause-any_moment g c tells catalogue held ahead fs has makes =
-    still_held catalogue c.args.manifest.now (c.args.store, c.args.rows.now) _ (g.D.Disk.past c.args.disk.now) held (with_files held fs) has.stored
-    (behind_none held (g.D.Disk.past c.args.disk.now))
-
-pub returns-in_err-write_all-clause-any_moment : goal.returns-in_err-write_all-clause-any_moment
-returns-in_err-write_all-clause-any_moment g c tells catalogue held ahead fs has makes =
-    still_held catalogue c.args.manifest.now (c.args.store, c.args.rows.now) _ (g.D.Disk.past c.write_all.new.disk) held (with_files held fs) has.stored
-    (leads_behind held ahead _ _ has.leads has.safe.safe (c.write_all.ensures.any_moment tells c.args.manifest.now.granularity ahead fs has.safe makes))
-
-pub returns-in_err-write_all-clause-unmade : goal.returns-in_err-write_all-clause-unmade
-returns-in_err-write_all-clause-unmade g c tells catalogue held ahead fs has makes =
-    let p = err_from_is_err_and c.from_residual-in_err-write_all.result c.from_residual-in_err-write_all.ensures.1 in
-    rw p.1 (λ sound. still_copied catalogue c.args.manifest.now (c.args.store, c.args.rows.now) _ _ held ahead has
-    (c.write_all.ensures.any_moment tells c.args.manifest.now.granularity ahead fs has.safe makes) (c.write_all.ensures.still tells c.args.manifest.now.granularity ahead fs has.safe makes) (c.write_all.ensures.elsewhere tells) (c.write_all.ensures.no_more tells))
-
-pub returns-in_err-changes-clause-frame : goal.returns-in_err-changes-clause-frame
-returns-in_err-changes-clause-frame g c tells =
-    beside_none c.args.store c.args.manifest.now.journal.name (g.D.Disk.past c.args.disk.now)
-
-pub returns-in_err-write_all-clause-frame : goal.returns-in_err-write_all-clause-frame
-returns-in_err-write_all-clause-frame g c tells =
-    let is = c.requires.stored tells in
-    beside_files c.args.store c.args.manifest.now.journal.name is.2 _ _ (ap (λ (s : Shelf). s.0) is.4.safe.of_rows) (c.write_all.ensures.any_moment tells c.args.manifest.now.granularity is.2 is.3 is.4.safe is.5)
-
-pub returns-in_err-relist-clause-frame : goal.returns-in_err-relist-clause-frame
-returns-in_err-relist-clause-frame g c tells =
-    let is = c.requires.stored tells in
-    beside_commit c.args.store c.args.manifest.now.journal.name (g.D.Disk.past c.args.disk.now) (g.D.Disk.past c.write_all.new.disk) (g.D.Disk.past c.relist.new.disk)
-    (beside_files c.args.store c.args.manifest.now.journal.name is.2 _ _ (ap (λ (s : Shelf). s.0) is.4.safe.of_rows) (c.write_all.ensures.any_moment tells c.args.manifest.now.granularity is.2 is.3 is.4.safe is.5)) (c.relist.ensures.frame tells)
-
-pub returns-clause-frame : goal.returns-clause-frame
-returns-clause-frame g c tells =
-    let is = c.requires.stored tells in
-    beside_commit c.args.store c.args.manifest.now.journal.name (g.D.Disk.past c.args.disk.now) (g.D.Disk.past c.write_all.new.disk) (g.D.Disk.past c.relist.new.disk)
-    (beside_files c.args.store c.args.manifest.now.journal.name is.2 _ _ (ap (λ (s : Shelf). s.0) is.4.safe.of_rows) (c.write_all.ensures.any_moment tells c.args.manifest.now.granularity is.2 is.3 is.4.safe is.5)) (c.relist.ensures.frame tells)
 
 pub relist-requires-clause-follow : goal.relist-requires-clause-follow
 relist-requires-clause-follow g c =
@@ -64,133 +29,73 @@ relist-requires-clause-few g c =
 
 pub relist-requires-clause-can : goal.relist-requires-clause-can
 relist-requires-clause-can g c tells =
-    let is = c.requires.stored tells in (
+    let is = c.requires.stored tells in
+    let m = c.args.manifest.now in
+    let says = c.write_all.ensures in (
       is.0,
       (c.args.store, c.args.rows.now),
       is.1,
       with_files is.1 is.3,
-      can_relist_over is.0 c.args.manifest.now (c.args.store, c.args.rows.now) _ _ is.1 is.2 c.args.writes.now is.3 c.deref.result.now is.4 is.5 (c.deref.ensures.value ∙ c.in_ok-changes.ensures)
-          (c.write_all.ensures.any_moment tells c.args.manifest.now.granularity is.2 is.3 is.4.safe is.5) (c.write_all.ensures.still tells c.args.manifest.now.granularity is.2 is.3 is.4.safe is.5) (c.write_all.ensures.elsewhere tells) (c.write_all.ensures.no_more tells) (c.in_ok-write_all.ensures.written tells c.args.manifest.now.granularity is.2 is.3 is.4.safe is.5),
+      can_list is.0 m (c.args.store, c.args.rows.now) (shown_by g.D.Disk c.args.disk.now) (shown_by g.D.Disk c.write_all.new.disk) is.1 is.2 is.3 is.4 (says.goes tells m.granularity is.2 is.3 is.4.safe is.5) (says.no_more tells)
+          c.args.writes.now c.deref.result.now is.5 (c.deref.ensures.value ∙ c.in_ok-changes.ensures) (c.in_ok-write_all.ensures.written tells m.granularity is.2 is.3 is.4.safe is.5),
     )
 
-pub returns-in_err-relist-clause-any_moment : goal.returns-in_err-relist-clause-any_moment
-returns-in_err-relist-clause-any_moment g c tells catalogue held ahead fs has makes =
-    let behind = c.write_all.ensures.any_moment tells c.args.manifest.now.granularity ahead fs has.safe makes in
-    let can = can_relist_over catalogue c.args.manifest.now (c.args.store, c.args.rows.now) _ _ held ahead c.args.writes.now fs c.deref.result.now has makes (c.deref.ensures.value ∙ c.in_ok-changes.ensures) behind
-    (c.write_all.ensures.still tells c.args.manifest.now.granularity ahead fs has.safe makes) (c.write_all.ensures.elsewhere tells) (c.write_all.ensures.no_more tells) (c.in_ok-write_all.ensures.written tells c.args.manifest.now.granularity ahead fs has.safe makes) in
-    then_either c.args.manifest.now.granularity held (with_files held fs) (g.D.Disk.past c.args.disk.now) (g.D.Disk.past c.write_all.new.disk) (g.D.Disk.past c.relist.new.disk)
-    (still_held catalogue c.args.manifest.now (c.args.store, c.args.rows.now) _ (g.D.Disk.past c.write_all.new.disk) held (with_files held fs) has.stored (leads_behind held ahead _ _ has.leads has.safe.safe behind)) (c.relist.ensures.any_moment tells catalogue (c.args.store, c.args.rows.now) held (with_files held fs) can)
+pub returns-in_err-changes-clause-flushes : goal.returns-in_err-changes-clause-flushes
+returns-in_err-changes-clause-flushes g c tells catalogue held ahead fs has makes =
+    let p = err_from_is_err_and c.from_residual.result c.from_residual.ensures.1 in
+    flushes_nothing catalogue c.args.manifest.now (c.args.store, c.args.rows.now) (shown_by g.D.Disk c.args.disk.now) (shown_by g.D.Disk c.args.disk.now) held ahead fs has (writes_none ahead (shown_by g.D.Disk c.args.disk.now) has.safe.safe.long) (λ n. omega arith)
+    p.0 c.from_residual.result p.1 c.requires.sound
 
-pub returns-clause-any_moment : goal.returns-clause-any_moment
-returns-clause-any_moment g c tells catalogue held ahead fs has makes =
-    let behind = c.write_all.ensures.any_moment tells c.args.manifest.now.granularity ahead fs has.safe makes in
-    let can = can_relist_over catalogue c.args.manifest.now (c.args.store, c.args.rows.now) _ _ held ahead c.args.writes.now fs c.deref.result.now has makes (c.deref.ensures.value ∙ c.in_ok-changes.ensures) behind
-    (c.write_all.ensures.still tells c.args.manifest.now.granularity ahead fs has.safe makes) (c.write_all.ensures.elsewhere tells) (c.write_all.ensures.no_more tells) (c.in_ok-write_all.ensures.written tells c.args.manifest.now.granularity ahead fs has.safe makes) in
-    then_either c.args.manifest.now.granularity held (with_files held fs) (g.D.Disk.past c.args.disk.now) (g.D.Disk.past c.write_all.new.disk) (g.D.Disk.past c.relist.new.disk)
-    (still_held catalogue c.args.manifest.now (c.args.store, c.args.rows.now) _ (g.D.Disk.past c.write_all.new.disk) held (with_files held fs) has.stored (leads_behind held ahead _ _ has.leads has.safe.safe behind)) (c.relist.ensures.any_moment tells catalogue (c.args.store, c.args.rows.now) held (with_files held fs) can)
+pub returns-in_err-write_all-clause-flushes : goal.returns-in_err-write_all-clause-flushes
+returns-in_err-write_all-clause-flushes g c tells catalogue held ahead fs has makes =
+    let p = err_from_is_err_and c.from_residual-in_err-write_all.result c.from_residual-in_err-write_all.ensures.1 in
+    let m = c.args.manifest.now in
+    let says = c.write_all.ensures in
+    flushes_nothing catalogue m (c.args.store, c.args.rows.now) (shown_by g.D.Disk c.args.disk.now) (shown_by g.D.Disk c.write_all.new.disk) held ahead fs has (says.goes tells m.granularity ahead fs has.safe makes) (says.no_more tells)
+    p.0 c.from_residual-in_err-write_all.result p.1 c.requires.sound
 
-pub returns-clause-made : goal.returns-clause-made
-returns-clause-made g c tells catalogue held ahead fs has makes =
-    let behind = c.write_all.ensures.any_moment tells c.args.manifest.now.granularity ahead fs has.safe makes in
-    let can = can_relist_over catalogue c.args.manifest.now (c.args.store, c.args.rows.now) _ _ held ahead c.args.writes.now fs c.deref.result.now has makes (c.deref.ensures.value ∙ c.in_ok-changes.ensures) behind
-    (c.write_all.ensures.still tells c.args.manifest.now.granularity ahead fs has.safe makes) (c.write_all.ensures.elsewhere tells) (c.write_all.ensures.no_more tells) (c.in_ok-write_all.ensures.written tells c.args.manifest.now.granularity ahead fs has.safe makes) in
-    c.in_ok-relist.ensures.made tells catalogue (c.args.store, c.args.rows.now) held (with_files held fs) can
+pub returns-clause-flushes : goal.returns-clause-flushes
+returns-clause-flushes g c tells catalogue held ahead fs has makes =
+    let m = c.args.manifest.now in
+    let says = c.write_all.ensures in
+    let goes = says.goes tells m.granularity ahead fs has.safe makes in
+    let can = can_list catalogue m (c.args.store, c.args.rows.now) (shown_by g.D.Disk c.args.disk.now) (shown_by g.D.Disk c.write_all.new.disk) held ahead fs has goes (says.no_more tells)
+    c.args.writes.now c.deref.result.now makes (c.deref.ensures.value ∙ c.in_ok-changes.ensures) (c.in_ok-write_all.ensures.written tells m.granularity ahead fs has.safe makes) in
+    flushes_committed catalogue m (c.args.store, c.args.rows.now) (shown_by g.D.Disk c.args.disk.now) (shown_by g.D.Disk c.write_all.new.disk) held ahead fs has goes (says.no_more tells) (shown_by g.D.Disk c.relist.new.disk) (c.relist.ensures.touches tells)
+    c.relist.new.manifest c.relist.result (c.relist.ensures.lists tells catalogue (c.args.store, c.args.rows.now) held (with_files held fs) can)
 
-pub returns-in_err-relist-clause-unmade : goal.returns-in_err-relist-clause-unmade
-returns-in_err-relist-clause-unmade g c tells catalogue held ahead fs has makes =
-    let behind = c.write_all.ensures.any_moment tells c.args.manifest.now.granularity ahead fs has.safe makes in
-    let can = can_relist_over catalogue c.args.manifest.now (c.args.store, c.args.rows.now) _ _ held ahead c.args.writes.now fs c.deref.result.now has makes (c.deref.ensures.value ∙ c.in_ok-changes.ensures) behind
-    (c.write_all.ensures.still tells c.args.manifest.now.granularity ahead fs has.safe makes) (c.write_all.ensures.elsewhere tells) (c.write_all.ensures.no_more tells) (c.in_ok-write_all.ensures.written tells c.args.manifest.now.granularity ahead fs has.safe makes) in
-    let p = err_from_is_err_and c.from_residual-in_err-relist.result c.from_residual-in_err-relist.ensures.1 in
-    rw p.1 (c.in_err-relist.ensures.unmade tells catalogue (c.args.store, c.args.rows.now) held (with_files held fs) can)
+pub returns-in_err-changes-clause-stays : goal.returns-in_err-changes-clause-stays
+returns-in_err-changes-clause-stays g c tells = stays_none (c.args.store, c.args.rows.now) c.args.manifest.now c.args.writes.now (shown_by g.D.Disk c.args.disk.now)
 
-pub returns-in_err-relist-clause-in_doubt : goal.returns-in_err-relist-clause-in_doubt
-returns-in_err-relist-clause-in_doubt g c tells catalogue held ahead fs has makes =
-    let behind = c.write_all.ensures.any_moment tells c.args.manifest.now.granularity ahead fs has.safe makes in
-    let can = can_relist_over catalogue c.args.manifest.now (c.args.store, c.args.rows.now) _ _ held ahead c.args.writes.now fs c.deref.result.now has makes (c.deref.ensures.value ∙ c.in_ok-changes.ensures) behind
-    (c.write_all.ensures.still tells c.args.manifest.now.granularity ahead fs has.safe makes) (c.write_all.ensures.elsewhere tells) (c.write_all.ensures.no_more tells) (c.in_ok-write_all.ensures.written tells c.args.manifest.now.granularity ahead fs has.safe makes) in
-    let p = err_from_is_err_and c.from_residual-in_err-relist.result c.from_residual-in_err-relist.ensures.1 in
-    rw p.1 (c.in_err-relist.ensures.in_doubt tells catalogue (c.args.store, c.args.rows.now) held (with_files held fs) can)
-
--- THE BYTES OF WHAT IS AHEAD
-
-pub returns-in_err-changes-clause-ahead : goal.returns-in_err-changes-clause-ahead
-returns-in_err-changes-clause-ahead g c tells catalogue held ahead fs has makes =
-    leaves_none (listing_of ahead) _ _
-
-pub returns-in_err-write_all-clause-ahead : goal.returns-in_err-write_all-clause-ahead
-returns-in_err-write_all-clause-ahead g c tells catalogue held ahead fs has makes =
-    leaves_ahead ahead _ _ _ _ (c.write_all.ensures.behind tells c.args.manifest.now.granularity ahead fs has.safe makes) (c.write_all.ensures.any_moment tells c.args.manifest.now.granularity ahead fs has.safe makes)
-
-pub returns-in_err-relist-clause-ahead : goal.returns-in_err-relist-clause-ahead
-returns-in_err-relist-clause-ahead g c tells catalogue held ahead fs has makes =
-    leaves_on (listing_of ahead) _ _ _ _ (g.D.Disk.past c.write_all.new.disk) _ (leaves_ahead ahead _ _ _ _ (c.write_all.ensures.behind tells c.args.manifest.now.granularity ahead fs has.safe makes) (c.write_all.ensures.any_moment tells c.args.manifest.now.granularity ahead fs has.safe makes))
-    (ahead_committed catalogue c.args.manifest.now (c.args.store, c.args.rows.now) _ _ _ _ _ held ahead has (c.relist.ensures.elsewhere tells) (c.relist.ensures.frame tells))
-
-pub returns-clause-ahead : goal.returns-clause-ahead
-returns-clause-ahead g c tells catalogue held ahead fs has makes =
-    leaves_on (listing_of ahead) _ _ _ _ (g.D.Disk.past c.write_all.new.disk) _ (leaves_ahead ahead _ _ _ _ (c.write_all.ensures.behind tells c.args.manifest.now.granularity ahead fs has.safe makes) (c.write_all.ensures.any_moment tells c.args.manifest.now.granularity ahead fs has.safe makes))
-    (ahead_committed catalogue c.args.manifest.now (c.args.store, c.args.rows.now) _ _ _ _ _ held ahead has (c.relist.ensures.elsewhere tells) (c.relist.ensures.frame tells))
-
-pub returns-in_err-changes-clause-long : goal.returns-in_err-changes-clause-long
-returns-in_err-changes-clause-long g c tells catalogue held ahead fs has makes = has.safe.safe.long
-
-pub returns-in_err-write_all-clause-long : goal.returns-in_err-write_all-clause-long
-returns-in_err-write_all-clause-long g c tells catalogue held ahead fs has makes = c.write_all.ensures.still tells c.args.manifest.now.granularity ahead fs has.safe makes
-
-pub returns-in_err-relist-clause-long : goal.returns-in_err-relist-clause-long
-returns-in_err-relist-clause-long g c tells catalogue held ahead fs has makes = ahead_long catalogue c.args.manifest.now (c.args.store, c.args.rows.now) _ _ _ held ahead has (c.relist.ensures.elsewhere tells) (c.write_all.ensures.still tells c.args.manifest.now.granularity ahead fs has.safe makes)
-
-pub returns-clause-long : goal.returns-clause-long
-returns-clause-long g c tells catalogue held ahead fs has makes = ahead_long catalogue c.args.manifest.now (c.args.store, c.args.rows.now) _ _ _ held ahead has (c.relist.ensures.elsewhere tells) (c.write_all.ensures.still tells c.args.manifest.now.granularity ahead fs has.safe makes)
-
--- THE LISTED BYTES
-
-pub returns-in_err-changes-clause-listed : goal.returns-in_err-changes-clause-listed
-returns-in_err-changes-clause-listed g c tells =
-    leaves_none ((c.args.store, c.args.rows.now), c.args.manifest.now.entries) _ _
-
-pub returns-in_err-write_all-clause-listed : goal.returns-in_err-write_all-clause-listed
-returns-in_err-write_all-clause-listed g c tells =
+pub returns-in_err-write_all-clause-stays : goal.returns-in_err-write_all-clause-stays
+returns-in_err-write_all-clause-stays g c tells =
     let is = c.requires.stored tells in
-    leaves_copied is.0 c.args.manifest.now (c.args.store, c.args.rows.now) _ _ _ is.1 is.2 is.4 (c.write_all.ensures.behind tells c.args.manifest.now.granularity is.2 is.3 is.4.safe is.5) (c.write_all.ensures.any_moment tells c.args.manifest.now.granularity is.2 is.3 is.4.safe is.5)
+    let m = c.args.manifest.now in
+    let says = c.write_all.ensures in
+    stays_written is.0 m (c.args.store, c.args.rows.now) (shown_by g.D.Disk c.args.disk.now) (shown_by g.D.Disk c.write_all.new.disk) is.1 is.2 is.3 is.4 (says.goes tells m.granularity is.2 is.3 is.4.safe is.5) (says.no_more tells) c.args.writes.now (says.others tells)
 
-pub returns-in_err-relist-clause-listed : goal.returns-in_err-relist-clause-listed
-returns-in_err-relist-clause-listed g c tells =
+pub returns-clause-stays : goal.returns-clause-stays
+returns-clause-stays g c tells =
     let is = c.requires.stored tells in
-    leaves_on ((c.args.store, c.args.rows.now), c.args.manifest.now.entries) _ _ _ _ (g.D.Disk.past c.write_all.new.disk) _ (leaves_copied is.0 c.args.manifest.now (c.args.store, c.args.rows.now) _ _ _ is.1 is.2 is.4 (c.write_all.ensures.behind tells c.args.manifest.now.granularity is.2 is.3 is.4.safe is.5) (c.write_all.ensures.any_moment tells c.args.manifest.now.granularity is.2 is.3 is.4.safe is.5))
-    (leaves_committed is.0 c.args.manifest.now (c.args.store, c.args.rows.now) _ _ _ _ _ is.1 is.4.stored (c.relist.ensures.elsewhere tells) (c.relist.ensures.frame tells))
+    let m = c.args.manifest.now in
+    let says = c.write_all.ensures in
+    let goes = says.goes tells m.granularity is.2 is.3 is.4.safe is.5 in
+    stays_committed is.0 m (c.args.store, c.args.rows.now) (shown_by g.D.Disk c.args.disk.now) (shown_by g.D.Disk c.write_all.new.disk) is.1 is.2 is.3 is.4 goes (says.no_more tells) (shown_by g.D.Disk c.relist.new.disk) (c.relist.ensures.touches tells) c.args.writes.now
+    (stays_written is.0 m (c.args.store, c.args.rows.now) (shown_by g.D.Disk c.args.disk.now) (shown_by g.D.Disk c.write_all.new.disk) is.1 is.2 is.3 is.4 goes (says.no_more tells) c.args.writes.now (says.others tells))
 
-pub returns-clause-listed : goal.returns-clause-listed
-returns-clause-listed g c tells =
-    let is = c.requires.stored tells in
-    leaves_on ((c.args.store, c.args.rows.now), c.args.manifest.now.entries) _ _ _ _ (g.D.Disk.past c.write_all.new.disk) _ (leaves_copied is.0 c.args.manifest.now (c.args.store, c.args.rows.now) _ _ _ is.1 is.2 is.4 (c.write_all.ensures.behind tells c.args.manifest.now.granularity is.2 is.3 is.4.safe is.5) (c.write_all.ensures.any_moment tells c.args.manifest.now.granularity is.2 is.3 is.4.safe is.5))
-    (leaves_committed is.0 c.args.manifest.now (c.args.store, c.args.rows.now) _ _ _ _ _ is.1 is.4.stored (c.relist.ensures.elsewhere tells) (c.relist.ensures.frame tells))
+pub returns-in_err-changes-clause-ends : goal.returns-in_err-changes-clause-ends
+returns-in_err-changes-clause-ends g c =
+    let p = err_from_is_err_and c.from_residual.result c.from_residual.ensures.1 in
+    let m = c.args.manifest.now in
+    ends_early p.0 c.from_residual.result p.1 m c.requires.sound (all_changed m.entries (map set_of c.args.writes.now))
 
--- WHAT IS ELSEWHERE
+pub returns-in_err-write_all-clause-ends : goal.returns-in_err-write_all-clause-ends
+returns-in_err-write_all-clause-ends g c =
+    let p = err_from_is_err_and c.from_residual-in_err-write_all.result c.from_residual-in_err-write_all.ensures.1 in
+    let m = c.args.manifest.now in
+    ends_early p.0 c.from_residual-in_err-write_all.result p.1 m c.requires.sound (all_changed m.entries (map set_of c.args.writes.now))
 
-pub returns-in_err-relist-clause-elsewhere : goal.returns-in_err-relist-clause-elsewhere
-returns-in_err-relist-clause-elsewhere g c tells n other apart = c.relist.ensures.elsewhere tells n apart ∙ c.write_all.ensures.elsewhere tells n other
-
-pub returns-clause-elsewhere : goal.returns-clause-elsewhere
-returns-clause-elsewhere g c tells n other apart = c.relist.ensures.elsewhere tells n apart ∙ c.write_all.ensures.elsewhere tells n other
-
-pub returns-in_err-relist-clause-no_more : goal.returns-in_err-relist-clause-no_more
-returns-in_err-relist-clause-no_more g c tells n =
-    let first = c.write_all.ensures.no_more tells n in
-    let second = c.relist.ensures.no_more tells n in
-    omega (arith, first, second)
-
-pub returns-clause-no_more : goal.returns-clause-no_more
-returns-clause-no_more g c tells n =
-    let first = c.write_all.ensures.no_more tells n in
-    let second = c.relist.ensures.no_more tells n in
-    omega (arith, first, second)
-
--- THE FILES OF NO PIECE
-
-pub returns-in_err-relist-clause-others : goal.returns-in_err-relist-clause-others
-returns-in_err-relist-clause-others g c tells n apart not_own = c.relist.ensures.elsewhere tells n not_own ∙ c.write_all.ensures.others tells n apart
-
-pub returns-clause-others : goal.returns-clause-others
-returns-clause-others g c tells n apart not_own = c.relist.ensures.elsewhere tells n not_own ∙ c.write_all.ensures.others tells n apart
+pub returns-clause-ends : goal.returns-clause-ends
+returns-clause-ends g c =
+    let m = c.args.manifest.now in
+    subst (λ (cs : List Change). ManifestEnds m c.relist.new.manifest (all_changed m.entries cs) c.relist.result) (c.deref.ensures.value ∙ c.in_ok-changes.ensures) c.relist.ensures.ends

@@ -3,21 +3,29 @@ use Rattle.disk_model.specs.Files.{Name, Files}
 use Rattle.gate_journal.specs.DiskShown.{DiskShown, shown_by}
 use Rattle.durable_write.specs.Held.{Shelf}
 use Rattle.durable_write.specs.Flush.{with_files}
-use Rattle.durable_write.specs.Stored.{AreLong, AreSafe}
-use Rattle.durable_write.specs.Writing.{Behind}
+use Rattle.durable_write.specs.Stored.{AreSafe}
 use Rattle.durable_write.proofs.Staying.{behind_same, still_safe, safe_both}
-use Rattle.durable_write.proofs.Written.{synced_safe}
+use Rattle.durable_write.proofs.Written.{synced_safe, writes_synced}
 use Rattle.durable_write.proofs.writing.write_all.Goals as goal
 
-pub returns-in_err-sync_files-clause-any_moment : goal.returns-in_err-sync_files-clause-any_moment
-returns-in_err-sync_files-clause-any_moment g c tells gr held fs safe makes =
-    behind_same held (g.D.Disk.past c.args.disk.now) (g.D.Disk.past c.write_files.new.disk) (g.D.Disk.past c.sync_files.new.disk) (c.write_files.ensures.any_moment tells gr held fs safe makes) (c.sync_files.ensures.any_moment tells)
+pub returns-in_err-write_files-clause-goes : goal.returns-in_err-write_files-clause-goes
+returns-in_err-write_files-clause-goes g c tells gr held fs safe makes = let says = c.write_files.ensures in record {
+  any_moment = says.any_moment tells gr held fs safe makes;
+  behind = says.behind tells gr held fs safe makes;
+  still = says.still tells gr held fs safe makes;
+}
 
-pub returns-in_err-sync_files-clause-behind : goal.returns-in_err-sync_files-clause-behind
-returns-in_err-sync_files-clause-behind g c tells gr held fs safe makes = subst (Behind held (g.D.Disk.files c.args.disk.now)) (sym (c.sync_files.ensures.same tells)) (c.write_files.ensures.behind tells gr held fs safe makes)
+pub returns-in_err-sync_files-clause-goes : goal.returns-in_err-sync_files-clause-goes
+returns-in_err-sync_files-clause-goes g c tells gr held fs safe makes =
+    let says = c.write_files.ensures in
+    writes_synced held (shown_by g.D.Disk c.args.disk.now) (shown_by g.D.Disk c.write_files.new.disk) (shown_by g.D.Disk c.sync_files.new.disk) (says.any_moment tells gr held fs safe makes) (says.behind tells gr held fs safe makes) (says.still tells gr held fs safe makes)
+    (c.sync_files.ensures.any_moment tells) (c.sync_files.ensures.same tells)
 
-pub returns-in_err-sync_files-clause-still : goal.returns-in_err-sync_files-clause-still
-returns-in_err-sync_files-clause-still g c tells gr held fs safe makes = subst (AreLong held) (sym (c.sync_files.ensures.same tells)) (c.write_files.ensures.still tells gr held fs safe makes)
+pub returns-clause-goes : goal.returns-clause-goes
+returns-clause-goes g c tells gr held fs safe makes =
+    let says = c.write_files.ensures in
+    writes_synced held (shown_by g.D.Disk c.args.disk.now) (shown_by g.D.Disk c.write_files.new.disk) (shown_by g.D.Disk c.sync_files.new.disk) (says.any_moment tells gr held fs safe makes) (says.behind tells gr held fs safe makes) (says.still tells gr held fs safe makes)
+    (c.sync_files.ensures.any_moment tells) (c.sync_files.ensures.same tells)
 
 pub returns-in_err-sync_files-clause-elsewhere : goal.returns-in_err-sync_files-clause-elsewhere
 returns-in_err-sync_files-clause-elsewhere g c tells n other = ap (λ (f : Files). f n) (c.sync_files.ensures.same tells) ∙ c.write_files.ensures.elsewhere tells n other
@@ -27,16 +35,6 @@ returns-in_err-sync_files-clause-others g c tells n apart = ap (λ (f : Files). 
 
 pub returns-in_err-sync_files-clause-no_more : goal.returns-in_err-sync_files-clause-no_more
 returns-in_err-sync_files-clause-no_more g c tells n = subst (λ (o : Name → ℕ). o n ≤ g.D.Disk.opened c.args.disk.now n) (sym (c.sync_files.ensures.opened tells)) (c.write_files.ensures.no_more tells n)
-
-pub returns-clause-any_moment : goal.returns-clause-any_moment
-returns-clause-any_moment g c tells gr held fs safe makes =
-    behind_same held (g.D.Disk.past c.args.disk.now) (g.D.Disk.past c.write_files.new.disk) (g.D.Disk.past c.sync_files.new.disk) (c.write_files.ensures.any_moment tells gr held fs safe makes) (c.sync_files.ensures.any_moment tells)
-
-pub returns-clause-behind : goal.returns-clause-behind
-returns-clause-behind g c tells gr held fs safe makes = subst (Behind held (g.D.Disk.files c.args.disk.now)) (sym (c.sync_files.ensures.same tells)) (c.write_files.ensures.behind tells gr held fs safe makes)
-
-pub returns-clause-still : goal.returns-clause-still
-returns-clause-still g c tells gr held fs safe makes = subst (AreLong held) (sym (c.sync_files.ensures.same tells)) (c.write_files.ensures.still tells gr held fs safe makes)
 
 pub returns-clause-elsewhere : goal.returns-clause-elsewhere
 returns-clause-elsewhere g c tells n other = ap (λ (f : Files). f n) (c.sync_files.ensures.same tells) ∙ c.write_files.ensures.elsewhere tells n other

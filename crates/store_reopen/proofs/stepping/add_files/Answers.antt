@@ -1,10 +1,7 @@
-use Rattle.std.proofs.Common.{◌+◌, List, Err, refl, ◌∙◌, ap, arith}
-use Rattle.std.specs.Prelude.{Result}
-use Rattle.std.proofs.lemmas.Result.{err_from_is_err_and}
-use Rattle.disk_model.specs.declared.disk.DiskErr.{DiskErr}
+use Rattle.std.proofs.Common.{◌+◌, List, refl, arith}
 use Rattle.gate_journal.specs.DiskShown.{shown_by}
+use Rattle.gate_journal.proofs.Results.{on_ok_both}
 use Rattle.store_manifest.proofs.Written.{batch_length}
-use Rattle.durable_write.specs.Ends.{end_of_disk}
 use Rattle.durable_write.specs.Flush.{put_all}
 use Rattle.durable_write.specs.Held.{Filed}
 use Rattle.durable_write.specs.Three.{Anything}
@@ -12,7 +9,7 @@ use Rattle.tier_store.specs.Change.{CanList, Has}
 use Rattle.tier_store.specs.Moving.{publishing}
 use Rattle.tier_store.specs.Stores.{Stores, list_at, tier}
 use Rattle.tier_store.proofs.Places.{manifest_here, holding}
-use Rattle.tier_store.proofs.OnePlace.{can_relist, beside_all, call_done, call_cut}
+use Rattle.tier_store.proofs.OnePlace.{can_relist, call_ends}
 use Rattle.store_reopen.specs.Loading.{Manifest}
 use Rattle.store_reopen.specs.Reopen.{loaded}
 use Rattle.store_reopen.proofs.Swept.{files_ready, own_spares}
@@ -51,42 +48,19 @@ returns-clause-changes g c files may =
     let here = manifest_here ms c.args.place m c.index_mut.ensures.value c.requires.within in
     let says = c.relist.ensures in
     let can : (held : Stores) → Has g.D.Disk.tells (loaded g.D.Disk c.args.catalogue.now c.args.manifests.now.items c.args.disk.now) held → (fs : List Filed) × CanList c.args.place g.D.Disk.tells (loaded g.D.Disk c.args.catalogue.now c.args.manifests.now.items c.args.disk.now) c.args.changes.now held fs = λ held has. (put_all (list_at c.args.place held) files, may held has) in
-    call_done (shown_by disk) disk.faults disk.tells c.args.catalogue.now ms c.args.place m c.relist.new.manifest here c.args.disk.now c.relist.new.disk c.args.changes.now can
-    says.state.0 says.any_moment
-    (λ tells. beside_all (shown_by disk) disk.faults disk.tells c.args.catalogue.now ms c.args.place m c.relist.new.manifest here c.args.disk.now c.relist.new.disk c.args.changes.now can (c.requires.has tells).0 (c.requires.has tells).1 tells (says.frame tells) (says.elsewhere tells) (says.no_more tells))
-    says.faults (publishing c.args.place files) (λ held has. refl) (λ held has. tt) c.in_ok-relist.ensures.entries c.in_ok-relist.ensures.sound c.in_ok-relist.ensures.made
-
-pub returns-in_err-relist-clause-changes : goal.returns-in_err-relist-clause-changes
-returns-in_err-relist-clause-changes g c files may =
-    let disk = g.D.Disk in
-    let m = c.index_mut.result.now in
-    let ms = c.args.manifests.now.items in
-    let here = manifest_here ms c.args.place m c.index_mut.ensures.value c.requires.within in
-    let says = c.relist.ensures in
-    let can : (held : Stores) → Has g.D.Disk.tells (loaded g.D.Disk c.args.catalogue.now c.args.manifests.now.items c.args.disk.now) held → (fs : List Filed) × CanList c.args.place g.D.Disk.tells (loaded g.D.Disk c.args.catalogue.now c.args.manifests.now.items c.args.disk.now) c.args.changes.now held fs = λ held has. (put_all (list_at c.args.place held) files, may held has) in
-    let p = err_from_is_err_and c.from_residual.result c.from_residual.ensures.1 in
-    call_cut (shown_by disk) disk.faults disk.tells c.args.catalogue.now ms c.args.place m c.relist.new.manifest here c.args.disk.now c.relist.new.disk c.args.changes.now can
-    says.state.0 says.any_moment
-    (λ tells. beside_all (shown_by disk) disk.faults disk.tells c.args.catalogue.now ms c.args.place m c.relist.new.manifest here c.args.disk.now c.relist.new.disk c.args.changes.now can (c.requires.has tells).0 (c.requires.has tells).1 tells (says.frame tells) (says.elsewhere tells) (says.no_more tells))
-    says.faults (publishing c.args.place files) (λ held has. refl) (λ held has. tt) c.in_err-relist.ensures.unchanged c.in_err-relist.ensures.next c.in_err-relist.ensures.unmade c.in_err-relist.ensures.in_doubt
-    c.in_err-relist.field-0.0 _ (ap (λ (r : Result (Unit {0}) DiskErr). end_of_disk r) (p.1 ∙ ap (λ (x : DiskErr). Err x) p.2))
-    (λ is. says.memory (c.in_err-relist.was ∙ ap (λ (x : DiskErr). Err x) is)) (λ is. says.cause (c.in_err-relist.was ∙ ap (λ (x : DiskErr). Err x) is))
+    call_ends (shown_by disk) disk.faults disk.tells c.args.catalogue.now ms c.args.place m c.relist.new.manifest here c.args.disk.now c.relist.new.disk c.args.changes.now can
+    says.touches c.requires.has says.faults (publishing c.args.place files) (λ held has. refl) (λ a held has. tt) c.relist.result says.ends says.lists says.cause
 
 pub returns-clause-spares : goal.returns-clause-spares
 returns-clause-spares g c tells =
     let here = manifest_here c.args.manifests.now.items c.args.place c.index_mut.result.now c.index_mut.ensures.value c.requires.within in
-    let says = c.relist.ensures in
-    own_spares g.D.Disk Anything c.index_mut.result.now.journal.name (Manifest c.args.place) (((c.requires.has tells).1.disk tells).each c.args.place c.index_mut.result.now here).named c.args.disk.now c.relist.new.disk (says.frame tells) (says.elsewhere tells) (says.no_more tells)
-
-pub returns-in_err-relist-clause-spares : goal.returns-in_err-relist-clause-spares
-returns-in_err-relist-clause-spares g c tells =
-    let here = manifest_here c.args.manifests.now.items c.args.place c.index_mut.result.now c.index_mut.ensures.value c.requires.within in
-    let says = c.relist.ensures in
-    own_spares g.D.Disk Anything c.index_mut.result.now.journal.name (Manifest c.args.place) (((c.requires.has tells).1.disk tells).each c.args.place c.index_mut.result.now here).named c.args.disk.now c.relist.new.disk (says.frame tells) (says.elsewhere tells) (says.no_more tells)
+    let touches = c.relist.ensures.touches tells in
+    own_spares g.D.Disk Anything c.index_mut.result.now.journal.name (Manifest c.args.place) (((c.requires.has tells).1.disk tells).each c.args.place c.index_mut.result.now here).named c.args.disk.now c.relist.new.disk touches.frame touches.elsewhere touches.no_more
 
 pub returns-clause-ready : goal.returns-clause-ready
 returns-clause-ready g c gs entries ready sets rows =
     let m = c.index_mut.result.now in
     let ms = c.args.manifests.now.items in
     let here = manifest_here ms c.args.place m c.index_mut.ensures.value c.requires.within in
-    files_ready gs c.args.catalogue.now ms c.args.place m c.relist.new.manifest here c.args.changes.now entries ready c.relist.ensures.state.0 c.in_ok-relist.ensures.sound c.in_ok-relist.ensures.entries (c.requires.follow m here) sets rows
+    let ends = c.relist.ensures.ends in
+    on_ok_both c.relist.result (λ sound listed. files_ready gs c.args.catalogue.now ms c.args.place m c.relist.new.manifest here c.args.changes.now entries ready ends.granularity sound listed (c.requires.follow m here) sets rows) ends.sound ends.entries

@@ -1,8 +1,6 @@
-use Rattle.std.proofs.Common.{◌≡◌, List, ◌+◌, Err, ◌∙◌, ap, refl, sym, subst, arith}
-use Rattle.std.specs.Prelude.{Result, Some, slice_get}
-use Rattle.std.proofs.lemmas.Result.{err_from_is_err_and}
+use Rattle.std.proofs.Common.{◌≡◌, List, ◌+◌, ap, refl, sym, subst, arith}
+use Rattle.std.specs.Prelude.{Some, slice_get}
 use Rattle.disk_model.specs.Files.{Name}
-use Rattle.disk_model.specs.declared.disk.DiskErr.{DiskErr}
 use Rattle.gate_journal.specs.DiskShown.{shown_by}
 use Rattle.store_manifest.proofs.Written.{batch_length}
 use Rattle.store_manifest.specs.Entries.{AllCanFollow}
@@ -16,7 +14,7 @@ use Rattle.tier_store.specs.Stores.{Stores, tier}
 use Rattle.tier_store.proofs.Showing.{can_drop, dropped_shown}
 use Rattle.tier_store.proofs.Removals.{oldest_follow, lists_in_order}
 use Rattle.tier_store.proofs.Places.{manifest_here, holding, within_three}
-use Rattle.tier_store.proofs.OnePlace.{can_relist, beside_all, call_done, call_cut}
+use Rattle.tier_store.proofs.OnePlace.{can_relist, call_ends}
 use Rattle.tier_store.proofs.RunningMoves.{commit_leaves_files}
 use Rattle.tier_store.proofs.store.TierStore.drop_oldest.Goals.{After-index_mut}
 use Rattle.tier_store.proofs.store.TierStore.drop_oldest.Goals as goal
@@ -55,48 +53,22 @@ relist-requires-clause-can g c tells =
 pub returns-clause-changes : goal.returns-clause-changes
 returns-clause-changes g c =
     let self = c.args.self.now in
-    let was = c.requires.has in
     let says = c.relist.ensures in
     let at = (goal.at.returns-clause-changes g c).After-index_mut in
-    call_done (shown_by g.D.Disk) g.D.Disk.faults g.D.Disk.tells c.args.self.now.catalogue c.args.self.now.manifests.items c.args.place c.index_mut.result.now c.relist.new.manifest (here g at) self.disk c.relist.new.disk c.args.drops.now (can g at) says.state.0 says.any_moment
-    (λ tells. beside_all (shown_by g.D.Disk) g.D.Disk.faults g.D.Disk.tells c.args.self.now.catalogue c.args.self.now.manifests.items c.args.place c.index_mut.result.now c.relist.new.manifest (here g at) self.disk c.relist.new.disk c.args.drops.now (can g at) was.0 was.1 tells (says.frame tells) (says.elsewhere tells) (says.no_more tells))
-    says.faults (dropping c.args.place c.args.row c.args.n) (λ held has. refl) (λ held has. tt) c.in_ok-relist.ensures.entries c.in_ok-relist.ensures.sound c.in_ok-relist.ensures.made
-
-pub returns-in_err-relist-clause-changes : goal.returns-in_err-relist-clause-changes
-returns-in_err-relist-clause-changes g c =
-    let self = c.args.self.now in
-    let was = c.requires.has in
-    let says = c.relist.ensures in
-    let at = (goal.at.returns-in_err-relist-clause-changes g c).After-index_mut in
-    let failed = c.in_err-relist in
-    let p = err_from_is_err_and c.from_residual.result c.from_residual.ensures.1 in
-    call_cut (shown_by g.D.Disk) g.D.Disk.faults g.D.Disk.tells c.args.self.now.catalogue c.args.self.now.manifests.items c.args.place c.index_mut.result.now c.relist.new.manifest (here g at) self.disk c.relist.new.disk c.args.drops.now (can g at) says.state.0 says.any_moment
-    (λ tells. beside_all (shown_by g.D.Disk) g.D.Disk.faults g.D.Disk.tells c.args.self.now.catalogue c.args.self.now.manifests.items c.args.place c.index_mut.result.now c.relist.new.manifest (here g at) self.disk c.relist.new.disk c.args.drops.now (can g at) was.0 was.1 tells (says.frame tells) (says.elsewhere tells) (says.no_more tells))
-    says.faults (dropping c.args.place c.args.row c.args.n) (λ held has. refl) (λ held has. tt) failed.ensures.unchanged failed.ensures.next failed.ensures.unmade failed.ensures.in_doubt failed.field-0.0 _ (ap (λ (r : Result (Unit {0}) DiskErr). end_of_disk r) (p.1 ∙ ap (λ (x : DiskErr). Err x) p.2))
-    (λ is. says.memory (failed.was ∙ ap (λ (x : DiskErr). Err x) is)) (λ is. says.cause (failed.was ∙ ap (λ (x : DiskErr). Err x) is))
+    call_ends (shown_by g.D.Disk) g.D.Disk.faults g.D.Disk.tells self.catalogue self.manifests.items c.args.place c.index_mut.result.now c.relist.new.manifest (here g at) self.disk c.relist.new.disk c.args.drops.now (can g at)
+    says.touches (λ tells. c.requires.has) says.faults (dropping c.args.place c.args.row c.args.n) (λ held has. refl) (λ a held has. tt) c.relist.result says.ends says.lists says.cause
 
 pub returns-clause-shown : goal.returns-clause-shown
 returns-clause-shown g c =
     let was = c.requires.has in
     let m = c.index_mut.result.now in
     let here = here g (goal.at.returns-clause-shown g c).After-index_mut in
-    dropped_shown g.D.Disk.tells c.args.place c.args.row c.args.n _ _ was.0 was.1 (within_three c.args.self.now.manifests.items c.args.place m was.1.known.three here) _ (returns-clause-changes g c) refl (λ f part. c.requires.handed was.0 f was.1.known part) m here (λ tells. c.relist.ensures.elsewhere tells)
-
-pub returns-in_err-relist-clause-shown : goal.returns-in_err-relist-clause-shown
-returns-in_err-relist-clause-shown g c =
-    let was = c.requires.has in
-    let m = c.index_mut.result.now in
-    let here = here g (goal.at.returns-in_err-relist-clause-shown g c).After-index_mut in
-    dropped_shown g.D.Disk.tells c.args.place c.args.row c.args.n _ _ was.0 was.1 (within_three c.args.self.now.manifests.items c.args.place m was.1.known.three here) (end_of_disk c.from_residual.result) (returns-in_err-relist-clause-changes g c) refl (λ f part. c.requires.handed was.0 f was.1.known part) m here (λ tells. c.relist.ensures.elsewhere tells)
+    dropped_shown g.D.Disk.tells c.args.place c.args.row c.args.n _ _ was.0 was.1 (within_three c.args.self.now.manifests.items c.args.place m was.1.known.three here) (end_of_disk c.relist.result) (returns-clause-changes g c) refl (λ f part. c.requires.handed was.0 f was.1.known part) m here
+    (λ tells. (c.relist.ensures.touches tells).elsewhere)
 
 pub returns-clause-leaves : goal.returns-clause-leaves
 returns-clause-leaves g c =
-    let says = c.relist.ensures in
+    let touches = c.relist.ensures.touches in
     let m = c.index_mut.result.now in
-    commit_leaves_files g.D.Disk.tells _ _ m.journal.name Anything refl (λ tells. ap (λ (n : Name). n.0) ((c.requires.has.1.disk tells).each c.args.place m (here g (goal.at.returns-clause-leaves g c).After-index_mut)).named) (λ tells n apart. says.elsewhere tells n apart) says.no_more says.frame
-
-pub returns-in_err-relist-clause-leaves : goal.returns-in_err-relist-clause-leaves
-returns-in_err-relist-clause-leaves g c =
-    let says = c.relist.ensures in
-    let m = c.index_mut.result.now in
-    commit_leaves_files g.D.Disk.tells _ _ m.journal.name Anything refl (λ tells. ap (λ (n : Name). n.0) ((c.requires.has.1.disk tells).each c.args.place m (here g (goal.at.returns-in_err-relist-clause-leaves g c).After-index_mut)).named) (λ tells n apart. says.elsewhere tells n apart) says.no_more says.frame
+    commit_leaves_files g.D.Disk.tells _ _ m.journal.name Anything refl (λ tells. ap (λ (n : Name). n.0) ((c.requires.has.1.disk tells).each c.args.place m (here g (goal.at.returns-clause-leaves g c).After-index_mut)).named) (λ tells n apart. (touches tells).elsewhere n apart)
+    (λ tells. (touches tells).no_more) (λ tells. (touches tells).frame)

@@ -131,9 +131,8 @@ returns-in_err-flush_files-clause-changes g c files =
     let failed = c.in_err-flush_files in
     let p = err_from_is_err_and c.from_residual-in_err-flush_files.result c.from_residual-in_err-flush_files.ensures.1 in
     over_cut (shown_by g.D.Disk) g.D.Disk.faults g.D.Disk.tells self.catalogue self.manifests.items m c.flush_files.new.manifest (first g at) self.disk c.flush_files.new.disk _ c.rows-rows.ensures.value c.args.batch.now _ _ c.deref-4.ensures.value _ self.limbo.items c.requires.stands c.deref-3.result.now (entries_listed g at) files (plan g at)
-    says.state.0 says.any_moment (λ tells. on_store g.D.Disk.tells _ was.0 0 m (first g at) was.2 tells _ (says.frame tells) (says.elsewhere tells) (says.no_more tells)) says.faults
-    failed.ensures.unchanged failed.ensures.next failed.ensures.unmade failed.ensures.in_doubt failed.field-0.0 _ (ap (λ (r : Result ℕ DiskErr). end_of_disk r) (p.1 ∙ ap (λ (x : DiskErr). Err x) p.2))
-    (λ is. says.memory (failed.was ∙ ap (λ (x : DiskErr). Err x) is)) (λ is. says.cause (failed.was ∙ ap (λ (x : DiskErr). Err x) is))
+    (λ tells. on_store g.D.Disk.tells _ was.0 0 m (first g at) was.2 tells _ (says.stays tells).frame (says.stays tells).elsewhere (says.stays tells).no_more) says.faults
+    failed.field-0.0 failed.ensures.ends failed.ensures.flushes _ (ap (λ (r : Result ℕ DiskErr). end_of_disk r) (p.1 ∙ ap (λ (x : DiskErr). Err x) p.2)) (λ is. says.cause (failed.was ∙ ap (λ (x : DiskErr). Err x) is))
 
 pub returns-clause-changes : goal.returns-clause-changes
 returns-clause-changes g c files =
@@ -143,8 +142,8 @@ returns-clause-changes g c files =
     let m = c.index_mut.result.now in
     let says = c.flush_files.ensures in
     over_done (shown_by g.D.Disk) g.D.Disk.faults g.D.Disk.tells self.catalogue self.manifests.items m c.flush_files.new.manifest (first g at) self.disk c.flush_files.new.disk _ c.rows-rows.ensures.value c.args.batch.now _ _ c.deref-4.ensures.value _ self.limbo.items c.requires.stands c.deref-3.result.now (entries_listed g at) files (plan g at)
-    says.state.0 says.any_moment (λ tells. on_store g.D.Disk.tells _ was.0 0 m (first g at) was.2 tells _ (says.frame tells) (says.elsewhere tells) (says.no_more tells)) says.faults
-    c.in_ok-flush_files.ensures.entries c.in_ok-flush_files.ensures.sound c.in_ok-flush_files.ensures.made
+    (λ tells. on_store g.D.Disk.tells _ was.0 0 m (first g at) was.2 tells _ (says.stays tells).frame (says.stays tells).elsewhere (says.stays tells).no_more) says.faults
+    _ c.in_ok-flush_files.ensures.ends c.in_ok-flush_files.ensures.flushes
 
 pub returns-in_err-limbo-clause-frame : goal.returns-in_err-limbo-clause-frame
 returns-in_err-limbo-clause-frame g c = frame_same g.D.Disk.tells _
@@ -158,11 +157,11 @@ returns-in_err-flush_files-clause-frame g c =
     let was = c.requires.has in
     let t = revives g at in
     let says = c.flush_files.ensures in
-    let journal = c.args.self.now.catalogue.journal in
     let m = c.index_mut.result.now in
+    let flushed = λ (tells : IsTrue g.D.Disk.tells). says.flushes tells c.args.self.now.catalogue.journal (tier 0 was.0) (both g at) t.filed (ahead g at tells) t.makes in
     flush_frame g.D.Disk.tells was.1 c.args.batch.now _ _ (end_of_disk c.from_residual-in_err-flush_files.result) refl refl c.requires.stands was.0 was.2 was.3 ((returns-in_err-flush_files-clause-changes g c was.1).ends was.0 was.2 was.3) m (first g at) c.deref-3.result.now (entries_listed g at was.0 was.2.known) _ _ t
-    (same_granularities c.args.self.now.manifests.items 0 m c.flush_files.new.manifest (first g at) says.state.0)
-    (λ tells. says.ahead tells journal (tier 0 was.0) (both g at) t.filed (ahead g at tells) t.makes) (λ tells. says.long tells journal (tier 0 was.0) (both g at) t.filed (ahead g at tells) t.makes) says.elsewhere says.no_more says.frame
+    (same_granularities c.args.self.now.manifests.items 0 m c.flush_files.new.manifest (first g at) says.ends.granularity)
+    (λ tells. (flushed tells).leaves) (λ tells. (flushed tells).long) (λ tells. (says.stays tells).elsewhere) (λ tells. (says.stays tells).no_more) (λ tells. (says.stays tells).frame)
 
 pub returns-clause-frame : goal.returns-clause-frame
 returns-clause-frame g c =
@@ -170,11 +169,11 @@ returns-clause-frame g c =
     let was = c.requires.has in
     let t = revives g at in
     let says = c.flush_files.ensures in
-    let journal = c.args.self.now.catalogue.journal in
     let m = c.index_mut.result.now in
+    let flushed = λ (tells : IsTrue g.D.Disk.tells). says.flushes tells c.args.self.now.catalogue.journal (tier 0 was.0) (both g at) t.filed (ahead g at tells) t.makes in
     flush_frame g.D.Disk.tells was.1 c.args.batch.now _ _ (Done c.in_ok-plan.plan.count) refl refl c.requires.stands was.0 was.2 was.3 ((returns-clause-changes g c was.1).ends was.0 was.2 was.3) m (first g at) c.deref-3.result.now (entries_listed g at was.0 was.2.known) _ _ t
-    (same_granularities c.args.self.now.manifests.items 0 m c.flush_files.new.manifest (first g at) says.state.0)
-    (λ tells. says.ahead tells journal (tier 0 was.0) (both g at) t.filed (ahead g at tells) t.makes) (λ tells. says.long tells journal (tier 0 was.0) (both g at) t.filed (ahead g at tells) t.makes) says.elsewhere says.no_more says.frame
+    (same_granularities c.args.self.now.manifests.items 0 m c.flush_files.new.manifest (first g at) says.ends.granularity)
+    (λ tells. (flushed tells).leaves) (λ tells. (flushed tells).long) (λ tells. (says.stays tells).elsewhere) (λ tells. (says.stays tells).no_more) (λ tells. (says.stays tells).frame)
 
 pub returns-clause-tidy : goal.returns-clause-tidy
 returns-clause-tidy g c =
@@ -185,7 +184,7 @@ returns-clause-tidy g c =
     let t = revives g at in (
       ((returns-clause-changes g c was.1).ends was.0 was.2 was.3).3.settled,
       fronts_strays g.D.Disk.tells _ _ was.2.settled (λ n there. (returns-clause-frame g c).fronts.there n 0 there)
-          (λ tells n own unlisted. c.flush_files.ensures.others tells n
-          (write_listed _ c.rows-rows.result.now made m.granularity _ c.deref-4.result.now t.filed was.0.short (get_set_same c.args.self.now.manifests.items 0 made m (first g at)) c.rows-rows.ensures.value (c.in_ok-flush_files.ensures.entries ∙ t.lists) t.makes n unlisted)
+          (λ tells n own unlisted. (c.flush_files.ensures.stays tells).others n
+          (write_listed _ c.rows-rows.result.now made m.granularity _ c.deref-4.result.now t.filed was.0.short (get_set_same c.args.self.now.manifests.items 0 made m (first g at)) c.rows-rows.ensures.value (c.in_ok-flush_files.ensures.ends.entries ∙ t.lists) t.makes n unlisted)
           (file_apart m.journal.name n (ap (λ (x : Name). x.0) ((was.2.disk tells).each 0 m (first g at)).named) own)),
     )

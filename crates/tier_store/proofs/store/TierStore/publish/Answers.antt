@@ -1,18 +1,16 @@
 use Rattle.std.proofs.Common.{◌≡◌, ◌<◌, ◌+◌, Some, length, ap, refl, arith}
-use Rattle.disk_model.proofs.Passing.{passes_weaker}
 use Rattle.disk_model.specs.Files.{Name}
-use Rattle.gate_journal.specs.Generations.{AtOwn}
 use Rattle.gate_journal.specs.DiskShown.{shown_by}
 use Rattle.pv_catalog.proofs.Standing.{keeps_same}
 use Rattle.durable_write.specs.Ends.{end_of_disk}
 use Rattle.durable_write.specs.Flush.{with_files}
-use Rattle.durable_write.specs.Three.{Anything, Beside}
+use Rattle.durable_write.specs.Three.{Anything}
 use Rattle.tier_store.specs.Moving.{publishing}
 use Rattle.tier_store.specs.Pinned.{seen_all}
 use Rattle.tier_store.specs.Seen.{seen}
 use Rattle.std.specs.Prelude.{IsTrue, slice_get}
 use Rattle.tier_store.specs.Stores.{tier}
-use Rattle.tier_store.proofs.OnePlace.{on_store}
+use Rattle.tier_store.proofs.OnePlace.{own_store}
 use Rattle.tier_store.proofs.Frames.{commit_frame}
 use Rattle.tier_store.proofs.RunningMoves.{goes_on, has_copied, is_ahead, place_low, same_size, spares_then, publish_ends}
 use Rattle.tier_store.proofs.Places.{manifest_here}
@@ -66,9 +64,7 @@ returns-clause-changes g c files =
     let at = seen g.D.Disk c.args.self.now in
     let here = here g (goal.at.returns-clause-changes g c).After-index_mut in
     publish_ends (shown_by g.D.Disk) g.D.Disk.faults g.D.Disk.tells self.catalogue self.manifests.items self.limbo.items c.args.place m c.publish.new.dest here self.disk c.publish.new.disk (λ tells. g.met.D.Disk.seen self.disk tells) c.args.moving.now files
-    c.publish.result says.commits says.relists
-    (λ tells. on_store g.D.Disk.tells at runs.1 c.args.place m here runs.2 tells _ (passes_weaker (AtOwn m.journal.name Anything) (Beside (c.args.place + 1) m.journal.name) _ _ (says.frame tells) (λ a x was step n other apart. step.elsewhere n apart)) (λ n other apart. says.elsewhere tells n apart) (says.no_more tells))
-    says.faults (λ is. says.memory is) (λ is. says.cause is)
+    c.publish.result says.commits says.relists (λ tells. own_store g.D.Disk.tells at runs.1 c.args.place m here runs.2 tells _ (says.touches tells)) says.faults says.cause
 
 pub returns-clause-frame : goal.returns-clause-frame
 returns-clause-frame g c =
@@ -78,7 +74,7 @@ returns-clause-frame g c =
     let change = returns-clause-changes g c runs.0 in
     let by = c.index_mut.result.now in
     commit_frame g.D.Disk.tells (publishing c.args.place runs.0) (seen_all g.D.Disk c.args.self.now) _ (end_of_disk c.publish.result) refl runs.1 runs.2 (change.ends runs.1 runs.2 runs.3) (goes_on c.args.place g.D.Disk.tells (seen_all g.D.Disk c.args.self.now) runs.1 runs.0 runs.3.ahead by (here g at) runs.2) (spares_then c.args.place g.D.Disk.tells (seen_all g.D.Disk c.args.self.now) runs.1 runs.0 runs.3.ahead by (here g at) runs.2)
-    by.journal.name Anything (keeps_same c.args.self.now.catalogue.rows) change.costs.granularity (zero_store g at) (λ tells n apart. says.elsewhere tells n apart) says.no_more says.frame
+    by.journal.name Anything (keeps_same c.args.self.now.catalogue.rows) change.costs.granularity (zero_store g at) (λ tells n apart. (says.touches tells).elsewhere n apart) (λ tells. (says.touches tells).no_more) (λ tells. (says.touches tells).frame)
 
 pub returns-clause-tidy : goal.returns-clause-tidy
 returns-clause-tidy g c =
@@ -88,4 +84,4 @@ returns-clause-tidy g c =
     ok_both c.publish.result _ _ (ok_settled g.D.Disk.tells (publishing c.args.place runs.0) _ runs.1 (λ r. end_of_disk r) c.publish.result (λ a. refl) ends)
     (published_strays g.D.Disk.tells (seen_all g.D.Disk c.args.self.now) _ c.args.place c.args.moving.now runs.0 runs.1 c.publish.result (let three = runs.2.known.three in let low = low g at in omega (arith, low, three)) refl runs.2 runs.3
     (λ n h. ends_held g.D.Disk.tells (publishing c.args.place runs.0) (seen g.D.Disk c.args.self.now) _ runs.1 (end_of_disk c.publish.result) n 0 runs.2 (goes_on c.args.place g.D.Disk.tells (seen_all g.D.Disk c.args.self.now) runs.1 runs.0 runs.3.ahead c.index_mut.result.now (here g at) runs.2) ends h)
-    (λ tells n own. c.publish.ensures.elsewhere tells n (file_apart c.index_mut.result.now.journal.name n (zero_store g at tells) own)) ends)
+    (λ tells n own. (c.publish.ensures.touches tells).elsewhere n (file_apart c.index_mut.result.now.journal.name n (zero_store g at tells) own)) ends)
