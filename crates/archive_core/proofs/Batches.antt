@@ -11,7 +11,7 @@ use Rattle.durable_write.proofs.Staying.{same_cases}
 use Rattle.moves.specs.declared.table.Running.{Running}
 use Rattle.tier_store.specs.Pinned.{SeenAll}
 use Rattle.tier_store.specs.Seen.{IsSettled, Seen}
-use Rattle.tier_store.specs.Strays.{IsKnownName, IsStray, LeavesNoStray, MakesNoStray, targets}
+use Rattle.tier_store.specs.Strays.{IsKnownName, IsStray, LeavesNoStray, MakesNoStray, SweepsFiles, targets}
 use Rattle.tier_store.specs.declared.removing.StoreSwept.{StoreSwept}
 use Rattle.tier_store.proofs.Strays.{fronts_strays, no_strays}
 use Rattle.act_model.specs.Reply.{reply_of}
@@ -180,13 +180,13 @@ none_taken number slots left none taken k = elim (same_cases k number) [
 ]
 
 -- the stores' sweep, once a doubt is settled, of which all is removed
-pub swept_by : (tells : Bool) (p q new : Parts) (r : Result StoreSwept DiskErr) → files_of q ≡ files_of p → q.slots ≡ p.slots → new.slots ≡ q.slots → IfOk r (λ (s : StoreSwept). IsSettled new.at × (s.removed ≡ Ok tt → LeavesNoStray tells (files_of q) (files_of new))) → IsWell (sweep_reply r) → Tidies tells p new
-swept_by tells p q new (Ok s) same slots still tidy well = tidy_then tells p q new same slots (by_removal s.removed refl well)
+pub swept_by : (tells : Bool) (p q new : Parts) (copied : List Name) (r : Result StoreSwept DiskErr) → files_of q ≡ files_of p → q.slots ≡ p.slots → new.slots ≡ q.slots → IfOk r (SweepsFiles tells q.pinned copied (files_of q) (files_of new)) → IsWell (sweep_reply r) → Tidies tells p new
+swept_by tells p q new copied (Ok s) same slots still sweeps well = tidy_then tells p q new same slots (by_removal s.removed refl well)
   where
     by_removal : (removed : Result (Unit {0}) DiskErr) → s.removed ≡ removed → IsWell (removal_reply s.files removed) → Tidies tells q new
-    by_removal (Ok done) is well = tidy_stores tells q new still tidy.0 (tidy.1 is)
+    by_removal (Ok done) is well = tidy_stores tells q new still sweeps.settled (sweeps.tidy is)
     by_removal (Err e) is well = absurd well
-swept_by tells p q new (Err e) same slots still tidy well = absurd (disk_not_well e well)
+swept_by tells p q new copied (Err e) same slots still sweeps well = absurd (disk_not_well e well)
 
 -- A batch that is flushed: what it has of the machine's rows, that the stores can take it, and whether store 1 lists it.
 

@@ -1,13 +1,13 @@
 -- A move whose copies are listed takes its parts from their store: a step of the machine, and what the archive stands for then.
 use Rattle.std.proofs.Common.{[], ◌⊎◌, inl, inr, sym, ◌≡◌, ℕ, List, length, map, Bool, true, false, cond, Some, None, refl, ◌∙◌, ap, subst, ◌≢◌, ◌<◌, ◌≤◌, Result, Ok, Err, arith, ◌-◌, Option, get_or}
 use Rattle.std.specs.FinMap.{get, FinMap}
-use Rattle.std.specs.Prelude.{IsTrue, ◌==◌, All, IsErrOf, OnErr, slice_get, IfOk, IsErr}
+use Rattle.std.specs.Prelude.{IsTrue, ◌==◌, All, slice_get, IfErr, IfOk, IsErr}
 use Rattle.std.proofs.lemmas.List.{length-map, length-take-le}
 use Rattle.disk_model.specs.Files.{Files, Name, Rose}
 use Rattle.store_manifest.specs.declared.entry.Entry.{Entry}
 use Rattle.durable_write.specs.Held.{entry_of, Filed, samples_of}
 use Rattle.tier_store.specs.Change.{EndsFrom, Has, Doubts, StoreCall, HoldsBy, Changes, IsKnown}
-use Rattle.tier_store.specs.Retiring.{oldest, without_oldest, HasGrown, HasNotGrown, Retires as StoresRetire, AreApart, FailsRetired, HandedOver, Remain, ShowsKept, StayOrEnter, retiring}
+use Rattle.tier_store.specs.Retiring.{oldest, without_oldest, HasGrown, HasNotGrown, Retires as StoresRetire, AreApart, FailsToRetire, HandedOver, Remain, ShowsKept, StayOrEnter, retiring}
 use Rattle.tier_store.specs.Stores.{Stores, list_at}
 use Rattle.act_model.specs.Changes.{made, no_doubt}
 use Rattle.act_model.specs.Machine.{Machine, Change, MoveState, Stage, Unlists, Copies, HasCopied, HasPublished}
@@ -78,9 +78,7 @@ use Rattle.archive_core.proofs.MoveTable.{left_was, put_again, put_back, take_ou
 pub record StoresRetired (tells : Bool) (place row : ℕ) (published : List ℕ) (q : Parts) (new : Seen) (limbo : List Retired) (result : Result RetireEnd DiskErr) : Type 0 where
   pub changes : Changes tells (retiring place row published (Remain tells new q.pinned q.limbo limbo)) q.at new (end_of_disk result)
   pub again : (len copied : ℕ) → result ≡ Ok (ends.Again len copied) → limbo ≡ q.limbo
-  pub failed : OnErr result (StayOrEnter new place row (length published) q.limbo limbo)
-  pub doubted : (held : Stores) → Has tells q.at held → IsErrOf result Fault → FailsRetired place row published tells new held
-  pub handed : IsErrOf result Fault → HandedOver new place row (length published) q.limbo limbo
+  pub fails : IfErr result (FailsToRetire place row published tells (beside q.at q.limbo) (beside new limbo))
   pub cause : (removed : Result (Unit {0}) DiskErr) → result ≡ Ok (ends.Retired removed) → IsErr removed → Rose q.at.faults new.faults
   pub shown : ShowsKept tells q.pinned (beside q.at q.limbo) (beside new limbo)
   pub whole : (held : Stores) → Has tells q.at held → KeepsWholeOf tells (beside q.at q.limbo) (beside new limbo) held
@@ -265,6 +263,9 @@ module _ (tells : Bool) (q : Parts) (n : ℕ) (running : Running Moving) (slots 
     s = subst (λ (ls : List ℕ). StoresRetired tells from move.row ls q new limbo result) are
         (subst (λ (i : ℕ). StoresRetired tells from i lengths q new limbo result) out.1.is.series (subst (λ (k : ℕ). StoresRetired tells k running.series lengths q new limbo result) (place_is number store_is) says))
 
+    fails : (e : DiskErr) → result ≡ Err e → FailsToRetire from move.row published tells old_all new_all e
+    fails e is = subst (λ (x : Result RetireEnd DiskErr). IfErr x (FailsToRetire from move.row published tells old_all new_all)) is s.fails
+
     abbrev by_call : StoreCall RetireEnd ⊥
     by_call = retiring from move.row published (Remain tells new q.pinned q.limbo limbo)
 
@@ -381,7 +382,7 @@ module _ (tells : Bool) (q : Parts) (n : ℕ) (running : Running Moving) (slots 
     -- memory was wanting, and the move goes on as it did
     pub on_spent : (later : List (Option (Running Moving))) → result ≡ Err Memory → ((k : ℕ) → at later k ≡ cond (k == n) (Some running) (at q.slots k)) → StepsOn tells n (with_slots slots q) m (record q { at = new; limbo = limbo; pinned = pinned; slots = later }) answer.Memory
     on_spent later is back =
-        let cut = subst (λ (x : Result RetireEnd DiskErr). OnErr x (StayOrEnter new from move.row count q.limbo limbo)) is s.failed in
+        let cut = (fails Memory is).failed in
         let own = move_same tells old_all new_all m move.row count move.store held stand has.known same_g leaves_apart move running (inr (next_other move.store out.1.is.moves)) out.1.is in
         step later answer.Memory (was_spent (put_back tells (then q.slots) (record m { faults = new.faults }) (ends_move n m.moves) n move running later (put_again m.moves n move out.1.here) out.1.sound (rests_still (ends_so (Err Memory) is) cut) own back).stands)
         (λ none. absurd (cc (none))) (λ name place told. absurd (cc (told))) (λ none. absurd none)
@@ -390,17 +391,14 @@ module _ (tells : Bool) (q : Parts) (n : ℕ) (running : Running Moving) (slots 
     pub on_failed : result ≡ Err Fault → StepsOn tells n (with_slots slots q) m (record q { at = new; limbo = limbo; pinned = pinned }) answer.DiskFault
     on_failed is =
         step q.slots answer.DiskFault
-        (elim (s.doubted held has failed) [
+        (elim ((fails Fault is).doubted held has refl) [
           | inl now ↦ has_failed (rests_still now (inr given)).stands
           | inr on ↦ in_doubt on.1.none_grown (subst (λ (x : Stores). Doubts tells new held x) on.1.same on.2)
         ])
         (λ same. s.changes.costs.cause (subst (λ (x : Result RetireEnd DiskErr). IsFailed (end_of_disk x)) (sym is) tt)) (λ name place told. absurd (cc (told))) (λ none. absurd none)
       where
-        failed : IsErrOf result Fault
-        failed = subst (λ (x : Result RetireEnd DiskErr). IsErrOf x Fault) (sym is) refl
-
         given : HandedOver new from out.0.row count q.limbo limbo
-        given = s.handed failed
+        given = (fails Fault is).handed refl
 
         in_doubt : ((k : ℕ) → HasNotGrown published (map entry_of (oldest from out.0.row count held)) k) → Doubts tells new held less → StepEnds tells n m (then q.slots) answer.DiskFault
         in_doubt none doubts =

@@ -56,6 +56,7 @@ use Rattle.archive_core.proofs.Settled.{rests_has, doubt_beside, KeepsLimbo, sta
 use Rattle.archive_core.proofs.Windows.{count_of}
 use Rattle.archive_core.specs.Growing.{HasRunning}
 use Rattle.archive_core.specs.Acting.{Acted, Settling}
+use Rattle.tier_store.specs.Strays.{SweepsFiles}
 use Rattle.archive_core.specs.Strays.{ActsTidily}
 use Rattle.act_model.specs.declared.acts.Act.TheVariants.{Sweep}
 use Rattle.tier_store.proofs.Frames.{fronts_shown}
@@ -66,14 +67,13 @@ use Rattle.archive_core.specs.Leaving.{KeepsListed, files_of}
 -- What the stores say of a sweep, with these files copied into. Where it fails, limbo and all that was shown are as before.
 pub record StoresSwept (tells : Bool) (copied : List Name) (q new : Parts) (result : Result StoreSwept DiskErr) : Type 0 where
   pub changes : Changes tells staying q.at new.at (end_of_disk result)
-  pub swept : IfOk result (λ (s : StoreSwept). IsSweptOf new.at q.pinned copied q.limbo new.limbo s.files)
+  pub sweeps : IfOk result (SweepsFiles tells q.pinned copied (beside q.at q.limbo) (beside new.at new.limbo))
   pub failed : OnErr result ((new.limbo ≡ q.limbo) × KeepsShown tells (beside q.at q.limbo) (beside new.at q.limbo) × LeavesLater tells (beside q.at q.limbo) (beside new.at q.limbo))
   pub leaves : LeavesKept tells q.pinned copied (beside q.at q.limbo) (beside new.at new.limbo)
   pub left : LeavesNames copied tells (beside q.at q.limbo) (beside new.at new.limbo)
   pub whole : KeepsWhole tells (beside q.at q.limbo) (beside new.at new.limbo)
   pub stands : LimboStands new.at new.limbo
   pub same : (new.at.catalogue ≡ q.at.catalogue) × (new.at.manifests ≡ q.at.manifests) × (new.pinned ≡ q.pinned)
-  pub cause : IfOk result (λ (s : StoreSwept). IsErr s.removed → Rose q.at.faults new.at.faults)
 
 -- these are just the files that running moves have copied into
 abbrev pub AreCopied : List Name → Machine → Type 0
@@ -137,7 +137,7 @@ module _ (tells : Bool) (copied : List Name) (q new : Parts) (said : StoreSwept)
   now = has_still tells copied q new (Ok said) s same m r
 
   swept : IsSweptOf new.at q.pinned copied q.limbo new.limbo files
-  swept = s.swept
+  swept = s.sweeps.counted
 
   variables : KeepsRows q.at.catalogue.rows new.at.catalogue.rows
   variables = rows_go_on q.at new.at before before was.known now.known (same_grow m.moves before)
@@ -294,7 +294,7 @@ module _ (tells : Bool) (p q : Parts) (settles : SettlesTo tells p q) (more : p.
       let own = left tells copied q new said swept same n mid.2 written in
       let after = swept_machine tells copied q new said swept same n mid.2 written in
       let ran : Sweeps mid.0 (answer.Swept said.files) after = record { stays = own.stays; just = swept_goes mid.0 q.at.faults own.stays mid.0.limbo own.just; files = said.files; number = own.number; answered = refl; same = refl } in
-      by_removal m s said.removed mid.1 ran (swept_stands tells copied q new said swept same n mid.2 written) swept.changes.costs.faults swept.cause
+      by_removal m s said.removed mid.1 ran (swept_stands tells copied q new said swept same n mid.2 written) swept.changes.costs.faults swept.sweeps.cause
     where
       by_removal : (m : Machine) (s : Stands tells p m) (removed : Result (Unit {0}) DiskErr) {mid after : Machine} → Settles m mid → Sweeps mid (answer.Swept said.files) after → Stands tells new after → q.at.faults ≤ new.at.faults → (IsErr removed → Rose q.at.faults new.at.faults)
           → (next : Machine) × SweepStep m (removal_reply said.files removed) next × Stands tells new next

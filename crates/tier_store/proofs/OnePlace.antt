@@ -459,15 +459,15 @@ module _ {S : Type 0} (shows : S → DiskShown) (faults_of : S → ℕ) (tells :
   -- whatever call it is that lists these files
   module _ (touches : IsTrue tells → TouchesOwn m.journal.name (shows d) (shows after)) (was : IsTrue tells → (held : Stores) × Has tells list_before held) (faults : faults_of d ≤ faults_of after)
       (call : StoreCall (Unit {0}) ⊥) (by : (held : Stores) (has : Has tells list_before held) → call.by held (with_list i (files held has) held)) (says : (a : Unit {0}) (held : Stores) (has : Has tells list_before held) → call.says a held (with_list i (files held has) held)) where
-    beside : IsTrue tells → OnStore (i + 1) m.journal.name (shows d) (shows after)
-    beside told = own_store tells list_before (was told).0 i m here (was told).1 told (shows after) (touches told)
+    on_own : IsTrue tells → OnStore (i + 1) m.journal.name (shows d) (shows after)
+    on_own told = own_store tells list_before (was told).0 i m here (was told).1 told (shows after) (touches told)
 
     pub call_ends : (r : Result (Unit {0}) DiskErr) → ManifestEnds m made (all_changed m.entries changes) r → (IsTrue tells → Lists r) → (r ≡ Err Fault → Rose (faults_of d) (faults_of after)) → Changes tells call list_before list_behind (end_of_disk r)
     call_ends (Ok a) ends lists cause =
-        place_done shows faults_of tells c ms i m made here d after ends.granularity beside faults call files by valid (λ told held has. (lists_here (Ok a) lists told held has).any_moment) a (says a) ends.sound
+        place_done shows faults_of tells c ms i m made here d after ends.granularity on_own faults call files by valid (λ told held has. (lists_here (Ok a) lists told held has).any_moment) a (says a) ends.sound
         (λ held has. ends.entries ∙ entries_next held has) (λ told held has. (lists_here (Ok a) lists told held has).made.stored.tier)
     call_ends (Err e) ends lists cause =
-        place_cut shows faults_of tells c ms i m made here d after ends.granularity beside faults call files by valid (λ told held has. (lists_here (Err e) lists told held has).any_moment) ends.unchanged
+        place_cut shows faults_of tells c ms i m made here d after ends.granularity on_own faults call files by valid (λ told held has. (lists_here (Err e) lists told held has).any_moment) ends.unchanged
         (λ held has unsound. ends.next unsound ∙ entries_next held has) (λ told held has sound. ((lists_here (Err e) lists told held has).unmade sound).stored.tier)
         (λ told held has unsound. list_unsure c.journal made shelf (shows after) (tier i held) (holding i held (files held has)) ((lists_here (Err e) lists told held has).in_doubt unsound) unsound)
         e (end_of_error e) refl (λ memory. ends.memory (ap (λ (x : DiskErr). Err x) memory)) (λ fault. cause (ap (λ (x : DiskErr). Err x) fault))

@@ -5,6 +5,7 @@ use Rattle.std.specs.Prelude.{◌≡◌, ◌⊎◌, ◌<◌, ◌≤◌, ◌+◌,
 use Rattle.disk_model.specs.Files.{Name}
 use Rattle.disk_model.specs.Past.{Only}
 use Rattle.disk_model.specs.declared.disk.DiskErr.{DiskErr}
+use Rattle.disk_model.specs.declared.disk.DiskErr.TheVariants.{Fault}
 use Rattle.pins.specs.Pieces.{PinOf}
 use Rattle.store_manifest.specs.declared.entry.Change.{Change}
 use Rattle.store_manifest.specs.declared.entry.Change.TheVariants.{Drop}
@@ -141,6 +142,13 @@ retiring i row published Limbo = record { by = λ old new. (new ≡ old) ⊎ Ret
 -- After a fault all is as it was, or it isn't known whether the files are listed still.
 abbrev pub FailsRetired : ℕ → ℕ → List ℕ → Bool → Seen → Stores → Type 0
 FailsRetired i row published tells new held = Has tells new held ⊎ ((made : Stores) × Retires i row published held made × Doubts tells new held made)
+
+-- After an error the files have come to limbo, or that is as it was but for files that are listed. After a fault they have, and all is as it was,
+-- or it isn't known whether they are listed still.
+pub record FailsToRetire (i row : ℕ) (published : List ℕ) (tells : Bool) (old new : SeenAll) (e : DiskErr) : Type 0 where
+  pub failed : StayOrEnter new.stores i row (length published) old.limbo new.limbo
+  pub handed : e ≡ Fault → HandedOver new.stores i row (length published) old.limbo new.limbo
+  pub doubted : (held : Stores) → Has tells old.stores held → e ≡ Fault → FailsRetired i row published tells new.stores held
 
 -- the commit alone
 abbrev pub dropping : {A : Type 0} → ℕ → ℕ → ℕ → StoreCall A ⊥

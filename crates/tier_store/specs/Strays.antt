@@ -1,11 +1,15 @@
 -- Strays: files of stores 1 to 3 that no list, no limbo and no running move knows.
-use Rattle.std.specs.Prelude.{◌≡◌, ◌⊎◌, ◌≤◌, Bool, List, Contains, IsSome, IsTrue, Ok, [], map}
-use Rattle.disk_model.specs.Files.{Name, Files}
+use Rattle.std.specs.FinMap.{FinMap}
+use Rattle.std.specs.Ordering.{nat_cmp}
+use Rattle.std.specs.Prelude.{◌≡◌, ◌⊎◌, ◌≤◌, Bool, List, Contains, IsErr, IsSome, IsTrue, Ok, OnOk, [], map}
+use Rattle.disk_model.specs.Files.{Name, Files, Rose}
 use Rattle.etl_mover.specs.Move.{Moving, part_file}
-use Rattle.tier_store.specs.Limbo.{IsListedName}
+use Rattle.pins.specs.Pieces.{PinOf}
+use Rattle.tier_store.specs.Limbo.{AreGone, IsListedName, IsSwept}
 use Rattle.tier_store.specs.Pinned.{SeenAll}
 use Rattle.tier_store.specs.Retiring.{names_in}
 use Rattle.tier_store.specs.Seen.{IsSettled}
+use Rattle.tier_store.specs.declared.removing.StoreSwept.{StoreSwept}
 use Rattle.tier_store.specs.declared.retirement.RetireEnd.{RetireEnd}
 use Rattle.tier_store.specs.declared.retirement.RetireEnd.TheVariants as ends
 
@@ -46,3 +50,12 @@ pub record WritesTargets (old new : Moving) (files later : Files) : Type 0 where
 abbrev pub HasRemoved : RetireEnd → Type 0
 HasRemoved (ends.Retired removed) = removed ≡ Ok tt
 HasRemoved (ends.Again len copied) = Unit {0}
+
+-- What an answer of a sweep says. Of the files in limbo at first those are counted that have left it and aren't listed. Where no removal failed, all that
+-- were to go are gone, and no file is a stray that was none. Nothing stands in doubt, and the disk counted a fault where a removal failed.
+pub record SweepsFiles (tells : Bool) (pins : FinMap nat_cmp PinOf) (copied : List Name) (old new : SeenAll) (swept : StoreSwept) : Type 0 where
+  pub counted : IsSwept new.stores pins copied old.limbo new.limbo swept.files
+  pub gone : IsTrue tells → OnOk swept.removed (AreGone new.stores pins copied old.limbo)
+  pub cause : IsErr swept.removed → Rose old.stores.faults new.stores.faults
+  pub settled : IsSettled new.stores
+  pub tidy : swept.removed ≡ Ok tt → LeavesNoStray tells old new

@@ -2,7 +2,7 @@
 //
 // They go to limbo first, so that what is pinned is there whatever comes of the commit. Those that no pin
 // names are removed behind it.
-ghost use Rattle.std.specs.Prelude.{◌≡◌, ◌≤◌, ◌<◌, ◌+◌, ℕ, List, All, Ok, Some, None, IfOk, OnErr, IsErr, IsErrOf};
+ghost use Rattle.std.specs.Prelude.{◌≡◌, ◌≤◌, ◌<◌, ◌+◌, ℕ, List, All, Ok, Some, None, IfErr, IfOk, IsErr};
 ghost use Rattle.std.specs.Prelude.{IsTrue, Contains, [], length, map, slice_get};
 ghost use Rattle.series_model.specs.Limits.{most_parts};
 ghost use Rattle.disk_model.specs.Files.{Name, Rose};
@@ -14,9 +14,8 @@ ghost use Rattle.tier_store.specs.Seen.{seen, IsSettled};
 ghost use Rattle.tier_store.specs.Change.{Has, IsKnown, Changes};
 ghost use Rattle.tier_store.specs.Limbo.{LimboStands, AreRemovable, IsUseless, NamesDiffer};
 ghost use Rattle.tier_store.specs.Pinned.{seen_all, KeepsShown};
-ghost use Rattle.tier_store.specs.Retiring.{FailsRetired, AreApart, oldest, oldest_entries, drop_entry, retired_of};
-ghost use Rattle.tier_store.specs.Retiring.{dropping, retiring, HasGrown, HasNotGrown, Remain, ShowsKept, HandedOver};
-ghost use Rattle.tier_store.specs.Retiring.{StayOrEnter};
+ghost use Rattle.tier_store.specs.Retiring.{FailsToRetire, AreApart, oldest, oldest_entries, drop_entry, retired_of};
+ghost use Rattle.tier_store.specs.Retiring.{dropping, retiring, HasGrown, HasNotGrown, Remain, ShowsKept};
 ghost use Rattle.tier_store.specs.Moving.{LeavesFiles, LeavesNames};
 ghost use Rattle.tier_store.specs.Revival.{KeepsWholeOf};
 ghost use Rattle.tier_store.specs.Strays.{HasRemoved, LeavesNoStray};
@@ -155,14 +154,8 @@ impl<D: Disk> TierStore<D> {
         ensures tidy { IfOk result (λ end. IsSettled (seen D.Disk self.new)
             × (HasRemoved end → LeavesNoStray D.tells (seen_all D.Disk self.old) (seen_all D.Disk self.new))) }
         ensures again { (len copied : ℕ) → result ≡ Ok (Again len copied) → self.new.limbo ≡ self.old.limbo }
-        ensures failed { OnErr result (StayOrEnter (seen D.Disk self.new) place row
-            (length published.now) self.old.limbo.items self.new.limbo.items) }
-        ensures doubted { (held : Stores) → Has D.tells (seen D.Disk self.old) held
-            → IsErrOf result DiskErr.Fault
-            → FailsRetired place row published.now D.tells (seen D.Disk self.new) held }
-        ensures handed { IsErrOf result DiskErr.Fault
-            → HandedOver (seen D.Disk self.new) place row
-            (length published.now) self.old.limbo.items self.new.limbo.items }
+        ensures fails { IfErr result (λ e. FailsToRetire place row published.now D.tells
+            (seen_all D.Disk self.old) (seen_all D.Disk self.new) e) }
         ensures cause { (removed : _) → result ≡ Ok (IsRetired removed) → IsErr removed
             → Rose (D.faults self.old.disk) (D.faults self.new.disk) }
         ensures stands { LimboStands (seen D.Disk self.new) self.new.limbo.items }

@@ -84,8 +84,7 @@ impl<D: Disk> TierStore<D> {
         ensures granularity { granularities self.new.manifests.items ≡ granularities self.old.manifests.items }
         ensures rows { IsTrue self.old.catalogue.journal.sound → self.new.catalogue ≡ self.old.catalogue }
         ensures frame { Frame D.tells (seen_all D.Disk self.old) (seen_all D.Disk self.new) }
-        ensures pins { self.new.pinned ≡ self.old.pinned }
-        ensures limbo { self.new.limbo ≡ self.old.limbo }
+        ensures same { (self.new.pinned ≡ self.old.pinned) × (self.new.limbo ≡ self.old.limbo) }
         ensures nothing { IsSettled (seen D.Disk self.old) → (result ≡ Ok tt) × (self.new ≡ self.old) }
         ensures settles { OnlySettles D.tells (seen D.Disk self.old) (seen D.Disk self.new) (end_of_disk result) }
         ensures opened { IsTrue D.tells → (n : Name) → D.opened self.new.disk n ≤ D.opened self.old.disk n }

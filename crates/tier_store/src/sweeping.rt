@@ -3,14 +3,14 @@ ghost use Rattle.std.specs.Prelude.{◌≡◌, Ok, IfOk, OnOk, OnErr, IsErr, IsT
 ghost use Rattle.disk_model.specs.Files.{Rose};
 ghost use Rattle.durable_write.specs.Ends.{Done, end_of_disk};
 ghost use Rattle.tier_store.specs.Stores.{Stores};
-ghost use Rattle.tier_store.specs.Seen.{seen, IsSettled, SameMemory};
+ghost use Rattle.tier_store.specs.Seen.{seen, SameMemory};
 ghost use Rattle.tier_store.specs.Change.{Has, Changes};
 ghost use Rattle.tier_store.specs.Copying.{OnlyLooks};
 ghost use Rattle.tier_store.specs.Moving.{LeavesLater, LeavesNames};
 ghost use Rattle.tier_store.specs.Pinned.{seen_all, KeepsShown};
 ghost use Rattle.tier_store.specs.Limbo.{LimboStands, IsSwept, AreGone, AreRemovable, IsLeftOver, LeavesKept, staying};
 ghost use Rattle.tier_store.specs.Revival.{KeepsWhole};
-ghost use Rattle.tier_store.specs.Strays.{LeavesNoStray};
+ghost use Rattle.tier_store.specs.Strays.{SweepsFiles};
 
 use crate::TierStore;
 use crate::limbo::leave_listed;
@@ -87,20 +87,14 @@ impl<D: Disk> TierStore<D> {
         requires stands { LimboStands (seen D.Disk self.old) self.old.limbo.items }
 
         ensures changes { Changes D.tells staying (seen D.Disk self.old) (seen D.Disk self.new) (end_of_disk result) }
-        ensures swept { IfOk result (λ swept. IsSwept (seen D.Disk self.new) self.old.pinned
-            copied.now self.old.limbo.items self.new.limbo.items swept.files) }
-        ensures gone { IsTrue D.tells → IfOk result (λ swept.
-            OnOk swept.removed (AreGone (seen D.Disk self.new) self.old.pinned copied.now self.old.limbo.items)) }
-        ensures cause { IfOk result (λ swept. IsErr swept.removed
-            → Rose (D.faults self.old.disk) (D.faults self.new.disk)) }
+        ensures sweeps { IfOk result (λ swept. SweepsFiles D.tells self.old.pinned copied.now
+            (seen_all D.Disk self.old) (seen_all D.Disk self.new) swept) }
         ensures failed { OnErr result ((self.new.limbo ≡ self.old.limbo)
             × KeepsShown D.tells (seen_all D.Disk self.old) (seen_all D.Disk self.new)
             × LeavesLater D.tells (seen_all D.Disk self.old) (seen_all D.Disk self.new)) }
         ensures leaves { LeavesKept D.tells self.old.pinned copied.now
             (seen_all D.Disk self.old) (seen_all D.Disk self.new) }
         ensures whole { KeepsWhole D.tells (seen_all D.Disk self.old) (seen_all D.Disk self.new) }
-        ensures tidy { IfOk result (λ swept. IsSettled (seen D.Disk self.new)
-            × (swept.removed ≡ Ok tt → LeavesNoStray D.tells (seen_all D.Disk self.old) (seen_all D.Disk self.new))) }
         ensures copied { LeavesNames copied.now D.tells (seen_all D.Disk self.old) (seen_all D.Disk self.new) }
         ensures stands { LimboStands (seen D.Disk self.new) self.new.limbo.items }
         ensures same { (self.new.catalogue ≡ self.old.catalogue)

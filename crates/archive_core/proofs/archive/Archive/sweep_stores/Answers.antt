@@ -58,5 +58,5 @@ returns g c who =
     let new = record q { at = seen g.D.Disk c.sweep.new.self; limbo = c.sweep.new.self.limbo.items; pinned = c.sweep.new.self.pinned } in
     let failed = on_err c.sweep.result _ _ (λ stay. (ap (λ l. l.items) stay.0, λ name bytes shown. subst (λ (l : List Retired). Shows g.D.Disk.tells (beside new.at l) name bytes) (ap (λ l. l.items) stay.0) (stay.1 name bytes shown), subst (λ (l : List Retired). LeavesLater g.D.Disk.tells (beside q.at q.limbo) (beside new.at l)) (ap (λ l. l.items) stay.0) stay.2)) call.failed in
     sweep_acts g.D.Disk.tells p q c.in_ok-settle.ensures.settled c.settle.ensures.settling.settles.faults new c.deref.result.now refl written who c.settle.result c.settle.ensures.settling c.sweep.result
-    (record { changes = call.changes; swept = call.swept; failed = failed; leaves = call.leaves; left = call.copied; whole = call.whole; stands = call.stands; same = (call.same.0, ap (λ l. l.items) call.same.1, call.same.2); cause = call.cause })
-    (λ settled well. swept_by g.D.Disk.tells p q new c.sweep.result (ap (seen_all g.D.Disk) (c.settle.ensures.quiet settled)) c.settle.ensures.settling.slots refl call.tidy well)
+    (record { changes = call.changes; sweeps = call.sweeps; failed = failed; leaves = call.leaves; left = call.copied; whole = call.whole; stands = call.stands; same = (call.same.0, ap (λ l. l.items) call.same.1, call.same.2) })
+    (λ settled well. swept_by g.D.Disk.tells p q new c.deref.result.now c.sweep.result (ap (seen_all g.D.Disk) (c.settle.ensures.quiet settled)) c.settle.ensures.settling.slots refl call.sweeps well)

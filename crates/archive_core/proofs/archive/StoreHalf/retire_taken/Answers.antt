@@ -34,9 +34,7 @@ said g w c =
     record {
       changes = call.changes;
       again = λ len copied is. ap (λ l. l.items) (call.again len copied is);
-      failed = call.failed;
-      doubted = call.doubted;
-      handed = call.handed;
+      fails = call.fails;
       cause = call.cause;
       shown = call.shown;
       whole = call.whole;

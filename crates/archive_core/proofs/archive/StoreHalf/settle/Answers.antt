@@ -20,11 +20,11 @@ use Rattle.archive_core.proofs.archive.StoreHalf.settle.Goals as goal
 -- what the stores' review leaves, whatever is kept of the doubt and in memory then
 settling : (g : _) (c : After-review g) (w after : InMemory) (doubt : Option Doubt)
     → Settling g.D.Disk.tells (parts_beside g.D.Disk c.args.self.now w) (parts_beside g.D.Disk (record c.args.self.now { store = c.review.new.self; doubt = doubt }) after) (end_of_disk c.review.result)
-settling g c w after doubt = let call = c.review.ensures in record { granularity = call.granularity; settles = call.settles; fronts = call.frame.fronts; pins = call.pins; slots = refl }
+settling g c w after doubt = let call = c.review.ensures in record { granularity = call.granularity; settles = call.settles; fronts = call.frame.fronts; pins = call.same.0; slots = refl }
 
 -- and limbo is as it was
 frame : (g : _) (c : After-review g) (w : InMemory) → Frame g.D.Disk.tells (files_of (parts_beside g.D.Disk c.args.self.now w)) (beside (seen g.D.Disk c.review.new.self) c.args.self.now.store.limbo.items)
-frame g c w = frame_with g.D.Disk.tells (files_of (parts_beside g.D.Disk c.args.self.now w)) (seen g.D.Disk c.review.new.self) c.review.new.self.limbo.items c.args.self.now.store.limbo.items (ap (λ l. l.items) c.review.ensures.limbo) c.review.ensures.frame
+frame g c w = frame_with g.D.Disk.tells (files_of (parts_beside g.D.Disk c.args.self.now w)) (seen g.D.Disk c.review.new.self) c.review.new.self.limbo.items c.args.self.now.store.limbo.items (ap (λ l. l.items) c.review.ensures.same.1) c.review.ensures.frame
 
 pub review-requires : goal.review-requires
 review-requires g c = let was = c.requires.stands in record { begun = begun g.D.Disk.tells (parts_beside g.D.Disk c.args.self.now was.0) was.1 was.2 }
@@ -37,7 +37,7 @@ returns-in_err-review-clause-still g c =
     rw p.1 (λ w m s.
     let old = parts_beside g.D.Disk c.args.self.now w in
     let keeps = frame g (goal.at.returns-in_err-review-clause-still g c).After-review w in
-    with_same (λ (x : Parts). Stands g.D.Disk.tells x (record m { faults = new.faults })) (record old { at = new }) c.review.new.self.limbo.items c.review.new.self.pinned (ap (λ l. l.items) c.review.ensures.limbo) c.review.ensures.pins (still_doubted g.D.Disk.tells old m new s doubted c.in_err-review.ensures.still c.review.ensures.granularity keeps))
+    with_same (λ (x : Parts). Stands g.D.Disk.tells x (record m { faults = new.faults })) (record old { at = new }) c.review.new.self.limbo.items c.review.new.self.pinned (ap (λ l. l.items) c.review.ensures.same.1) c.review.ensures.same.0 (still_doubted g.D.Disk.tells old m new s doubted c.in_err-review.ensures.still c.review.ensures.granularity keeps))
 
 pub returns-in_err-review-clause-settling : goal.returns-in_err-review-clause-settling
 returns-in_err-review-clause-settling g c = λ w after.
@@ -53,7 +53,7 @@ returns-clause-settled g c = λ w after takes m s.
     let kept = subst (λ (d : Option Doubt). IsCleared new.catalogue.rows d w.kept after.kept) c.take.ensures.value takes.kept in
     let tails = subst (λ (d : Option Doubt). IsTrimmed new.manifests d w.tails after.tails) c.take.ensures.value takes.tails in
     let ends = settled_ends g.D.Disk.tells old m s new after.kept c.review.ensures.granularity keeps after.tails kept tails c.in_ok-review.ensures.settled in
-    let rests = with_same (λ (x : Parts). Rests g.D.Disk.tells x (record ends.0 { faults = new.faults })) (settled_parts old new after.kept after.tails) c.review.new.self.limbo.items c.review.new.self.pinned (ap (λ l. l.items) c.review.ensures.limbo) c.review.ensures.pins ends.2 in
+    let rests = with_same (λ (x : Parts). Rests g.D.Disk.tells x (record ends.0 { faults = new.faults })) (settled_parts old new after.kept after.tails) c.review.new.self.limbo.items c.review.new.self.pinned (ap (λ l. l.items) c.review.ensures.same.1) c.review.ensures.same.0 ends.2 in
     (ends.0, ends.1, rw (c.take.ensures.after, takes.doors) rests)
 
 pub returns-clause-three : goal.returns-clause-three

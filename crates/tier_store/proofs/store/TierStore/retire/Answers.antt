@@ -222,22 +222,14 @@ returns-in_err-leaving-clause-changes g c =
     let p = err_from_is_err_and c.from_residual.result c.from_residual.ensures.1 in
     nothing_retired g.D.Disk.tells _ (seen g.D.Disk c.args.self.now) (seen g.D.Disk c.hand_over.new.self) (end_of_disk c.from_residual.result) (handed g (goal.at.returns-in_err-leaving-clause-changes g c).After-hand_over) (ap (λ (r : Result RetireEnd DiskErr). end_of_disk r) (p.1 ∙ ap (λ (x : DiskErr). Err x) p.2))
 
-pub returns-in_err-leaving-clause-failed : goal.returns-in_err-leaving-clause-failed
-returns-in_err-leaving-clause-failed g c =
+pub returns-in_err-leaving-clause-fails : goal.returns-in_err-leaving-clause-fails
+returns-in_err-leaving-clause-fails g c =
     let p = err_from_is_err_and c.from_residual.result c.from_residual.ensures.1 in
-    rw p.1 (inl (subst (λ (s : Seen). LeaveListed s c.args.self.now.limbo.items c.hand_over.new.self.limbo.items) (handed g (goal.at.returns-in_err-leaving-clause-failed g c).After-hand_over) c.in_err-leaving.ensures.failed))
-
-pub returns-in_err-leaving-clause-doubted : goal.returns-in_err-leaving-clause-doubted
-returns-in_err-leaving-clause-doubted g c held has fault =
-    let p = err_from_is_err_and c.from_residual.result c.from_residual.ensures.1 in
-    let both : ◌≡◌ {A = Result RetireEnd DiskErr} (Err Fault) (Err Memory) = sym fault ∙ (p.1 ∙ ap (λ (x : DiskErr). Err x) p.2) in
-    absurd (cc (both))
-
-pub returns-in_err-leaving-clause-handed : goal.returns-in_err-leaving-clause-handed
-returns-in_err-leaving-clause-handed g c fault =
-    let p = err_from_is_err_and c.from_residual.result c.from_residual.ensures.1 in
-    let both : ◌≡◌ {A = Result RetireEnd DiskErr} (Err Fault) (Err Memory) = sym fault ∙ (p.1 ∙ ap (λ (x : DiskErr). Err x) p.2) in
-    absurd (cc (both))
+    rw p.1 (record {
+      failed = inl (subst (λ (s : Seen). LeaveListed s c.args.self.now.limbo.items c.hand_over.new.self.limbo.items) (handed g (goal.at.returns-in_err-leaving-clause-fails g c).After-hand_over) c.in_err-leaving.ensures.failed);
+      handed = λ fault. let both : ◌≡◌ {A = DiskErr} Fault Memory = sym fault ∙ p.2 in absurd (cc (both));
+      doubted = λ held has fault. let both : ◌≡◌ {A = DiskErr} Fault Memory = sym fault ∙ p.2 in absurd (cc (both));
+    })
 
 pub returns-in_err-leaving-clause-whole : goal.returns-in_err-leaving-clause-whole
 returns-in_err-leaving-clause-whole g c held has i were low whole =
@@ -266,20 +258,18 @@ pub returns-in_err-removable-clause-stands : goal.returns-in_err-removable-claus
 returns-in_err-removable-clause-stands g c =
     limbo_stands g (goal.at.returns-in_err-removable-clause-stands g c).After-drop_asked
 
-pub returns-in_err-removable-clause-failed : goal.returns-in_err-removable-clause-failed
-returns-in_err-removable-clause-failed g c =
+pub returns-in_err-removable-clause-fails : goal.returns-in_err-removable-clause-fails
+returns-in_err-removable-clause-fails g c =
     let p = err_from_is_err_and c.from_residual-in_err-removable.result c.from_residual-in_err-removable.ensures.1 in
-    rw p.1 (inr (handed_over g (goal.at.returns-in_err-removable-clause-failed g c).After-drop_asked c.in_err-removable.field-0.0 c.in_err-removable.was))
-
-pub returns-in_err-removable-clause-doubted : goal.returns-in_err-removable-clause-doubted
-returns-in_err-removable-clause-doubted g c s was fault =
-    let p = err_from_is_err_and c.from_residual-in_err-removable.result c.from_residual-in_err-removable.ensures.1 in
-    let failed : c.in_err-removable.field-0.0 ≡ Fault = let both : ◌≡◌ {A = Result RetireEnd DiskErr} (Err c.in_err-removable.field-0.0) (Err Fault) = sym (p.1 ∙ ap (λ (x : DiskErr). Err x) p.2) ∙ fault in cc (both) in
-    retired_doubt g.D.Disk.tells c.args.place c.args.row c.args.published.now (λ r l. Unit {0}) (seen g.D.Disk c.args.self.now) (seen g.D.Disk c.drop_asked.new.self) (none_longer g (goal.at.returns-in_err-removable-clause-doubted g c).After-grown (c.grown.ensures.none c.in_default.is)) c.in_err-removable.field-0.0 (end_of_disk c.drop_asked.result) (ap (λ (r : Result _ DiskErr). end_of_disk r) c.in_err-removable.was) failed (drops g (goal.at.returns-in_err-removable-clause-doubted g c).After-drop_asked) s was
-
-pub returns-in_err-removable-clause-handed : goal.returns-in_err-removable-clause-handed
-returns-in_err-removable-clause-handed g c fault =
-    handed_over g (goal.at.returns-in_err-removable-clause-handed g c).After-drop_asked c.in_err-removable.field-0.0 c.in_err-removable.was
+    let e = c.in_err-removable.field-0.0 in
+    let at = (goal.at.returns-in_err-removable-clause-fails g c).After-drop_asked in
+    let over = handed_over g at e c.in_err-removable.was in
+    rw p.1 (record {
+      failed = inr over;
+      handed = λ fault. over;
+      doubted = λ s has fault.
+          retired_doubt g.D.Disk.tells c.args.place c.args.row c.args.published.now (λ r l. Unit {0}) (seen g.D.Disk c.args.self.now) (seen g.D.Disk c.drop_asked.new.self) (none_longer g (goal.at.returns-in_err-removable-clause-fails g c).After-grown (c.grown.ensures.none c.in_default.is)) e (end_of_disk c.drop_asked.result) (ap (λ (r : Result _ DiskErr). end_of_disk r) c.in_err-removable.was) (sym p.2 ∙ fault) (drops g at) s has;
+    })
 
 pub returns-in_err-removable-clause-whole : goal.returns-in_err-removable-clause-whole
 returns-in_err-removable-clause-whole g c held has i were low whole =

@@ -1,7 +1,7 @@
 use Rattle.std.proofs.Common.{◌≡◌, Err, List, Result, true, ◌∙◌, ap, subst, sym}
 use Rattle.std.specs.FinMap.{FinMap}
 use Rattle.std.specs.Ordering.{nat_cmp}
-use Rattle.std.specs.Prelude.{OnOk}
+use Rattle.std.specs.Prelude.{IsTrue, OnOk}
 use Rattle.std.proofs.lemmas.Result.{err_from_is_err_and}
 use Rattle.disk_model.specs.Files.{Name}
 use Rattle.disk_model.specs.declared.disk.DiskErr.{DiskErr}
@@ -11,7 +11,7 @@ use Rattle.durable_write.proofs.Staying.{rose_after}
 use Rattle.tier_store.specs.Limbo.{AreGone, AreRemovable, IsLeftOver, IsSwept, LeavesKept, staying}
 use Rattle.tier_store.specs.Pinned.{seen_all}
 use Rattle.store_manifest.specs.Manifest.{ManifestState}
-use Rattle.tier_store.specs.Seen.{AtEach, IsSettled, seen}
+use Rattle.tier_store.specs.Seen.{AtEach, seen}
 use Rattle.tier_store.specs.declared.limbo.Retired.{Retired}
 use Rattle.tier_store.proofs.OnePlace.{changes_given}
 use Rattle.tier_store.proofs.ReadCalls.{given_changes, look_leaves, look_then_leaves}
@@ -65,28 +65,6 @@ returns-clause-changes g c =
     given_changes g.D.Disk.tells staying _ _ _
     (look_then_change g.D.Disk.tells (λ s. Unit {0}) (λ s. Unit {0}) _ _ _ _ c.sweep_names.result c.in_ok-removable.ensures.looks (λ held has given. given) (changes_given (λ s. Unit {0}) g.D.Disk.tells staying _ _ (Done c.sweep_names.result) c.sweep_names.ensures.changes))
 
-pub returns-clause-swept : goal.returns-clause-swept
-returns-clause-swept g c =
-    let mid = c.find_swept.new.self in
-    let new = c.sweep_names.new.self in
-    let same = c.find_swept.ensures.same in
-    subst (λ (l : List Retired). IsSwept (seen g.D.Disk new) c.args.self.now.pinned c.args.copied.now l new.limbo.items c.sweep_names.result.files) (ap (λ v. v.items) same.3)
-    (subst (λ (p : FinMap nat_cmp PinOf). IsSwept (seen g.D.Disk new) p c.args.copied.now mid.limbo.items new.limbo.items c.sweep_names.result.files) same.2 c.sweep_names.ensures.swept)
-
-pub returns-clause-gone : goal.returns-clause-gone
-returns-clause-gone g c tells =
-    let mid = c.find_swept.new.self in
-    let new = c.sweep_names.new.self in
-    let same = c.find_swept.ensures.same in
-    let removed = c.sweep_names.result.removed in
-    subst (λ (l : List Retired). OnOk removed (AreGone (seen g.D.Disk new) c.args.self.now.pinned c.args.copied.now l)) (ap (λ v. v.items) same.3)
-    (subst (λ (p : FinMap nat_cmp PinOf). OnOk removed (AreGone (seen g.D.Disk new) p c.args.copied.now mid.limbo.items)) same.2 (c.sweep_names.ensures.gone tells))
-
-pub returns-clause-cause : goal.returns-clause-cause
-returns-clause-cause g c failed =
-    let faults = g.D.Disk.faults in
-    rose_after (faults c.args.self.now.disk) (faults c.find_swept.new.self.disk) (faults c.sweep_names.new.self.disk) c.find_swept.ensures.looks.reads.faults (c.sweep_names.ensures.cause failed)
-
 pub returns-clause-leaves : goal.returns-clause-leaves
 returns-clause-leaves g c =
     let mid = seen_all g.D.Disk c.find_swept.new.self in
@@ -108,19 +86,29 @@ returns-clause-same g c =
     let two = c.sweep_names.ensures.same in
     (two.0 ∙ one.0, two.1 ∙ one.1, two.2 ∙ one.2)
 
-pub returns-clause-tidy : goal.returns-clause-tidy
-returns-clause-tidy g c =
-    let before = seen_all g.D.Disk c.args.self.now in
+pub returns-clause-sweeps : goal.returns-clause-sweeps
+returns-clause-sweeps g c =
+    let faults = g.D.Disk.faults in
+    let mid = c.find_swept.new.self in
     let new = c.sweep_names.new.self in
+    let before = seen_all g.D.Disk c.args.self.now in
     let after = seen_all g.D.Disk new in
+    let looked = c.find_swept.ensures.same in
     let pins = c.args.self.now.pinned in
     let copied = c.args.copied.now in
     let swept = c.sweep_names.result in
     let same = returns-clause-same g c in
     let lists = ap (λ v. v.items) same.1 in
     let was = c.requires.has.1.settled in
-    let then : IsSettled after.stores = record { catalogue = ap (λ s. s.journal.sound) same.0 ∙ was.catalogue; manifests = subst (λ (ms : List ManifestState). AtEach ms (λ i m. m.journal.sound ≡ true)) (sym lists) was.manifests } in (
-      then,
-      λ fine. swept_strays g.D.Disk.tells before after pins copied swept.files (λ tells. g.met.D.Disk.seen new.disk tells) same.0 lists (returns-clause-swept g c)
-          (λ tells. subst (λ (r : Result (Unit {0}) DiskErr). OnOk r (AreGone after.stores pins copied before.limbo)) fine (returns-clause-gone g c tells)) (returns-clause-leaves g c),
-    )
+    let counted = subst (λ (l : List Retired). IsSwept after.stores pins copied l new.limbo.items swept.files) (ap (λ v. v.items) looked.3)
+    (subst (λ (p : FinMap nat_cmp PinOf). IsSwept after.stores p copied mid.limbo.items new.limbo.items swept.files) looked.2 c.sweep_names.ensures.swept) in
+    let gone = λ (tells : IsTrue g.D.Disk.tells). subst (λ (l : List Retired). OnOk swept.removed (AreGone after.stores pins copied l)) (ap (λ v. v.items) looked.3)
+    (subst (λ (p : FinMap nat_cmp PinOf). OnOk swept.removed (AreGone after.stores p copied mid.limbo.items)) looked.2 (c.sweep_names.ensures.gone tells)) in
+    record {
+      counted = counted;
+      gone = gone;
+      cause = λ failed. rose_after (faults c.args.self.now.disk) (faults mid.disk) (faults new.disk) c.find_swept.ensures.looks.reads.faults (c.sweep_names.ensures.cause failed);
+      settled = record { catalogue = ap (λ s. s.journal.sound) same.0 ∙ was.catalogue; manifests = subst (λ (ms : List ManifestState). AtEach ms (λ i m. m.journal.sound ≡ true)) (sym lists) was.manifests };
+      tidy = λ fine. swept_strays g.D.Disk.tells before after pins copied swept.files (λ tells. g.met.D.Disk.seen new.disk tells) same.0 lists counted
+          (λ tells. subst (λ (r : Result (Unit {0}) DiskErr). OnOk r (AreGone after.stores pins copied before.limbo)) fine (gone tells)) (returns-clause-leaves g c);
+    }
