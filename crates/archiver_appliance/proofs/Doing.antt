@@ -19,8 +19,8 @@ use Rattle.tier_store.specs.Change.{Has}
 use Rattle.tier_store.specs.Seen.{granularities, seen}
 use Rattle.tier_store.specs.Stores.{Stores}
 use Rattle.tier_store.specs.declared.store.TierStore.{TierStore}
-use Rattle.store_reopen.specs.Reopen.{HasRead, HoldsEither, OpensEither, lists_of, stores_of}
-use Rattle.store_reopen.specs.Verdict.{AreSaid, IsWhole, Listings}
+use Rattle.store_reopen.specs.Reopen.{HoldsEither, IsOpenedAs, OpensEither, lists_of, stores_of}
+use Rattle.store_reopen.specs.Verdict.{IsWhole, Listings}
 use Rattle.store_reports.specs.Status.{status_text}
 use Rattle.store_reopen.proofs.Having.{listed_at}
 use Rattle.tier_store.proofs.Places.{manifest_at as manifest_there}
@@ -76,9 +76,7 @@ module _ (rows : List Row) (short medium long : List Entry) (a b : Option (List 
 -- FROM THE OPENING ON
 
 module _ {S K C D R : Type 0} (src : OfSource S) (snk : OfSink K) (clk : OfClock C) (disk : Ghosts D R) (config : ConfigState) (first : D) (store : TierStore D R) (verdict : OneVerdict)
-    (stands : IsTrue disk.tells → (before after : Stores) → OpensEither (stores_of config) (disk.past first) before after → HasRead disk (stores_of config) first store before after)
-    (said : IsTrue disk.tells → AreSaid (stores_of config) (disk.files first) store.catalogue.rows (lists_of store.manifests.items))
-    (whole : IsTrue disk.tells → IsWhole (stores_of config) (disk.files first))
+    (start : IsOpenedAs disk (stores_of config) first (seen disk store))
     (opening : IsTrue disk.tells → OnlyOpens (stores_of config) (disk.files first) (disk.files store.disk) (disk.past first) (disk.past store.disk))
     (s s' : S) (k k' : K) (c c' : C) (given : D) (status : Status) where
   lists : Listings
@@ -88,7 +86,7 @@ module _ {S K C D R : Type 0} (src : OfSource S) (snk : OfSink K) (clk : OfClock
   of_image : IsTrue disk.tells → (P : List Row → List Entry → List Entry → List Entry → Type 0) → P store.catalogue.rows (lists_of store.manifests.items 0) (lists_of store.manifests.items 1) (lists_of store.manifests.items 2)
       → (w : IsWhole (stores_of config) (disk.files first)) → P w.rows (w.lists 0) (w.lists 1) (w.lists 2)
   of_image told P p w =
-      let same = same_said (stores_of config) (disk.files first) store.catalogue.rows w.rows (lists_of store.manifests.items) w.lists (said told) w.said in
+      let same = same_said (stores_of config) (disk.files first) store.catalogue.rows w.rows (lists_of store.manifests.items) w.lists (start.said told) w.said in
       with_lists P store.catalogue.rows w.rows (lists_of store.manifests.items) w.lists same.0 (λ i low. same.1 i low) p
 
   -- where the disk was only read, by the opening and since
@@ -103,11 +101,11 @@ module _ {S K C D R : Type 0} (src : OfSource S) (snk : OfSink K) (clk : OfClock
       ends (src.left s),
       λ told.
           let not = rows_told store.catalogue.rows (lists_of store.manifests.items 0) (lists_of store.manifests.items 1) (lists_of store.manifests.items 2) (snk.written k) (snk.written k') status listed in
-          let judges = status_judges (stores_of config) (disk.files first) (whole told) (src.left s) status (ends (src.left s)) not.0 not.1 in (
+          let judges = status_judges (stores_of config) (disk.files first) (start.whole told) (src.left s) status (ends (src.left s)) not.0 not.1 in (
             record {
               judges = judges;
               makes = λ before after opens.
-                  let read = stands told before after opens in
+                  let read = start.stands told before after opens in
                   record { first = read.held; either = read.either; read = read.read; makes = λ stand. held read.held read.has stand told; undamaged = λ stand. rows_undamaged store.catalogue.rows (lists_of store.manifests.items 0) (lists_of store.manifests.items 1) (lists_of store.manifests.items 2) (snk.written k) (snk.written k') status listed };
               tells = of_image told (λ rs x y z. TellsListed rs x y z (snk.written k) (snk.written k') status) listed;
               reads = λ reading. only told;
@@ -132,13 +130,13 @@ module _ {S K C D R : Type 0} (src : OfSource S) (snk : OfSink K) (clk : OfClock
           let b = snk.written k' in
           let same = (begun told).elsewhere in
           let finds : (name : Name) (at : ℕ) → status ≡ Damaged name at → IsWholeWith (stores_of config) (disk.files first) (λ rs ls. FindsDamage command.Check (disk.files first) rs ls name at) = λ name at is.
-          whole_with (stores_of config) (disk.files first) rows (lists_of store.manifests.items) (λ rs ls. FindsDamage command.Check (disk.files first) rs ls name at) (whole told) (said told)
+          whole_with (stores_of config) (disk.files first) rows (lists_of store.manifests.items) (λ rs ls. FindsDamage command.Check (disk.files first) rs ls name at) (start.whole told) (start.said told)
           (first_in rows (disk.files store.disk) (disk.files first) same short medium long a b name at (subst (λ (x : Status). ChecksAll rows (disk.files store.disk) short medium long a b x) is (checks told))) in
-          let judges = check_judges (stores_of config) (disk.files first) (whole told) (src.left s) status (ends (src.left s)) finds (checks_told rows short medium long a b (disk.files store.disk) status (checks told)) in (
+          let judges = check_judges (stores_of config) (disk.files first) (start.whole told) (src.left s) status (ends (src.left s)) finds (checks_told rows short medium long a b (disk.files store.disk) status (checks told)) in (
             record {
               judges = judges;
               makes = λ before after opens.
-                  let read = stands told before after opens in
+                  let read = start.stands told before after opens in
                   record { first = read.held; either = read.either; read = read.read; makes = tt; undamaged = λ stand. held read.held read.has stand told };
               tells = of_image told (λ rs x y z. ChecksAll rs (disk.files first) x y z a b status) (checks_in rows (disk.files store.disk) (disk.files first) same short medium long a b status (checks told));
               reads = λ reading. only told;
@@ -176,14 +174,14 @@ module _ {S K C D R : Type 0} (src : OfSource S) (snk : OfSink K) (clk : OfClock
   ingest_does quiet settings ingests lists three opened undamaged ends = (
     ends,
     λ told.
-        let judges = ingest_judges (stores_of config) (disk.files first) (whole told) (src.left s) status ends (not_damaged undamaged) (not_differs opened) in (
+        let judges = ingest_judges (stores_of config) (disk.files first) (start.whole told) (src.left s) status ends (not_damaged undamaged) (not_differs opened) in (
           record {
             judges = judges;
-            makes = λ before after opens. let read = stands told before after opens in record { first = read.held; either = read.either; read = read.read; makes = by_made told before after opens read.held read.has ingests; undamaged = λ stand. undamaged };
+            makes = λ before after opens. let read = start.stands told before after opens in record { first = read.held; either = read.either; read = read.read; makes = by_made told before after opens read.held read.has ingests; undamaged = λ stand. undamaged };
             tells = λ w. tt;
-            reads = λ none. absurd (none (whole told));
+            reads = λ none. absurd (none (start.whole told));
             listed = λ w keeps i low.
-                let same = same_said (stores_of config) (disk.files first) store.catalogue.rows w.rows (lists_of store.manifests.items) w.lists (said told) w.said in
+                let same = same_said (stores_of config) (disk.files first) store.catalogue.rows w.rows (lists_of store.manifests.items) w.lists (start.said told) w.said in
                 let m = manifest_there store.manifests.items i (omega (arith, low, three)) in
                 let is : m.0.entries ≡ w.lists i = sym (listed_at store.manifests.items i m.0 m.1) ∙ same.1 i low in
                 opened_listed (stores_of config) (disk.files first) (disk.files store.disk) (disk.files given) (disk.past first) (disk.past store.disk) (disk.past given) w i low (opening told)
@@ -223,14 +221,14 @@ module _ {S K C D R : Type 0} (src : OfSource S) (snk : OfSink K) (clk : OfClock
   etl_does quiet settings moves undamaged part opened ends = (
     ends (src.left s),
     λ told.
-        let judges = etl_judges (stores_of config) (disk.files first) (whole told) (src.left s) status (ends (src.left s)) (not_differs opened) in (
+        let judges = etl_judges (stores_of config) (disk.files first) (start.whole told) (src.left s) status (ends (src.left s)) (not_differs opened) in (
           record {
             judges = judges;
             makes = λ before after opens.
-                let read = stands told before after opens in
+                let read = start.stands told before after opens in
                 record { first = read.held; either = read.either; read = read.read; makes = by_made told before after opens read.held read.has moves; undamaged = undamaged told read.held read.has };
             tells = λ w. subst (λ (x : ConfigState). FindsPart (stores_of x) (disk.files given) status) settings (part told);
-            reads = λ none. absurd (none (whole told));
+            reads = λ none. absurd (none (start.whole told));
             listed = λ w none i low. absurd none;
             rewrites_none = λ is. absurd is;
           },
@@ -266,15 +264,15 @@ module _ {S K C D R : Type 0} (src : OfSource S) (snk : OfSink K) (clk : OfClock
     get_does quiet still settings retrieves some read none vain damaged opened ends = (
       ends (src.left s),
       λ told.
-          let judges = get_judges (stores_of config) (disk.files first) store.catalogue.rows (lists_of store.manifests.items) (whole told) (said told) name query (src.left s) status (ends (src.left s)) none vain
+          let judges = get_judges (stores_of config) (disk.files first) store.catalogue.rows (lists_of store.manifests.items) (start.whole told) (start.said told) name query (src.left s) status (ends (src.left s)) none vain
           (λ file at is. moved (begun told).elsewhere file at (damaged told file at is)) (not_differs opened) in (
             record {
               judges = judges;
               makes = λ before after opens.
-                  let was = stands told before after opens in
+                  let was = start.stands told before after opens in
                   record { first = was.held; either = was.either; read = was.read; makes = by_made told before after opens was.held was.has retrieves; undamaged = λ stand. by_writes told was.held was.has stand retrieves };
               tells = λ w.
-                  let same = same_said (stores_of config) (disk.files first) store.catalogue.rows w.rows (lists_of store.manifests.items) w.lists (said told) w.said in (
+                  let same = same_said (stores_of config) (disk.files first) store.catalogue.rows w.rows (lists_of store.manifests.items) w.lists (start.said told) w.said in (
                     of_image told (λ rs x y z. GetsSome rs name.now query (snk.written k) (snk.written k') status) some w,
                     read_in (disk.files store.disk) (disk.files first) store.catalogue.rows w.rows (lists_of store.manifests.items) w.lists name.now query (snk.written k) (snk.written k') same.0 (λ i low. same.1 i low) (begun told).elsewhere status (read told),
                   );

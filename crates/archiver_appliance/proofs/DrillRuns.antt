@@ -112,7 +112,7 @@ module _ {D R : Type 0} (disk : Ghosts D R) where
   stands_by {E} store doors result some opens = IfOk-weaker result (OpensFrom store doors) StandsNow (λ archive each. let one = each some.0 some.1 in (one.start, one.stands)) opens
 
   pub opened_by : {E : Type 0} (store : TierStore D R) (config : ConfigState) (old : D) (doors : ℕ) (result : Result (Archive D R) E) → store.config ≡ config
-      → (IsTrue disk.tells → (before after : Stores) → OpensEither (stores_of config) (disk.past old) before after → HasRead disk (stores_of config) old store before after) → IfOk result (OpensFrom store doors) → IfOk result (OpenedOn config old doors)
+      → (IsTrue disk.tells → (before after : Stores) → OpensEither (stores_of config) (disk.past old) before after → HasRead disk (stores_of config) old (seen disk store) before after) → IfOk result (OpensFrom store doors) → IfOk result (OpenedOn config old doors)
   opened_by {E} store config old doors result same reads opens = IfOk-weaker result (OpensFrom store doors) (OpenedOn config old doors) (λ archive each told before after either stand.
       let read = reads told before after either in (
         read.held,

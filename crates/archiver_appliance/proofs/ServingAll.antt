@@ -15,7 +15,7 @@ use Rattle.tier_store.specs.Change.{Has}
 use Rattle.tier_store.specs.Seen.{seen}
 use Rattle.tier_store.specs.Stores.{Stores}
 use Rattle.tier_store.specs.declared.store.TierStore.{TierStore}
-use Rattle.store_reopen.specs.Reopen.{HasRead, HoldsEither, OpensEither, stores_of}
+use Rattle.store_reopen.specs.Reopen.{HoldsEither, IsOpenedAs, stores_of}
 use Rattle.store_reopen.specs.Verdict.{IsWhole}
 use Rattle.service.specs.declared.posts.Post.{Post}
 use Rattle.service.specs.declared.served.Kind.{Kind}
@@ -44,8 +44,7 @@ serve_judges gs files whole numbers source (GranularityDiffers kept other) ends 
 serve_judges gs files whole numbers source status ends none opened = whole_alone gs files whole
 
 module _ {S K C D R : Type 0} (src : OfSource S) (snk : OfSink K) (clk : OfClock C) (disk : Ghosts D R) (config : ConfigState) (first : D) (store : TierStore D R) (verdict : OneVerdict)
-    (stands : IsTrue disk.tells → (before after : Stores) → OpensEither (stores_of config) (disk.past first) before after → HasRead disk (stores_of config) first store before after)
-    (whole : IsTrue disk.tells → IsWhole (stores_of config) (disk.files first))
+    (start : IsOpenedAs disk (stores_of config) first (seen disk store))
     (opening : IsTrue disk.tells → OnlyOpens (stores_of config) (disk.files first) (disk.files store.disk) (disk.past first) (disk.past store.disk))
     (s : S) (k : K) (c c' : C) (given : D) (status : Status) where
   unmade : IsNotMade store.disk given status → IsTrue disk.tells → OnlyOpens (stores_of config) (disk.files first) (disk.files given) (disk.past first) (disk.past given)
@@ -67,7 +66,7 @@ module _ {S K C D R : Type 0} (src : OfSource S) (snk : OfSink K) (clk : OfClock
       where
         of_service : (began : Bool) (told : AllServed) → Made began told → IsOfService config disk.tells doors Given (outside src snk clk disk s k c first) (outside src snk clk disk s k c' given) began told
         of_service began told made tells before after opens =
-            let read = stands tells before after opens in
+            let read = start.stands tells before after opens in
             let Before : Files → Type 0 = λ image. HoldsEither (stores_of config) before after image in
             let from : ServesFrom Before disk.tells store.config read.held doors (Given told) began told (disk.past first) (disk.past given) =
             serves_behind Before disk.tells store.config read.held doors (Given told) began told (disk.past first) (disk.past store.disk) (disk.past given) ((opening tells).either before after opens) (made read.held read.has) in
@@ -84,12 +83,12 @@ module _ {S K C D R : Type 0} (src : OfSource S) (snk : OfSink K) (clk : OfClock
     serve_does numbers serves opened undamaged ends = (
       ends (src.left s),
       λ told.
-          let judges = serve_judges (stores_of config) (disk.files first) (whole told) numbers (src.left s) status (ends (src.left s)) undamaged opened in (
+          let judges = serve_judges (stores_of config) (disk.files first) (start.whole told) numbers (src.left s) status (ends (src.left s)) undamaged opened in (
             record {
               judges = judges;
-              makes = λ before after opens. let read = stands told before after opens in record { first = read.held; either = read.either; read = read.read; makes = by_came told serves.came; undamaged = λ stand. undamaged };
+              makes = λ before after opens. let read = start.stands told before after opens in record { first = read.held; either = read.either; read = read.read; makes = by_came told serves.came; undamaged = λ stand. undamaged };
               tells = λ w. tt;
-              reads = λ none. absurd (none (whole told));
+              reads = λ none. absurd (none (start.whole told));
               listed = λ w none i low. absurd none;
               rewrites_none = λ is. absurd is;
             },

@@ -74,8 +74,8 @@ fn main(rt: HostRuntime) -> ExitCode {
     exit_code(&rt, ended)
 }
 
-// A file that is opened has the number of a standard stream that is closed. So three that lead nowhere are opened before
-// all others and held to the end: what is written to a closed stream reaches no file of the archive.
+// A file that is opened has the number of a standard stream that is closed. So three that lead nowhere are opened
+// before all others and held to the end: what is written to a closed stream reaches no file of the archive.
 fn open_nowhere(rt: &HostRuntime) -> Option<File> {
     let opened = OpenOptions::new()
         .read(true)

@@ -1,16 +1,10 @@
 // The commands over the archive.
 ghost use Rattle.std.specs.FinMap as map;
-ghost use Rattle.std.specs.Prelude.{◌≡◌, ◌≤◌, ◌<◌, ◌^◌, [], ℕ, IfOk, IsOk, IsTrue, None, Err, false, length, true};
-ghost use Rattle.disk_model.specs.Files.{Name, Rose};
-ghost use Rattle.partition_names.specs.declared.granularity.Granularity.{Granularity as GranularityValue};
+ghost use Rattle.std.specs.Prelude.{◌≡◌, ◌≤◌, ◌<◌, ◌^◌, [], IfErr, IfOk, IsTrue, None, false, length, true};
 ghost use Rattle.store_reopen.specs.Adoption.{NoneFiner, NoneFoundOpened};
-ghost use Rattle.store_reopen.specs.Reopen.{HasRead, IsReady, IsSwept, IsUnopened, OpensEither, disk_in, disk_of};
-ghost use Rattle.store_reopen.specs.Reopen.{lists_of, stores_of};
-ghost use Rattle.store_reopen.specs.Verdict.{AreSaid, Differs, IsDamaged, IsWhole};
-ghost use Rattle.store_reopen.specs.declared.error.ReopenErr.TheVariants.{DiskFault, Damaged, GranularityDiffers};
-ghost use Rattle.tier_store.specs.Change.{Has};
+ghost use Rattle.store_reopen.specs.NotOpened.{IsCauseOf};
+ghost use Rattle.store_reopen.specs.Reopen.{IsOpenedAs, IsSwept, IsUnopened, disk_in, disk_of, stores_of};
 ghost use Rattle.tier_store.specs.Seen.{seen};
-ghost use Rattle.tier_store.specs.Stores.{Stores};
 ghost use Rattle.archiver_appliance.specs.Judging.{refusal_of};
 ghost use Rattle.archiver_appliance.specs.Run.{IsReading, IsReport};
 ghost use Rattle.archiver_appliance.specs.Run.{OnlyOpens, OnlyReads};
@@ -119,22 +113,10 @@ fn opened<D: Disk>(
     command: &StoreCommand<'_>,
 ) -> Result<TierStore<D>, ReopenErr<D>>
     requires unopened { IsTrue D.tells → IsUnopened (D.files disk) (D.opened disk) }
-    ensures stands { IsTrue D.tells → (before after : Stores)
-        → OpensEither (stores_of config.now) (D.past disk) before after
-        → IfOk result (λ s. HasRead D.Disk (stores_of config.now) disk s before after) }
-    ensures has { IfOk result (λ s. (held : Stores) × Has D.tells (seen D.Disk s) held) }
-    ensures said { IsTrue D.tells → IfOk result (λ s. let now = seen D.Disk s in
-        AreSaid (stores_of config.now) (D.files disk) now.catalogue.rows (lists_of now.manifests)) }
-    ensures ready { IfOk result (λ s. let now = seen D.Disk s in
-        IsReady (stores_of config.now) now.catalogue now.manifests) }
+    ensures opened { IfOk result (λ s. IsOpenedAs D.Disk (stores_of config.now) disk (seen D.Disk s)) }
     ensures fresh { IfOk result (λ s. (s.limbo.items ≡ []) × (s.pinned ≡ map.empty)) }
     ensures settings { IfOk result (λ s. s.config ≡ config.now) }
-    ensures whole { IsTrue D.tells → IsOk result → IsWhole (stores_of config.now) (D.files disk) }
-    ensures damaged { IsTrue D.tells → (d : D) (name : Name) (at : ℕ) → result ≡ Err (Damaged d name at)
-        → IsDamaged (stores_of config.now) (D.files disk) name at }
-    ensures differs { IsTrue D.tells → (d : D) (kept asked : GranularityValue)
-        → result ≡ Err (GranularityDiffers d kept asked)
-        → Differs (stores_of config.now) (D.files disk) kept asked }
+    ensures told { IfErr result (IsCauseOf D.Disk (stores_of config.now) disk) }
     ensures opens { IsTrue D.tells → OnlyOpens (stores_of config.now) (D.files disk) (D.files (disk_of result))
         (D.past disk) (D.past (disk_of result)) }
     ensures swept { IsTrue D.tells → (IsReport command.now → ⊥)
@@ -144,7 +126,6 @@ fn opened<D: Disk>(
         (D.past disk) (D.past (disk_of result)) }
     ensures unopened { IsTrue D.tells → IsUnopened (D.files (disk_of result)) (D.opened (disk_of result)) }
     ensures faults { D.faults disk ≤ D.faults (disk_of result) }
-    ensures cause { (d : D) → result ≡ Err (DiskFault d) → Rose (D.faults disk) (D.faults d) }
 {
     if only_reads(command) {
         open_to_read(alloc, disk, config)

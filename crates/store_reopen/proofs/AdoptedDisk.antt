@@ -24,7 +24,7 @@ use Rattle.tier_store.specs.Stores.{Stores, list_at, tier}
 use Rattle.tier_store.proofs.OnePlace.{in_out}
 use Rattle.store_reopen.specs.Following.{NoneUnlistedOpened, Follows, HasAdoptedOf, LeavesOff}
 use Rattle.store_reopen.specs.Loading.{KeepsSaid, Catalogue, Manifest, StillSay}
-use Rattle.store_reopen.specs.Reopen.{loaded, ChangesSite, HasLoaded, HoldsEither, IsUnopened, LeavesSite, OnlySite, Opens, OpensEither, Reopens, SameStores, StillHolds, lists_of}
+use Rattle.store_reopen.specs.Reopen.{loaded, ChangesSite, HasRead, HoldsEither, IsUnopened, LeavesSite, OnlySite, Opens, OpensEither, Reopens, SameStores, StillHolds, lists_of}
 use Rattle.store_reopen.specs.Steps.{Step, made_by, Lists, NewRow, stepped, EndsSteps, MakesSteps, StopsWithin, stage}
 use Rattle.store_manifest.specs.Entries.{Place, comes_before, put, AreEntries, is_listed, is_place, place as place_of}
 use Rattle.store_manifest.proofs.Committing.{one_listing}
@@ -292,7 +292,7 @@ module _ {D R : Type 0} (disk : Ghosts D R) (gs : List Granularity) (old mid new
     pub stage_opens : OpensStage gs steps held (disk.past new)
     stage_opens = ends_open gs disk.tells told (loaded disk c₁ m₁ new) (makes.granularity ∙ same) steps held done (makes.ends held has)
 
-  abbrev pub adopts_from : (whole done : Bool) (before after : Stores) → OpensEither gs (disk.past old) before after → (loads : HasLoaded disk gs old c ms mid before after) → Follows disk whole done gs (disk.files old) loads.held c ms mid c₁ m₁ new → AdoptsFrom whole disk gs old new before after
+  abbrev pub adopts_from : (whole done : Bool) (before after : Stores) → OpensEither gs (disk.past old) before after → (loads : HasRead disk gs old (loaded disk c ms mid) before after) → Follows disk whole done gs (disk.files old) loads.held c ms mid c₁ m₁ new → AdoptsFrom whole disk gs old new before after
   adopts_from whole done before after opens loads follows = record {
     held = loads.held;
     either = loads.either;
@@ -304,7 +304,7 @@ module _ {D R : Type 0} (disk : Ghosts D R) (gs : List Granularity) (old mid new
   }
 
   -- an adoption that was done, or left
-  module _ (whole_image : IsWhole gs (disk.files old)) (loads : (before after : Stores) → OpensEither gs (disk.past old) before after → HasLoaded disk gs old c ms mid before after) (some : Stores) (has : Has disk.tells (loaded disk c ms mid) some) (changes : ChangesSite disk mid new)
+  module _ (whole_image : IsWhole gs (disk.files old)) (loads : (before after : Stores) → OpensEither gs (disk.past old) before after → HasRead disk gs old (loaded disk c ms mid) before after) (some : Stores) (has : Has disk.tells (loaded disk c ms mid) some) (changes : ChangesSite disk mid new)
       (keeps : KeepsSaid gs (shown_by disk old) (shown_by disk mid)) (none : NoneUnlistedOpened c.rows ms (disk.opened mid)) where
     marked_of : ((held : Stores) → Has disk.tells (loaded disk c ms mid) held → Passes (IsMarked gs (disk.files old) held) (disk.past mid) (disk.past new))
         → (before after : Stores) → OpensEither gs (disk.past old) before after → Passes (IsMarkedOf gs (disk.files old) before after) (disk.past old) (disk.past new)
@@ -365,7 +365,7 @@ module _ {D R : Type 0} (disk : Ghosts D R) (gs : List Granularity) (old mid new
       site = site;
     }
       where
-        by : (before after : Stores) → OpensEither gs (disk.past old) before after → (l : HasLoaded disk gs old c ms mid before after) → LeavesOff disk gs (disk.files old) l.held c ms mid c₁ m₁ new → Reopens disk gs old new ⊎ ((whole : Bool) × AdoptsFrom whole disk gs old new before after)
+        by : (before after : Stores) → OpensEither gs (disk.past old) before after → (l : HasRead disk gs old (loaded disk c ms mid) before after) → LeavesOff disk gs (disk.files old) l.held c ms mid c₁ m₁ new → Reopens disk gs old new ⊎ ((whole : Bool) × AdoptsFrom whole disk gs old new before after)
         by before after opens l (inl marks) = inl (reopens_marked disk gs old mid new begun marks (marked_unopened marks))
         by before after opens l (inr (whole, follows)) = inr (whole, adopts_from whole false before after opens l follows)
 

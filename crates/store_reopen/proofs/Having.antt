@@ -5,7 +5,7 @@ use Rattle.disk_model.specs.Past.{Past, Passes, MayLeave}
 use Rattle.gate_journal.specs.Kept.{Says, StillSays, IsKept as IsJournalKept}
 use Rattle.partition_names.specs.declared.granularity.Granularity.{Granularity}
 use Rattle.store_manifest.specs.Manifest.{manifest_name, StaysOrBegins, ManifestState, IsKept}
-use Rattle.pv_catalog.specs.Catalogue.{catalogue_name, IsStored}
+use Rattle.pv_catalog.specs.Catalogue.{CatalogueState, catalogue_name, IsStored}
 use Rattle.pv_catalog.specs.Rows.{IsCatalogue, AreRows}
 use Rattle.std.specs.Prelude.{slice_get, unwrap_or, All, IsTrue}
 use Rattle.gate_journal.specs.Generations.{IsOwn, AtOwn, KeepsBatches, at_name, generation_batches, generation_name, HasBatchesOf, IsBadOf}
@@ -49,7 +49,7 @@ use Rattle.tier_store.specs.Stored.{HoldsAll}
 use Rattle.tier_store.specs.Change.{IsKnown, Has, IsEither}
 use Rattle.tier_store.proofs.Places.{within_three, granularity_at as granularity_of}
 use Rattle.store_reopen.specs.Verdict.{AreSaid, IsThere, Listings, HasRow}
-use Rattle.store_reopen.specs.Reopen.{IsReady, IsUnopened, OpensEither, HoldsEither, AllIn, StillHolds, Reopens, stores_of, lists_of, entries_in, SameStores}
+use Rattle.store_reopen.specs.Reopen.{AreLoaded, IsReady, IsUnopened, OpensEither, HoldsEither, AllIn, StillHolds, Reopens, loaded, stores_of, lists_of, entries_in, SameStores}
 use Rattle.gate_journal.specs.Kept as in_journal
 use Rattle.gate_journal.specs.DiskShown.{DiskShown, shown_by}
 
@@ -665,19 +665,19 @@ still_unopened gs old new keeps unopened = record {
       unopened_later i rows entries old.opened new.opened keeps.same_opened (unopened.listed rows (no_more gs gs Catalogue old.files new.files rows (keeps.now.journals Catalogue) rows_said) i low g entries was);
 }
 
-pub loaded_again : (gs : List Granularity) (s : Seen) (old : DiskShown) → length gs ≡ 3 → KeepsSaid gs old (on_disk s) → IsUnopened old.files old.opened → IsReady gs s.catalogue s.manifests → IsStored s.catalogue (on_disk s)
-    → AtEach s.manifests (λ i m. IsKept m (on_disk s)) → s.catalogue.journal.name ≡ catalogue_name → AtEach s.manifests (λ i m. m.journal.name ≡ manifest_name (i + 1)) → AreSaid gs old.files s.catalogue.rows (lists_of s.manifests)
-    → AtEach s.manifests (λ i m. All (IsThere i old.files s.catalogue.rows) m.entries) → IsLoaded s
-loaded_again gs s old three keeps unopened ready stored kept named named_manifests said there = record {
-  stored = stored;
-  kept = kept;
-  named = named;
-  named_manifests = named_manifests;
-  there = λ i m here. all_there_in i old.files s.files s.catalogue.rows m.entries (λ n other. sym (keeps.now.elsewhere n other)) (there i m here);
+pub loaded_again : {D R : Type 0} (disk : Ghosts D R) (gs : List Granularity) (old new : D) (c : CatalogueState) (ms : List ManifestState) → length gs ≡ 3 → KeepsSaid gs (shown_by disk old) (shown_by disk new) → IsUnopened (disk.files old) (disk.opened old) → AreLoaded disk gs old c ms new → IsTrue disk.tells
+    → IsLoaded (loaded disk c ms new)
+loaded_again {D} {R} disk gs old new c ms three keeps unopened load told = record {
+  stored = load.stored told;
+  kept = load.kept told;
+  named = load.name;
+  named_manifests = load.names;
+  there = λ i m here. all_there_in i (disk.files old) (disk.files new) c.rows m.entries (λ n other. sym (keeps.now.elsewhere n other)) (load.there told i m here);
   unopened = λ i m here.
-      let g = own_granularity gs s.manifests i m ready.granularity here in
-      let lists : Says (Folds m.granularity) m.entries (manifest_name (i + 1)) old.files = subst (λ (es : List Entry). Says (Folds m.granularity) es (manifest_name (i + 1)) old.files) (listed_at s.manifests i m here) (said.lists_said i m.granularity g) in
-      unopened_later i s.catalogue.rows m.entries old.opened s.opened keeps.same_opened (unopened.listed s.catalogue.rows said.rows_said i (low_of gs i m.granularity three g) m.granularity m.entries lists);
+      let said = load.said told in
+      let g = own_granularity gs ms i m load.ready.granularity here in
+      let lists : Says (Folds m.granularity) m.entries (manifest_name (i + 1)) (disk.files old) = subst (λ (es : List Entry). Says (Folds m.granularity) es (manifest_name (i + 1)) (disk.files old)) (listed_at ms i m here) (said.lists_said i m.granularity g) in
+      unopened_later i c.rows m.entries (disk.opened old) (disk.opened new) keeps.same_opened (unopened.listed c.rows said.rows_said i (low_of gs i m.granularity three g) m.granularity m.entries lists);
 }
 
 pub reopened : {D R : Type 0} (disk : Ghosts D R) (gs : List Granularity) (old new : D) → IsUnopened (disk.files old) (disk.opened old)

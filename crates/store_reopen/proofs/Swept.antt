@@ -5,7 +5,7 @@ use Rattle.disk_model.specs.Files.{Name, Files, Content}
 use Rattle.partition_names.specs.declared.granularity.Granularity.{Granularity}
 use Rattle.pv_catalog.specs.declared.row.Row.{Row}
 use Rattle.store_manifest.specs.declared.entry.Entry.{Entry}
-use Rattle.store_manifest.specs.Manifest.{ManifestState, manifest_name, IsKept}
+use Rattle.store_manifest.specs.Manifest.{ManifestState, manifest_name}
 use Rattle.durable_write.specs.Held.{entry_of, Filed, Held, file_of, AreFiled, IsFiled, IsListed, AreIn}
 use Rattle.tier_store.specs.Change.{Has, CanList, Doubts, IsOpen, PlaceInDoubt}
 use Rattle.tier_store.specs.Stores.{Stores, list_at, tier, with_list}
@@ -15,10 +15,10 @@ use Rattle.disk_model.specs.declared.disk.Disk.{Ghosts}
 use Rattle.disk_model.proofs.Passing.{passes_weaker, passes_then}
 use Rattle.gate_journal.specs.Generations.{IsOwn, AtOwn}
 use Rattle.gate_journal.specs.DiskShown.{shown_by}
-use Rattle.pv_catalog.specs.Catalogue.{CatalogueState, catalogue_name, Refuses, registered, IsStored}
+use Rattle.pv_catalog.specs.Catalogue.{CatalogueState, catalogue_name, Refuses, registered}
 use Rattle.tier_store.specs.Seen.{Seen, granularities, AtEach, on_disk}
 use Rattle.tier_store.proofs.Places.{within_three, manifest_at, holding, same_granularities, set_cases, tier_set, tier_other, manifest_of}
-use Rattle.store_reopen.specs.Reopen.{IsReady, SameStores, IsUnopened, Opens, OpensEither, ChangesJournals, ChangesSite, IsNoJournals, OnlyJournals, OnlySite, AllIn, HasLoaded, HoldsEither, IsSwept, OpensRead, Reopens, StillHolds, Sweeps, entries_in, lists_of, loaded}
+use Rattle.store_reopen.specs.Reopen.{AreLoaded, IsOpenedAs, IsReady, SameStores, IsUnopened, Opens, OpensEither, ChangesJournals, ChangesSite, IsNoJournals, OnlyJournals, OnlySite, AllIn, HasRead, HoldsEither, IsSwept, OpensRead, Reopens, StillHolds, Sweeps, entries_in, lists_of, loaded}
 use Rattle.store_reopen.specs.Verdict.{HasRow, AreSaid, IsThere, IsWhole, Listings}
 use Rattle.store_manifest.proofs.Committing.{one_listing}
 use Rattle.tier_store.specs.Stored.{HoldsAll, IsStoredAt, PlaceUnsure, RowsUnsure}
@@ -363,10 +363,6 @@ whole_by gs files rows ms said of_rows there = record {
   of_lists = refl;
 }
 
--- stores that are ready, and whose listed files are there
-pub all_whole : (gs : List Granularity) (files : Files) (rows : List Row) (ms : List ManifestState) → AreSaid gs files rows (lists_of ms) → AtEach ms (λ i m. All (HasRow rows) m.entries) → AtEach ms (λ i m. All (IsThere i files rows) m.entries) → IsWhole gs files
-all_whole gs files rows ms said of_rows there = (whole_by gs files rows ms said of_rows there).whole
-
 -- WHAT IS LISTED IS NO STRAY
 
 module _ (catalogue : CatalogueState) (ms : List ManifestState) where
@@ -465,7 +461,7 @@ module _ {D R : Type 0} (disk : Ghosts D R) (gs : List Granularity) (old mid new
     (unopened : IsUnopened (disk.files old) (disk.opened old)) (keeps : KeepsSaid gs (shown_by disk old) (shown_by disk mid))
     (removes : Removes disk (Goes catalogue ms) mid new) (some : Stores) (has : Has disk.tells (loaded disk catalogue ms mid) some)
     (whole : IsWhole gs (disk.files old)) (of_rows : whole.rows ≡ catalogue.rows) (of_lists : whole.lists ≡ lists_of ms)
-    (read : (before after : Stores) → OpensEither gs (disk.past old) before after → HasLoaded disk gs old catalogue ms mid before after) (seen : MayLeave (disk.past new) (disk.files new)) where
+    (read : (before after : Stores) → OpensEither gs (disk.past old) before after → HasRead disk gs old (loaded disk catalogue ms mid) before after) (seen : MayLeave (disk.past new) (disk.files new)) where
   begun : Reopens disk gs old mid
   begun = reopened disk gs old mid unopened keeps
 
@@ -537,8 +533,16 @@ sweeps_or_none {D} {R} disk gs old mid new false left reopens swept = swept refl
 pub read_reopens : {D R : Type 0} (disk : Ghosts D R) (gs : List Granularity) (old now : D) → IsUnopened (disk.files old) (disk.opened old) → disk.files now ≡ disk.files old → Passes (λ a b. b ≡ a) (disk.past old) (disk.past now) → disk.opened now ≡ disk.opened old → Reopens disk gs old now
 read_reopens {D} {R} disk gs old now unopened same passes opened = reopened disk gs old now unopened (kept_reading gs (shown_by disk old) (shown_by disk now) same passes opened)
 
-pub loaded_behind : {D R : Type 0} (disk : Ghosts D R) (gs : List Granularity) (old now new : D) (catalogue : CatalogueState) (ms : List ManifestState) (before after : Stores) → disk.files now ≡ disk.files old → HasLoaded disk gs now catalogue ms new before after → HasLoaded disk gs old catalogue ms new before after
-loaded_behind {D} {R} disk gs old now new catalogue ms before after same loaded = record { held = loaded.held; either = loaded.either; read = subst (λ (f : Files). HoldsAll gs f loaded.held) same loaded.read; has = loaded.has }
+pub opened_behind : {D R : Type 0} (disk : Ghosts D R) (gs : List Granularity) (old now : D) (s : Seen) → (IsTrue disk.tells → disk.files now ≡ disk.files old) → (IsTrue disk.tells → Reopens disk gs old now) → IsOpenedAs disk gs now s → IsOpenedAs disk gs old s
+opened_behind {D} {R} disk gs old now s same reopens opened = record {
+  stands = λ told before after opens.
+      let read = opened.stands told before after ((reopens told).opens before after opens) in
+      record { held = read.held; either = read.either; read = subst (λ (f : Files). HoldsAll gs f read.held) (same told) read.read; has = read.has };
+  has = opened.has;
+  said = λ told. subst (λ (f : Files). AreSaid gs f s.catalogue.rows (lists_of s.manifests)) (same told) (opened.said told);
+  whole = λ told. subst (IsWhole gs) (same told) (opened.whole told);
+  ready = opened.ready;
+}
 
 -- a sweep behind a call that only read is one from before it on
 pub sweeps_behind : {D R : Type 0} (disk : Ghosts D R) (gs : List Granularity) (old now new : D) → Reopens disk gs old now → disk.files now ≡ disk.files old → Sweeps disk gs now new → Sweeps disk gs old new
@@ -558,46 +562,43 @@ sweeps_behind {D} {R} disk gs old now new reopens same sweeps = record {
 
 -- A LOAD, AND A SWEEP BEHIND IT
 
-module _ {D R : Type 0} (disk : Ghosts D R) (gs : List Granularity) (old mid new : D) (catalogue : CatalogueState) (ms : List ManifestState) (three : length gs ≡ 3) (ready : IsReady gs catalogue ms)
-    (unopened : IsTrue disk.tells → IsUnopened (disk.files old) (disk.opened old)) (keeps : IsTrue disk.tells → KeepsSaid gs (shown_by disk old) (shown_by disk mid))
-    (stored : IsTrue disk.tells → IsStored catalogue (shown_by disk mid)) (kept : IsTrue disk.tells → AtEach ms (λ i m. IsKept m (shown_by disk mid)))
-    (named : catalogue.journal.name ≡ catalogue_name) (named_manifests : AtEach ms (λ i m. m.journal.name ≡ manifest_name (i + 1))) (said : IsTrue disk.tells → AreSaid gs (disk.files old) catalogue.rows (lists_of ms))
-    (there : IsTrue disk.tells → AtEach ms (λ i m. All (IsThere i (disk.files old) catalogue.rows) m.entries)) (left : (d : D) → IsTrue disk.tells → MayLeave (disk.past d) (disk.files d))
+module _ {D R : Type 0} (disk : Ghosts D R) (gs : List Granularity) (old mid new : D) (catalogue : CatalogueState) (ms : List ManifestState) (three : length gs ≡ 3) (load : AreLoaded disk gs old catalogue ms mid)
+    (unopened : IsTrue disk.tells → IsUnopened (disk.files old) (disk.opened old)) (keeps : IsTrue disk.tells → KeepsSaid gs (shown_by disk old) (shown_by disk mid)) (left : (d : D) → IsTrue disk.tells → MayLeave (disk.past d) (disk.files d))
     (removes : IsTrue disk.tells → Removes disk (Goes catalogue ms) mid new) where
   three_manifests : length ms ≡ 3
-  three_manifests = count_of gs ms three ready.granularity
+  three_manifests = count_of gs ms three load.ready.granularity
 
   again : IsTrue disk.tells → IsLoaded (loaded disk catalogue ms mid)
-  again told = loaded_again gs (loaded disk catalogue ms mid) (shown_by disk old) three (keeps told) (unopened told) ready (stored told) (kept told) named named_manifests (said told) (there told)
+  again told = loaded_again disk gs old mid catalogue ms three (keeps told) (unopened told) load told
 
   some : (held : Stores) × Has disk.tells (loaded disk catalogue ms mid) held
-  some = has_some disk.tells gs (loaded disk catalogue ms mid) three ready three_manifests again
+  some = has_some disk.tells gs (loaded disk catalogue ms mid) three load.ready three_manifests again
 
-  reads : IsTrue disk.tells → (before after : Stores) → OpensEither gs (disk.past old) before after → HasLoaded disk gs old catalogue ms mid before after
+  reads : IsTrue disk.tells → (before after : Stores) → OpensEither gs (disk.past old) before after → HasRead disk gs old (loaded disk catalogue ms mid) before after
   reads told before after opens =
       let one = reads_one gs (disk.files old) (disk.past old) before after (left old told) opens in
       record {
         held = one.0;
         either = one.1;
         read = one.2;
-        has = has_read disk.tells gs (loaded disk catalogue ms mid) (disk.files old) (disk.past old) before after one.0 three ready opens one.1 one.2 (λ t. (again t, (keeps t).passes)) (said told);
+        has = has_read disk.tells gs (loaded disk catalogue ms mid) (disk.files old) (disk.past old) before after one.0 three load.ready opens one.1 one.2 (λ t. (again t, (keeps t).passes)) (load.said told);
       }
 
   by : IsTrue disk.tells → IsWholeBy gs (disk.files old) catalogue.rows ms
-  by told = whole_by gs (disk.files old) catalogue.rows ms (said told) ready.of_rows (there told)
+  by told = whole_by gs (disk.files old) catalogue.rows ms (load.said told) load.ready.of_rows (load.there told)
 
-  pub load_whole : IsTrue disk.tells → IsWhole gs (disk.files old)
-  load_whole told = (by told).whole
-
-  pub load_has : (held : Stores) × Has disk.tells (loaded disk catalogue ms new) held
-  load_has = (some.0, has_swept disk catalogue ms mid new removes some.0 some.1)
-
-  pub load_stands : IsTrue disk.tells → (before after : Stores) → OpensEither gs (disk.past old) before after → HasLoaded disk gs old catalogue ms new before after
-  load_stands told before after opens =
-      let r = reads told before after opens in record { held = r.held; either = r.either; read = r.read; has = has_swept disk catalogue ms mid new removes r.held r.has }
+  pub load_opens : IsOpenedAs disk gs old (loaded disk catalogue ms new)
+  load_opens = record {
+    stands = λ told before after opens.
+        let r = reads told before after opens in record { held = r.held; either = r.either; read = r.read; has = has_swept disk catalogue ms mid new removes r.held r.has };
+    has = (some.0, has_swept disk catalogue ms mid new removes some.0 some.1);
+    said = load.said;
+    whole = λ told. (by told).whole;
+    ready = load.ready;
+  }
 
   pub load_sweeps : IsTrue disk.tells → disk.files old adoption_name ≡ None → Sweeps disk gs old new
-  load_sweeps told = opening_sweeps disk gs old mid new catalogue ms three ready.granularity three_manifests told (unopened told) (keeps told) (removes told) some.0 some.1 (by told).whole (by told).of_rows (by told).of_lists (reads told) (left new told)
+  load_sweeps told = opening_sweeps disk gs old mid new catalogue ms three load.ready.granularity three_manifests told (unopened told) (keeps told) (removes told) some.0 some.1 (by told).whole (by told).of_rows (by told).of_lists (reads told) (left new told)
 
   pub load_swept : IsTrue disk.tells → AreGone (Goes catalogue ms) (disk.files mid) (disk.files new) (disk.past new) → IsSwept gs (disk.files old) (disk.files new) (disk.past new)
-  load_swept told gone = opening_swept disk gs old mid new catalogue ms three ready.granularity three_manifests told (unopened told) (keeps told) (removes told) some.0 some.1 (by told).whole (by told).of_rows (by told).of_lists (reads told) (left new told) gone
+  load_swept told gone = opening_swept disk gs old mid new catalogue ms three load.ready.granularity three_manifests told (unopened told) (keeps told) (removes told) some.0 some.1 (by told).whole (by told).of_rows (by told).of_lists (reads told) (left new told) gone

@@ -37,6 +37,7 @@ use Rattle.store_reopen.specs.Verdict.{IsWhole}
 use Rattle.store_reopen.specs.declared.adopted.Adopted.{Adopted}
 use Rattle.store_reopen.specs.declared.adopted.AdoptErr.{AdoptErr}
 use Rattle.store_reopen.specs.declared.adopted.AdoptErr.TheVariants as adopting
+use Rattle.store_reopen.specs.declared.error.ReopenErr.{ReopenErr}
 use Rattle.store_reopen.specs.declared.finding.TakenFile.{TakenFile}
 use Rattle.store_reopen.specs.declared.finding.Unlisted.{Unlisted}
 
@@ -281,6 +282,9 @@ pub record HasAdopted {D R : Type 0} (disk : Ghosts D R) (gs : List Granularity)
   pub adopts : AdoptsFrom true disk gs old store.disk before after
   pub has : Has disk.tells (seen disk store) (made_by adopts.steps adopts.held)
   pub counts : Counts (disk.files old) adopts.held adopts.steps adopts.rule.unlisted told
+
+abbrev pub cause_of : {D R : Type 0} → AdoptErr D R → ReopenErr D R
+cause_of {D} {R} (adopting.Reopen err) = err
 
 abbrev pub adopt_disk_in : {D R : Type 0} → AdoptErr D R → D
 adopt_disk_in {D} {R} (adopting.Reopen err) = disk_in err

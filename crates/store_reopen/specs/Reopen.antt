@@ -1,22 +1,23 @@
 -- Three stores that are opened again.
-use Rattle.std.specs.Prelude.{◌≡◌, ◌≢◌, ◌⊎◌, ◌≤◌, ◌<◌, ◌+◌, ℕ, true, List, [], ◌∷◌, Option, None, Some, Result, Ok, Err, All, slice_get}
+use Rattle.std.specs.Prelude.{◌≡◌, ◌≢◌, ◌⊎◌, ◌≤◌, ◌<◌, ◌+◌, ℕ, IsTrue, true, List, [], ◌∷◌, length, Option, None, Some, Result, Ok, Err, All, slice_get}
 use Rattle.partition_names.specs.declared.granularity.Granularity.{Granularity}
 use Rattle.disk_model.specs.Files.{Name, Files}
 use Rattle.disk_model.specs.Past.{Past, MayLeave, Passes}
 use Rattle.disk_model.specs.declared.disk.Disk.{Ghosts}
 use Rattle.gate_journal.specs.Generations.{IsOwn}
 use Rattle.gate_journal.specs.Kept.{Says}
+use Rattle.gate_journal.specs.DiskShown.{shown_by}
 use Rattle.store_manifest.specs.declared.entry.Entry.{Entry}
 use Rattle.store_manifest.specs.Batches.{Folds}
 use Rattle.store_manifest.specs.Entries.{AreEntries}
-use Rattle.store_manifest.specs.Manifest.{ManifestState, manifest_name}
+use Rattle.store_manifest.specs.Manifest.{IsKept, ManifestState, manifest_name}
 use Rattle.pv_catalog.specs.declared.row.Row.{Row}
-use Rattle.pv_catalog.specs.Catalogue.{CatalogueState, catalogue_name}
+use Rattle.pv_catalog.specs.Catalogue.{CatalogueState, IsStored, catalogue_name}
 use Rattle.pv_catalog.specs.Rows.{AreRows, IsCatalogue}
 use Rattle.durable_write.specs.Held.{AreIn, file_of}
-use Rattle.tier_store.specs.Beginning.{AllNested}
+use Rattle.tier_store.specs.Beginning.{AllNested, AreNested}
 use Rattle.tier_store.specs.Stores.{Stores, list_at, tier, with_list, with_rows}
-use Rattle.tier_store.specs.Seen.{AtEach, Seen, granularities, seen, seen_by}
+use Rattle.tier_store.specs.Seen.{AtEach, Seen, granularities, seen_by}
 use Rattle.tier_store.specs.Stored.{HoldsAll}
 use Rattle.tier_store.specs.Change.{Has, IsEither}
 use Rattle.tier_store.specs.declared.store.TierStore.{TierStore}
@@ -26,7 +27,7 @@ use Rattle.store_reopen.specs.declared.error.ReopenErr.{ReopenErr}
 use Rattle.store_reopen.specs.declared.error.ReopenErr.TheVariants.{DiskFault, Damaged, GranularityDiffers, Memory}
 use Rattle.store_reopen.specs.Leaving.{Leaves}
 use Rattle.store_reopen.specs.Loading.{WhichJournal, KeepsJournal, granularity_at, name_of}
-use Rattle.store_reopen.specs.Verdict.{Listings, HasRow, IsWhole}
+use Rattle.store_reopen.specs.Verdict.{AreSaid, Listings, HasRow, IsThere, IsWhole}
 use Rattle.store_reopen.specs.Strays.{AreGone, IsStray, SweptStores, adoption_name}
 
 -- the granularities of stores 1 to 3
@@ -155,23 +156,16 @@ pub record Sweeps {D R : Type 0} (disk : Ghosts D R) (gs : List Granularity) (ol
 abbrev pub IsSwept : List Granularity → Files → Files → Past → Type 0
 IsSwept gs files later past = AreGone (IsStray gs files) files later past
 
--- the stores have what reads give of the disk, which is the one or the other
-pub record HasRead {D R : Type 0} (disk : Ghosts D R) (gs : List Granularity) (old : D) (store : TierStore D R) (before after : Stores) : Type 0 where
-  pub held : Stores
-  pub either : IsEither before after held
-  pub read : HoldsAll gs (disk.files old) held
-  pub has : Has disk.tells (seen disk store) held
-
 -- what is seen of journals that were loaded of a disk
 abbrev pub loaded : {D R : Type 0} → Ghosts D R → CatalogueState → List ManifestState → D → Seen
 loaded {D} {R} disk catalogue manifests d = seen_by disk catalogue manifests d
 
--- the same of these as of stores
-pub record HasLoaded {D R : Type 0} (disk : Ghosts D R) (gs : List Granularity) (old : D) (catalogue : CatalogueState) (manifests : List ManifestState) (new : D) (before after : Stores) : Type 0 where
+-- what is seen of stores has what reads gave of the disk before, which is the one or the other
+pub record HasRead {D R : Type 0} (disk : Ghosts D R) (gs : List Granularity) (old : D) (now : Seen) (before after : Stores) : Type 0 where
   pub held : Stores
   pub either : IsEither before after held
   pub read : HoldsAll gs (disk.files old) held
-  pub has : Has disk.tells (loaded disk catalogue manifests new) held
+  pub has : Has disk.tells now held
 
 -- the stores may be changed, and what their journals say fits together
 pub record IsReady (gs : List Granularity) (catalogue : CatalogueState) (manifests : List ManifestState) : Type 0 where
@@ -182,3 +176,46 @@ pub record IsReady (gs : List Granularity) (catalogue : CatalogueState) (manifes
   pub rows : AreRows catalogue.rows
   pub entries : AtEach manifests (λ i m. AreEntries m.granularity m.entries)
   pub of_rows : AtEach manifests (λ i m. All (HasRow catalogue.rows) m.entries)
+
+-- THE ANSWERS
+
+-- A disk was opened, and this is seen of the stores then: they hold something, and what their journals say fits together. What reads gave
+-- of a disk that tells its files is held from then on, if each image held that or one thing more; its image is whole, with these rows and lists.
+pub record IsOpenedAs {D R : Type 0} (disk : Ghosts D R) (gs : List Granularity) (old : D) (now : Seen) : Type 0 where
+  pub stands : IsTrue disk.tells → (before after : Stores) → OpensEither gs (disk.past old) before after → HasRead disk gs old now before after
+  pub has : (held : Stores) × Has disk.tells now held
+  pub said : IsTrue disk.tells → AreSaid gs (disk.files old) now.catalogue.rows (lists_of now.manifests)
+  pub whole : IsTrue disk.tells → IsWhole gs (disk.files old)
+  pub ready : IsReady gs now.catalogue now.manifests
+
+-- The catalogue and the manifests of stores 1 to 3 were loaded of a disk, and fit together. Where it tells its files they are stored on
+-- it, its image said the same, and each file that they list was there.
+pub record AreLoaded {D R : Type 0} (disk : Ghosts D R) (gs : List Granularity) (old : D) (catalogue : CatalogueState) (manifests : List ManifestState) (new : D) : Type 0 where
+  pub stored : IsTrue disk.tells → IsStored catalogue (shown_by disk new)
+  pub kept : IsTrue disk.tells → AtEach manifests (λ i m. IsKept m (shown_by disk new))
+  pub said : IsTrue disk.tells → AreSaid gs (disk.files old) catalogue.rows (lists_of manifests)
+  pub there : IsTrue disk.tells → AtEach manifests (λ i m. All (IsThere i (disk.files old) catalogue.rows) m.entries)
+  pub ready : IsReady gs catalogue manifests
+  pub name : catalogue.journal.name ≡ catalogue_name
+  pub names : AtEach manifests (λ i m. m.journal.name ≡ manifest_name (i + 1))
+
+-- The manifests of stores 1 to 3 were loaded of a disk. Where it tells its files they are kept on it, and its image said the same.
+pub record AreManifests {D R : Type 0} (disk : Ghosts D R) (gs : List Granularity) (old : D) (manifests : List ManifestState) (new : D) : Type 0 where
+  pub kept : IsTrue disk.tells → AtEach manifests (λ i m. IsKept m (shown_by disk new))
+  pub said : IsTrue disk.tells → AtEach manifests (λ i m. Says (Folds m.granularity) m.entries (manifest_name (i + 1)) (disk.files old))
+  pub three : length manifests ≡ 3
+  pub names : AtEach manifests (λ i m. m.journal.name ≡ manifest_name (i + 1))
+  pub sound : AtEach manifests (λ i m. m.journal.sound ≡ true)
+  pub granularity : AtEach manifests (λ i m. slice_get gs i ≡ Some m.granularity)
+  pub nested : AllNested gs
+  pub are : AtEach manifests (λ i m. AreEntries m.granularity m.entries)
+
+-- So it is of the one at this place.
+pub record IsManifest {D R : Type 0} (disk : Ghosts D R) (gs : List Granularity) (place : ℕ) (old : D) (manifest : ManifestState) (new : D) : Type 0 where
+  pub kept : IsTrue disk.tells → IsKept manifest (shown_by disk new)
+  pub said : IsTrue disk.tells → Says (Folds manifest.granularity) manifest.entries (manifest_name (place + 1)) (disk.files old)
+  pub name : manifest.journal.name ≡ manifest_name (place + 1)
+  pub sound : manifest.journal.sound ≡ true
+  pub granularity : slice_get gs place ≡ Some manifest.granularity
+  pub nested : (i : ℕ) → i < 2 → i + 1 ≡ place → AreNested i gs
+  pub are : AreEntries manifest.granularity manifest.entries

@@ -1,8 +1,8 @@
 // The adoption of files that no manifest lists.
 ghost use Rattle.std.specs.FinMap as map;
-ghost use Rattle.std.specs.Prelude.{◌≡◌, ◌≤◌, [], ℕ, List, Err, IfErr, IfOk, IsErrOf, IsOk, IsTrue, OnErr, OnOk};
+ghost use Rattle.std.specs.Prelude.{◌≡◌, ◌≤◌, [], List, Err, IfErr, IfOk, IsErrOf, IsOk, IsTrue, OnErr, OnOk};
 ghost use Rattle.std.specs.Prelude.{length};
-ghost use Rattle.disk_model.specs.Files.{Name, Files, Rose};
+ghost use Rattle.disk_model.specs.Files.{Files, Rose};
 ghost use Rattle.disk_model.specs.Past.{Passes};
 ghost use Rattle.disk_model.specs.declared.disk.DiskErr.TheVariants.{Fault};
 ghost use Rattle.partition_names.specs.declared.granularity.Granularity.{Granularity as GranularityValue};
@@ -10,16 +10,15 @@ ghost use Rattle.tier_store.specs.Change.{Has};
 ghost use Rattle.tier_store.specs.Seen.{granularities, seen};
 ghost use Rattle.tier_store.specs.Stores.{Stores};
 ghost use Rattle.store_reopen.specs.Adoption.{Adopts, HasAdopted, IsMarked, NoneFiner, NoneFoundOpened, adopt_disk};
+ghost use Rattle.store_reopen.specs.Adoption.{cause_of};
 ghost use Rattle.store_reopen.specs.Following.{FollowsAll, HasAdoptedOf, LeavesOff, NoneUnlistedOpened};
 ghost use Rattle.store_reopen.specs.Listing.{AreCoarse};
-ghost use Rattle.store_reopen.specs.NotOpened.{IsTold};
+ghost use Rattle.store_reopen.specs.NotOpened.{IsCauseOf, IsTold};
 ghost use Rattle.store_reopen.specs.Reopen.{ChangesJournals, ChangesSite, IsReady, IsUnopened, OpensEither, SameStores};
 ghost use Rattle.store_reopen.specs.Reopen.{loaded, stores_of};
 ghost use Rattle.store_reopen.specs.Strays.{IsGone, adoption_name};
-ghost use Rattle.store_reopen.specs.Verdict.{IsWhole, IsDamaged, Differs};
-ghost use Rattle.store_reopen.specs.declared.adopted.AdoptErr.TheVariants.{Reopen};
+ghost use Rattle.store_reopen.specs.Verdict.{IsWhole};
 ghost use Rattle.store_reopen.specs.declared.error.NotOpened.TheVariants.{Disk as OfDisk};
-ghost use Rattle.store_reopen.specs.declared.error.ReopenErr.TheVariants.{DiskFault, Damaged, GranularityDiffers};
 
 use crate::ReopenErr;
 use crate::adopted::{AdoptErr, Adopted};
@@ -75,13 +74,8 @@ pub fn adopt<D: Disk>(
     ensures settings { IfOk result (λ r. r.0.config ≡ config.now) }
 
     ensures whole { IsTrue D.tells → IsOk result → IsWhole (stores_of config.now) (D.files disk) }
-    ensures damaged { IsTrue D.tells → (d : D) (name : Name) (at : ℕ) → result ≡ Err (Reopen (Damaged d name at))
-        → IsDamaged (stores_of config.now) (D.files disk) name at }
-    ensures differs { IsTrue D.tells → (d : D) (kept asked : GranularityValue)
-        → result ≡ Err (Reopen (GranularityDiffers d kept asked))
-        → Differs (stores_of config.now) (D.files disk) kept asked }
+    ensures told { IfErr result (λ e. IsCauseOf D.Disk (stores_of config.now) disk (cause_of e)) }
     ensures faults { D.faults disk ≤ D.faults (adopt_disk result) }
-    ensures cause { (d : D) → result ≡ Err (Reopen (DiskFault d)) → Rose (D.faults disk) (D.faults d) }
 {
     let mut disk = disk;
     match adopt_files(alloc, &mut disk, config) {

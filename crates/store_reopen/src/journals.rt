@@ -1,6 +1,6 @@
 // The loads of the journals, and where a bad batch stands.
-ghost use Rattle.std.specs.Prelude.{◌≡◌, ◌≤◌, ◌<◌, ◌+◌, ℕ, List, length, take, slice_get, true, Some, IfOk, IfErr};
-ghost use Rattle.std.specs.Prelude.{IsOk, OnOk, IsErrOf, IsTrue, Err};
+ghost use Rattle.std.specs.Prelude.{◌≡◌, ◌≤◌, ◌<◌, ◌+◌, ℕ, List, length, take, true, IfOk, IfErr, OnOk, IsErrOf};
+ghost use Rattle.std.specs.Prelude.{Err, IsTrue};
 ghost use Rattle.disk_model.specs.Files.{Name, Files, Rose};
 ghost use Rattle.disk_model.specs.Past.{Passes};
 ghost use Rattle.disk_model.specs.declared.disk.DiskErr.TheVariants.{Fault};
@@ -12,15 +12,11 @@ ghost use Rattle.partition_names.specs.declared.granularity.Granularity.{Granula
 ghost use Rattle.pv_catalog.specs.declared.row.Row.{Row};
 ghost use Rattle.pv_catalog.specs.Catalogue.{CatalogueState, catalogue_name, IsStored};
 ghost use Rattle.pv_catalog.specs.Rows.{IsCatalogue};
-ghost use Rattle.store_manifest.specs.Batches.{Folds};
-ghost use Rattle.store_manifest.specs.Entries.{AreEntries};
-ghost use Rattle.store_manifest.specs.Manifest.{ManifestState, IsKept, Lists, manifest_name};
-ghost use Rattle.tier_store.specs.Beginning.{AreNested, AllNested};
-ghost use Rattle.tier_store.specs.Seen.{AtEach};
+ghost use Rattle.store_manifest.specs.Manifest.{ManifestState, IsKept, manifest_name};
 ghost use Rattle.store_reopen.specs.OneJournal.{NoneOpened, IsGate};
 ghost use Rattle.store_reopen.specs.Loading.{KeepsSaid};
 ghost use Rattle.store_reopen.specs.NotOpened.{IsTold};
-ghost use Rattle.store_reopen.specs.Reopen.{stores_of};
+ghost use Rattle.store_reopen.specs.Reopen.{AreManifests, IsManifest, stores_of};
 ghost use Rattle.store_reopen.specs.Verdict.{Listings, AreSaidBelow};
 ghost use Rattle.store_reopen.specs.declared.error.NotOpened.TheVariants.{Disk as OfDisk};
 
@@ -70,16 +66,7 @@ pub(crate) fn load_manifests<D: Disk>(
     config: &Config,
 ) -> Result<Vec<Manifest>, NotOpened>
     requires unopened { IsTrue D.tells → (i : ℕ) → i < 3 → NoneOpened (manifest_name (i + 1)) (D.opened disk.old) }
-    ensures kept { IsTrue D.tells → IfOk result (λ ms. AtEach ms.items (λ i m. IsKept m (shown_by D.Disk disk.new))) }
-    ensures said { IsTrue D.tells → IfOk result (λ ms.
-        AtEach ms.items (λ i m. Says (Folds m.granularity) m.entries (manifest_name (i + 1)) (D.files disk.old))) }
-    ensures three { IfOk result (λ ms. length ms.items ≡ 3) }
-    ensures names { IfOk result (λ ms. AtEach ms.items (λ i m. m.journal.name ≡ manifest_name (i + 1))) }
-    ensures sound { IfOk result (λ ms. AtEach ms.items (λ i m. m.journal.sound ≡ true)) }
-    ensures granularity { IfOk result (λ ms.
-        AtEach ms.items (λ i m. slice_get (stores_of config.now) i ≡ Some m.granularity)) }
-    ensures nested { IsOk result → AllNested (stores_of config.now) }
-    ensures are { IfOk result (λ ms. AtEach ms.items (λ i m. AreEntries m.granularity m.entries)) }
+    ensures loaded { IfOk result (λ ms. AreManifests D.Disk (stores_of config.now) disk.old ms.items disk.new) }
     ensures told { IsTrue D.tells → (seen : Files) (rows : List Row) → Says IsCatalogue rows catalogue_name seen
         → ((i : ℕ) (n : Name) → i < 3 → IsOwn (manifest_name (i + 1)) n → D.files disk.old n ≡ seen n)
         → IfErr result (IsTold (stores_of config.now) seen) }
@@ -108,13 +95,7 @@ fn load_manifest<D: Disk>(
 ) -> Result<Manifest, NotOpened>
     requires place { place < 3 }
     requires unopened { IsTrue D.tells → NoneOpened (manifest_name (place + 1)) (D.opened disk.old) }
-    ensures kept { IsTrue D.tells → IfOk result (λ m. IsKept m (shown_by D.Disk disk.new)) }
-    ensures entries { IsTrue D.tells
-        → IfOk result (λ m. Lists m.granularity m.entries (manifest_name (place + 1)) (D.files disk.old)) }
-    ensures are { IfOk result (λ m. AreEntries m.granularity m.entries) }
-    ensures nested { IsOk result → (i : ℕ) → i < 2 → i + 1 ≡ place → AreNested i (stores_of config.now) }
-    ensures manifest { IfOk result (λ m. (m.journal.name ≡ manifest_name (place + 1)) × (m.journal.sound ≡ true)
-        × (slice_get (stores_of config.now) place ≡ Some m.granularity)) }
+    ensures loaded { IfOk result (λ m. IsManifest D.Disk (stores_of config.now) place disk.old m disk.new) }
     ensures told { IsTrue D.tells → (seen : Files) (rows : List Row) (lists : Listings)
         → Says IsCatalogue rows catalogue_name seen
         → AreSaidBelow place (stores_of config.now) seen lists

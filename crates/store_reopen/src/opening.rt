@@ -1,26 +1,20 @@
 // The opening of a disk, from its journals to its listed files.
 ghost use Rattle.std.specs.FinMap as map;
-ghost use Rattle.std.specs.Prelude.{◌≡◌, ◌≢◌, ◌≤◌, ◌<◌, ◌+◌, [], ℕ, List, All, IfOk, IfErr, IsOk, IsSome, IsTrue, None};
-ghost use Rattle.std.specs.Prelude.{OnOk, Err, length, ◌↔◌};
+ghost use Rattle.std.specs.Prelude.{◌≡◌, ◌≤◌, ◌<◌, ◌+◌, [], ℕ, IfOk, IfErr, IsSome, IsTrue, None, OnOk, Err, ◌↔◌};
 ghost use Rattle.disk_model.specs.Files.{Name, Rose};
 ghost use Rattle.disk_model.specs.declared.disk.DiskErr.TheVariants.{Fault};
 ghost use Rattle.gate_journal.specs.DiskShown.{shown_by};
-ghost use Rattle.partition_names.specs.declared.granularity.Granularity.{Granularity as GranularityValue};
-ghost use Rattle.pv_catalog.specs.Catalogue.{catalogue_name, IsStored};
-ghost use Rattle.store_manifest.specs.Manifest.{IsKept, manifest_name};
-ghost use Rattle.tier_store.specs.Stores.{Stores};
-ghost use Rattle.tier_store.specs.Seen.{seen, AtEach};
-ghost use Rattle.tier_store.specs.Change.{Has};
+ghost use Rattle.pv_catalog.specs.Catalogue.{catalogue_name};
+ghost use Rattle.store_manifest.specs.Manifest.{manifest_name};
+ghost use Rattle.tier_store.specs.Seen.{seen};
 ghost use Rattle.tier_store.specs.Pinned.{seen_all};
 ghost use Rattle.store_reopen.specs.OneJournal.{NoneOpened};
-ghost use Rattle.store_reopen.specs.Verdict.{AreSaid, IsThere, IsWhole, IsDamaged, Differs};
-ghost use Rattle.store_reopen.specs.Reopen.{IsUnopened, OpensEither, HasLoaded, HasRead, IsReady, IsSwept, LeavesSite};
-ghost use Rattle.store_reopen.specs.Reopen.{Reopens, Sweeps, loaded, stores_of, lists_of, disk_of};
+ghost use Rattle.store_reopen.specs.Reopen.{AreLoaded, IsOpenedAs, IsSwept, IsUnopened, LeavesSite, Reopens, Sweeps};
+ghost use Rattle.store_reopen.specs.Reopen.{disk_of, loaded, stores_of};
 ghost use Rattle.store_reopen.specs.Loading.{KeepsSaid};
-ghost use Rattle.store_reopen.specs.NotOpened.{IsTold};
+ghost use Rattle.store_reopen.specs.NotOpened.{IsCauseOf, IsTold};
 ghost use Rattle.store_reopen.specs.Strays.{HaveNoStray, IsStrayBelow, adoption_name};
 ghost use Rattle.store_reopen.specs.declared.error.NotOpened.TheVariants.{Disk as OfDisk};
-ghost use Rattle.store_reopen.specs.declared.error.ReopenErr.TheVariants.{DiskFault, Damaged, GranularityDiffers};
 
 use crate::ReopenErr;
 use crate::error::NotOpened;
@@ -57,23 +51,10 @@ pub fn reopen<D: Disk>(
 
     // What reads give is held from then on, if each image holds that or one thing more; and each disk that opens
     // has rows and lists files.
-    ensures stands { IsTrue D.tells → (before after : Stores)
-        → OpensEither (stores_of config.now) (D.past disk) before after
-        → IfOk result (λ s. HasRead D.Disk (stores_of config.now) disk s before after) }
-    ensures has { IfOk result (λ s. (held : Stores) × Has D.tells (seen D.Disk s) held) }
-    ensures said { IsTrue D.tells → IfOk result (λ s. let now = seen D.Disk s in
-        AreSaid (stores_of config.now) (D.files disk) now.catalogue.rows (lists_of now.manifests)) }
-    ensures ready { IfOk result (λ s. let now = seen D.Disk s in
-        IsReady (stores_of config.now) now.catalogue now.manifests) }
+    ensures opened { IfOk result (λ s. IsOpenedAs D.Disk (stores_of config.now) disk (seen D.Disk s)) }
     ensures fresh { IfOk result (λ s. (s.limbo.items ≡ []) × (s.pinned ≡ map.empty)) }
     ensures settings { IfOk result (λ s. s.config ≡ config.now) }
-
-    ensures whole { IsTrue D.tells → IsOk result → IsWhole (stores_of config.now) (D.files disk) }
-    ensures damaged { IsTrue D.tells → (d : D) (name : Name) (at : ℕ) → result ≡ Err (Damaged d name at)
-        → IsDamaged (stores_of config.now) (D.files disk) name at }
-    ensures differs { IsTrue D.tells → (d : D) (kept asked : GranularityValue)
-        → result ≡ Err (GranularityDiffers d kept asked)
-        → Differs (stores_of config.now) (D.files disk) kept asked }
+    ensures told { IfErr result (IsCauseOf D.Disk (stores_of config.now) disk) }
 
     // No stray is left, where no adoption is unfinished. A crash at any moment leaves what the image held, and the disk
     // can be opened again. Of store 0 the file `adopt` stays as it is, and so does every other one that is no
@@ -85,7 +66,6 @@ pub fn reopen<D: Disk>(
     ensures sweeps { IsTrue D.tells → Sweeps D.Disk (stores_of config.now) disk (disk_of result) }
     ensures site { IsTrue D.tells → LeavesSite D.Disk (stores_of config.now) disk (disk_of result) }
     ensures faults { D.faults disk ≤ D.faults (disk_of result) }
-    ensures cause { (d : D) → result ≡ Err (DiskFault d) → Rose (D.faults disk) (D.faults d) }
 {
     let mut disk = disk;
     match open_stores(alloc, &mut disk, config) {
@@ -109,31 +89,17 @@ pub fn open_to_read<D: Disk>(
 ) -> Result<TierStore<D>, ReopenErr<D>>
     requires unopened { IsTrue D.tells → IsUnopened (D.files disk) (D.opened disk) }
 
-    // The first nine clauses and the last three are those of `reopen`.
-    ensures stands { IsTrue D.tells → (before after : Stores)
-        → OpensEither (stores_of config.now) (D.past disk) before after
-        → IfOk result (λ s. HasRead D.Disk (stores_of config.now) disk s before after) }
-    ensures has { IfOk result (λ s. (held : Stores) × Has D.tells (seen D.Disk s) held) }
-    ensures said { IsTrue D.tells → IfOk result (λ s. let now = seen D.Disk s in
-        AreSaid (stores_of config.now) (D.files disk) now.catalogue.rows (lists_of now.manifests)) }
-    ensures ready { IfOk result (λ s. let now = seen D.Disk s in
-        IsReady (stores_of config.now) now.catalogue now.manifests) }
+    // The first four clauses are those of `reopen`.
+    ensures opened { IfOk result (λ s. IsOpenedAs D.Disk (stores_of config.now) disk (seen D.Disk s)) }
     ensures fresh { IfOk result (λ s. (s.limbo.items ≡ []) × (s.pinned ≡ map.empty)) }
     ensures settings { IfOk result (λ s. s.config ≡ config.now) }
-
-    ensures whole { IsTrue D.tells → IsOk result → IsWhole (stores_of config.now) (D.files disk) }
-    ensures damaged { IsTrue D.tells → (d : D) (name : Name) (at : ℕ) → result ≡ Err (Damaged d name at)
-        → IsDamaged (stores_of config.now) (D.files disk) name at }
-    ensures differs { IsTrue D.tells → (d : D) (kept asked : GranularityValue)
-        → result ≡ Err (GranularityDiffers d kept asked)
-        → Differs (stores_of config.now) (D.files disk) kept asked }
+    ensures told { IfErr result (IsCauseOf D.Disk (stores_of config.now) disk) }
 
     // A crash at any moment leaves what the image held, and the disk can be opened again. The file `adopt` and all
     // others of store 0 that are no journals' stay, and journals keep their batches.
     ensures reopens { IsTrue D.tells → Reopens D.Disk (stores_of config.now) disk (disk_of result) }
     ensures site { IsTrue D.tells → LeavesSite D.Disk (stores_of config.now) disk (disk_of result) }
     ensures faults { D.faults disk ≤ D.faults (disk_of result) }
-    ensures cause { (d : D) → result ≡ Err (DiskFault d) → Rose (D.faults disk) (D.faults d) }
 {
     let mut disk = disk;
     match load_stores(alloc, &mut disk, config) {
@@ -156,14 +122,8 @@ fn open_stores<D: Disk>(
     config: &Config,
 ) -> Result<(Catalogue, Vec<Manifest>), NotOpened>
     requires unopened { IsTrue D.tells → IsUnopened (D.files disk.old) (D.opened disk.old) }
-    ensures stands { IsTrue D.tells → (before after : Stores)
-        → OpensEither (stores_of config.now) (D.past disk.old) before after
-        → IfOk result (λ r. HasLoaded D.Disk (stores_of config.now) disk.old r.0 r.1.items disk.new before after) }
-    ensures has { IfOk result (λ r. (held : Stores) × Has D.tells (loaded D.Disk r.0 r.1.items disk.new) held) }
-    ensures said { IsTrue D.tells
-        → IfOk result (λ r. AreSaid (stores_of config.now) (D.files disk.old) r.0.rows (lists_of r.1.items)) }
-    ensures whole { IsTrue D.tells → IsOk result → IsWhole (stores_of config.now) (D.files disk.old) }
-    ensures ready { IfOk result (λ r. IsReady (stores_of config.now) r.0 r.1.items) }
+    ensures opened { IfOk result (λ r.
+        IsOpenedAs D.Disk (stores_of config.now) disk.old (loaded D.Disk r.0 r.1.items disk.new)) }
     ensures told { IsTrue D.tells → IfErr result (IsTold (stores_of config.now) (D.files disk.old)) }
     ensures swept { IsTrue D.tells
         → OnOk result (IsSwept (stores_of config.now) (D.files disk.old) (D.files disk.new) (D.past disk.new)) }
@@ -188,14 +148,8 @@ fn load_and_sweep<D: Disk>(
 ) -> Result<(Catalogue, Vec<Manifest>), NotOpened>
     requires unopened { IsTrue D.tells → IsUnopened (D.files disk.old) (D.opened disk.old) }
     requires says { IsTrue D.tells → IsTrue unfinished ↔ IsSome (D.files disk.old adoption_name) }
-    ensures stands { IsTrue D.tells → (before after : Stores)
-        → OpensEither (stores_of config.now) (D.past disk.old) before after
-        → IfOk result (λ r. HasLoaded D.Disk (stores_of config.now) disk.old r.0 r.1.items disk.new before after) }
-    ensures has { IfOk result (λ r. (held : Stores) × Has D.tells (loaded D.Disk r.0 r.1.items disk.new) held) }
-    ensures said { IsTrue D.tells
-        → IfOk result (λ r. AreSaid (stores_of config.now) (D.files disk.old) r.0.rows (lists_of r.1.items)) }
-    ensures whole { IsTrue D.tells → IsOk result → IsWhole (stores_of config.now) (D.files disk.old) }
-    ensures ready { IfOk result (λ r. IsReady (stores_of config.now) r.0 r.1.items) }
+    ensures opened { IfOk result (λ r.
+        IsOpenedAs D.Disk (stores_of config.now) disk.old (loaded D.Disk r.0 r.1.items disk.new)) }
     ensures told { IsTrue D.tells → IfErr result (IsTold (stores_of config.now) (D.files disk.old)) }
     ensures swept { IsTrue D.tells
         → OnOk result (IsSwept (stores_of config.now) (D.files disk.old) (D.files disk.new) (D.past disk.new)) }
@@ -219,15 +173,7 @@ pub(crate) fn load_stores<D: Disk>(
 ) -> Result<(Catalogue, Vec<Manifest>), NotOpened>
     requires unopened { IsTrue D.tells → NoneOpened catalogue_name (D.opened disk.old)
         × ((i : ℕ) → i < 3 → NoneOpened (manifest_name (i + 1)) (D.opened disk.old)) }
-    ensures stored { IsTrue D.tells → IfOk result (λ r. IsStored r.0 (shown_by D.Disk disk.new)) }
-    ensures kept { IsTrue D.tells → IfOk result (λ r. AtEach r.1.items (λ i m. IsKept m (shown_by D.Disk disk.new))) }
-    ensures said { IsTrue D.tells
-        → IfOk result (λ r. AreSaid (stores_of config.now) (D.files disk.old) r.0.rows (lists_of r.1.items)) }
-    ensures there { IsTrue D.tells
-        → IfOk result (λ r. AtEach r.1.items (λ i m. All (IsThere i (D.files disk.old) r.0.rows) m.entries)) }
-    ensures ready { IfOk result (λ r. IsReady (stores_of config.now) r.0 r.1.items) }
-    ensures name { IfOk result (λ r. r.0.journal.name ≡ catalogue_name) }
-    ensures names { IfOk result (λ r. AtEach r.1.items (λ i m. m.journal.name ≡ manifest_name (i + 1))) }
+    ensures loaded { IfOk result (λ r. AreLoaded D.Disk (stores_of config.now) disk.old r.0 r.1.items disk.new) }
     ensures told { IsTrue D.tells → IfErr result (IsTold (stores_of config.now) (D.files disk.old)) }
     ensures keeps { IsTrue D.tells
         → KeepsSaid (stores_of config.now) (shown_by D.Disk disk.old) (shown_by D.Disk disk.new) }

@@ -19,11 +19,11 @@ abbrev rule_of : List Granularity → ConfigState → Rule
 rule_of gs config = record { granularity = gs; hold = config.hold; gather = config.gather; header = λ line. head_of (info_of line) }
 
 pub of-requires-clause-nested : goal.of-requires-clause-nested
-of-requires-clause-nested c = let ready = c.in-Ok.ensures.ready in subst AllNested (sym ready.granularity) ready.nested
+of-requires-clause-nested c = let ready = c.in-Ok.ensures.opened.ready in subst AllNested (sym ready.granularity) ready.nested
 
 pub returns-in-Ok-of : goal.returns-in-Ok-of
 unfolding head_of
 returns-in-Ok-of c =
-    let has = c.in-Ok.ensures.has in
+    let has = c.in-Ok.ensures.opened.has in
     let archive = c.in-Ok-of.ensures.opened has.0 (rule_of (granularities c.in-Ok.store.manifests.items) c.in-Ok.store.config) has.1 refl (λ message info is. ap head_of is) refl refl in
     (archive.0, archive.3.stands)

@@ -1,5 +1,7 @@
-use Rattle.std.proofs.Common.{refl, sym, ap, subst, Err}
-use Rattle.store_reopen.specs.Adoption.{adopt_disk_in}
+use Rattle.std.proofs.Common.{refl, sym, subst}
+use Rattle.store_reopen.specs.Adoption.{adopt_disk_in, cause_of}
+use Rattle.store_reopen.specs.NotOpened.{IsCauseOf}
+use Rattle.store_reopen.specs.Reopen.{stores_of}
 use Rattle.command_words.specs.declared.command.Command.TheVariants.{OverStore}
 use Rattle.command_words.specs.declared.command.StoreCommand.TheVariants as command
 use Rattle.command_words.specs.declared.status.Status.{Status}
@@ -26,5 +28,5 @@ returns-in-Err-clause-does g c source clock reads =
     let verdict : OneVerdict = record { whole = c.one_verdict.ensures.whole; same = c.one_verdict.ensures.same; undamaged = c.one_verdict.ensures.undamaged } in
     subst (λ d. Does config g.D.Disk.tells (OverStore command.Adopt) old (beside source clock reads g.K.Sink g.D.Disk c.args.sink.now d) c.stopped.result.status) (sym c.stopped.ensures.disk)
     (subst (λ (s : Status). Does config g.D.Disk.tells (OverStore command.Adopt) old (beside source clock reads g.K.Sink g.D.Disk c.args.sink.now (adopt_disk_in err)) s) (sym c.stopped.ensures.status)
-    (stopped_does g.K.Sink g.D.Disk config c.args.disk verdict source clock reads c.args.sink.now err (λ told d name at is. c.in-Err.ensures.damaged told d name at (ap (λ e. Err e) is))
-    (λ told d kept other is. c.in-Err.ensures.differs told d kept other (ap (λ e. Err e) is)) c.in-Err.ensures.adopts (λ told. g.met.D.Disk.seen c.args.disk told)))
+    (stopped_does g.K.Sink g.D.Disk config c.args.disk verdict source clock reads c.args.sink.now err (λ told d name at is. subst (λ x. IsCauseOf g.D.Disk (stores_of config) c.args.disk (cause_of x)) is c.in-Err.ensures.told told)
+    (λ told d kept other is. subst (λ x. IsCauseOf g.D.Disk (stores_of config) c.args.disk (cause_of x)) is c.in-Err.ensures.told told) c.in-Err.ensures.adopts (λ told. g.met.D.Disk.seen c.args.disk told)))

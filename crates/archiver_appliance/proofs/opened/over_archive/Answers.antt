@@ -1,6 +1,7 @@
-use Rattle.std.proofs.Common.{refl, sym, ap, subst, Err}
+use Rattle.std.proofs.Common.{refl, sym, subst}
 use Rattle.std.specs.Prelude.{IsTrue}
 use Rattle.edge_io.specs.Stream.{Rose}
+use Rattle.store_reopen.specs.NotOpened.{IsCauseOf}
 use Rattle.store_reopen.specs.Reopen.{disk_in, stores_of}
 use Rattle.command_words.specs.declared.command.StoreCommand.{StoreCommand}
 use Rattle.command_words.specs.declared.command.StoreCommand.TheVariants as command
@@ -45,8 +46,8 @@ returns-in-Err g c =
     let apart : IsAdopt c.args.command → ⊥ = λ adopts. c.in_default.not-Adopt (is_adopt c.args.command adopts) in
     as_came _ _ _ _ _ _ _ _ _ _ _ _ _ _ _ c.refused.ensures.disk c.refused.ensures.status c.refused.ensures.failed (record {
       does = refused_does g.D.Disk.tells config c.args.command old new verdict err apart refl refl refl (λ told. (g.met.D.Disk g.world.𝓛 g.world.𝓜 g.world.𝓡 ((λ s x. x), (λ x. x), (λ x. x), λ x. x)).seen c.args.disk told) e.opens e.reads
-          (λ told d name at is. e.damaged told d name at (ap (λ x. Err x) is)) (λ told d kept other is. e.differs told d kept other (ap (λ x. Err x) is));
-      caused = refusal_caused g.D.Reader.ReadAt.faults g.D.Disk.faults (g.D.Disk.faults c.args.disk) _ _ err (λ d is. e.cause d (ap (λ x. Err x) is));
+          (λ told d name at is. subst (λ x. IsCauseOf g.D.Disk (stores_of config) c.args.disk x) is e.told told) (λ told d kept other is. subst (λ x. IsCauseOf g.D.Disk (stores_of config) c.args.disk x) is e.told told);
+      caused = refusal_caused g.D.Reader.ReadAt.faults g.D.Disk.faults (g.D.Disk.faults c.args.disk) _ _ err (λ d is. subst (λ x. IsCauseOf g.D.Disk (stores_of config) c.args.disk x) is e.told);
       none_fell = record { source = same_count _; sink = same_count _; disk = no_less _ _ e.faults };
       alone = alone_all g.C.Clock.coming c.args.source.now c.args.sink.now c.args.disk (disk_in err) c.args.clock.now c.args.posts.now c.args.command;
       refused = λ is. (refl, refl, refl);
@@ -63,14 +64,14 @@ returns-in-Ingest g c =
     let old = outside g.S.Source g.K.Sink g.C.Clock g.D.Disk c.args.source.now c.args.sink.now c.args.clock.now c.args.disk in
     let new = outside g.S.Source g.K.Sink g.C.Clock g.D.Disk c.ingest_into.new.source c.args.sink.now c.ingest_into.new.clock c.ingest_into.result.disk in
     as_asked c.in-Ingest.is (record {
-      does = ingest_does g.S.Source g.K.Sink g.C.Clock g.D.Disk config c.args.disk c.in-Ok.store verdict opened.stands opened.said (λ told. opened.whole told refl) opened.opens
+      does = ingest_does g.S.Source g.K.Sink g.C.Clock g.D.Disk config c.args.disk c.in-Ok.store verdict opened.opened opened.opens
           c.args.source.now c.ingest_into.new.source c.args.sink.now c.args.sink.now c.args.clock.now c.ingest_into.new.clock c.ingest_into.result.disk c.ingest_into.result.status
-          refl opened.settings e.ingests e.lists (three_of config c.in-Ok.store.manifests.items opened.ready.granularity) e.opened e.undamaged e.ends;
+          refl opened.settings e.ingests e.lists (three_of config c.in-Ok.store.manifests.items opened.opened.ready.granularity) e.opened e.undamaged e.ends;
       caused = caused_since g.D.Reader.ReadAt.faults (Rose old.read_faults new.read_faults) ⊥ old new (g.D.Disk.faults c.in-Ok.store.disk) c.ingest_into.result.status c.ingest_into.result.failed opened.faults (λ x. x) (λ n. absurd n) e.caused;
       none_fell = record { source = e.read_faults; sink = same_count _; disk = fallen_since (g.D.Disk.faults c.args.disk) (g.D.Disk.faults c.in-Ok.store.disk) _ opened.faults e.disk_faults };
       alone = (refl, refl);
       refused = λ is.
-          let four = refused_none config g.D.Disk.tells (g.D.Disk.files c.args.disk) c.ingest_into.result.status e.opened (λ told. opened.whole told refl) is in
+          let four = refused_none config g.D.Disk.tells (g.D.Disk.files c.args.disk) c.ingest_into.result.status e.opened opened.opened.whole is in
           absurd (subst (λ (s : Status). EndsAs command.Ingest (g.S.Source.left c.args.source.now) s) four e.ends);
       serves = tt;
       unopened = e.unopened;
@@ -86,13 +87,13 @@ returns-in-Get g c =
     let old = outside g.S.Source g.K.Sink g.C.Clock g.D.Disk c.args.source.now c.args.sink.now c.args.clock.now c.args.disk in
     let new = outside g.S.Source g.K.Sink g.C.Clock g.D.Disk c.args.source.now c.get_from.new.sink c.args.clock.now c.get_from.result.disk in
     as_asked c.in-Get.is (record {
-      does = get_does g.S.Source g.K.Sink g.C.Clock g.D.Disk config c.args.disk c.in-Ok.store verdict opened.stands opened.said (λ told. opened.whole told refl) opened.opens
+      does = get_does g.S.Source g.K.Sink g.C.Clock g.D.Disk config c.args.disk c.in-Ok.store verdict opened.opened opened.opens
           c.args.source.now c.args.source.now c.args.sink.now c.get_from.new.sink c.args.clock.now c.args.clock.now c.get_from.result.disk c.get_from.result.status
           c.in-Get.name c.in-Get.query (λ told. opened.reads told (reading told)) e.files e.any_moment refl refl opened.settings e.retrieves e.some e.read e.none (λ is. (e.named is).0) e.damaged e.opened e.ends;
       caused = caused_since g.D.Reader.ReadAt.faults ⊥ (Rose old.write_faults new.write_faults) old new (g.D.Disk.faults c.in-Ok.store.disk) c.get_from.result.status c.get_from.result.failed opened.faults (λ n. absurd n) (λ x. x) e.caused;
       none_fell = record { source = same_count _; sink = e.write_faults; disk = fallen_since (g.D.Disk.faults c.args.disk) (g.D.Disk.faults c.in-Ok.store.disk) _ opened.faults e.disk_faults };
       alone = (refl, refl, refl);
-      refused = λ is. (refl, (e.named (refused_none config g.D.Disk.tells (g.D.Disk.files c.args.disk) c.get_from.result.status e.opened (λ told. opened.whole told refl) is)).1, refl);
+      refused = λ is. (refl, (e.named (refused_none config g.D.Disk.tells (g.D.Disk.files c.args.disk) c.get_from.result.status e.opened opened.opened.whole is)).1, refl);
       serves = tt;
       unopened = e.unopened;
     })
@@ -106,14 +107,14 @@ returns-in-Etl g c =
     let old = outside g.S.Source g.K.Sink g.C.Clock g.D.Disk c.args.source.now c.args.sink.now c.args.clock.now c.args.disk in
     let new = outside g.S.Source g.K.Sink g.C.Clock g.D.Disk c.args.source.now c.move_due.new.sink c.move_due.new.clock c.move_due.result.disk in
     as_asked c.in-Etl.is (record {
-      does = etl_does g.S.Source g.K.Sink g.C.Clock g.D.Disk config c.args.disk c.in-Ok.store verdict opened.stands opened.said (λ told. opened.whole told refl) opened.opens
+      does = etl_does g.S.Source g.K.Sink g.C.Clock g.D.Disk config c.args.disk c.in-Ok.store verdict opened.opened opened.opens
           c.args.source.now c.args.source.now c.args.sink.now c.move_due.new.sink c.args.clock.now c.move_due.new.clock c.move_due.result.disk c.move_due.result.status
           refl opened.settings e.moves (λ told held has stands. never_damaged c.move_due.result.status (e.damaged told held has stands)) e.part e.opened e.ends;
       caused = caused_since g.D.Reader.ReadAt.faults ⊥ (Rose old.write_faults new.write_faults) old new (g.D.Disk.faults c.in-Ok.store.disk) c.move_due.result.status c.move_due.result.failed opened.faults (λ n. absurd n) (λ x. x) e.caused;
       none_fell = record { source = same_count _; sink = e.write_faults; disk = fallen_since (g.D.Disk.faults c.args.disk) (g.D.Disk.faults c.in-Ok.store.disk) _ opened.faults e.disk_faults };
       alone = (refl, refl);
       refused = λ is.
-          let four = refused_none config g.D.Disk.tells (g.D.Disk.files c.args.disk) c.move_due.result.status e.opened (λ told. opened.whole told refl) is in
+          let four = refused_none config g.D.Disk.tells (g.D.Disk.files c.args.disk) c.move_due.result.status e.opened opened.opened.whole is in
           absurd (subst (λ (s : Status). EndsAs command.Etl (g.S.Source.left c.args.source.now) s) four (e.ends (g.S.Source.left c.args.source.now)));
       serves = tt;
       unopened = e.unopened;
@@ -129,14 +130,14 @@ returns-in-Status g c =
     let old = outside g.S.Source g.K.Sink g.C.Clock g.D.Disk c.args.source.now c.args.sink.now c.args.clock.now c.args.disk in
     let new = outside g.S.Source g.K.Sink g.C.Clock g.D.Disk c.args.source.now c.tell_rows.new.sink c.args.clock.now c.tell_rows.result.disk in
     as_asked c.in-Status.is (record {
-      does = status_does g.S.Source g.K.Sink g.C.Clock g.D.Disk config c.args.disk c.in-Ok.store verdict opened.stands opened.said (λ told. opened.whole told refl) opened.opens
+      does = status_does g.S.Source g.K.Sink g.C.Clock g.D.Disk config c.args.disk c.in-Ok.store verdict opened.opened opened.opens
           c.args.source.now c.args.source.now c.args.sink.now c.tell_rows.new.sink c.args.clock.now c.args.clock.now c.tell_rows.result.disk c.tell_rows.result.status
           (λ told. opened.reads told (reading told)) e.files e.any_moment e.ends e.held e.listed;
       caused = caused_since g.D.Reader.ReadAt.faults ⊥ (Rose old.write_faults new.write_faults) old new (g.D.Disk.faults c.in-Ok.store.disk) c.tell_rows.result.status c.tell_rows.result.failed opened.faults (λ n. absurd n) (λ x. x) e.caused;
       none_fell = record { source = same_count _; sink = e.write_faults; disk = no_less _ _ (at_most _ _ _ opened.faults e.disk_faults) };
       alone = (refl, refl, refl);
       refused = λ is.
-          let four = refused_none config g.D.Disk.tells (g.D.Disk.files c.args.disk) c.tell_rows.result.status (rows_opened _ _ _ _ _ _ c.tell_rows.result.status e.listed) (λ told. opened.whole told refl) is in
+          let four = refused_none config g.D.Disk.tells (g.D.Disk.files c.args.disk) c.tell_rows.result.status (rows_opened _ _ _ _ _ _ c.tell_rows.result.status e.listed) opened.opened.whole is in
           absurd (subst (λ (s : Status). EndsAs command.Status (g.S.Source.left c.args.source.now) s) four (e.ends (g.S.Source.left c.args.source.now)));
       serves = tt;
       unopened = e.unopened;
@@ -152,14 +153,14 @@ returns-in-Check g c =
     let old = outside g.S.Source g.K.Sink g.C.Clock g.D.Disk c.args.source.now c.args.sink.now c.args.clock.now c.args.disk in
     let new = outside g.S.Source g.K.Sink g.C.Clock g.D.Disk c.args.source.now c.tell_files.new.sink c.args.clock.now c.tell_files.result.disk in
     as_asked c.in-Check.is (record {
-      does = check_does g.S.Source g.K.Sink g.C.Clock g.D.Disk config c.args.disk c.in-Ok.store verdict opened.stands opened.said (λ told. opened.whole told refl) opened.opens
+      does = check_does g.S.Source g.K.Sink g.C.Clock g.D.Disk config c.args.disk c.in-Ok.store verdict opened.opened opened.opens
           c.args.source.now c.args.source.now c.args.sink.now c.tell_files.new.sink c.args.clock.now c.args.clock.now c.tell_files.result.disk c.tell_files.result.status
           (λ told. opened.reads told (reading told)) e.files e.any_moment e.ends e.held e.checks;
       caused = caused_since g.D.Reader.ReadAt.faults ⊥ (Rose old.write_faults new.write_faults) old new (g.D.Disk.faults c.in-Ok.store.disk) c.tell_files.result.status c.tell_files.result.failed opened.faults (λ n. absurd n) (λ x. x) e.caused;
       none_fell = record { source = same_count _; sink = e.write_faults; disk = no_less _ _ (at_most _ _ _ opened.faults e.disk_faults) };
       alone = (refl, refl, refl);
       refused = λ is.
-          let four = refused_none config g.D.Disk.tells (g.D.Disk.files c.args.disk) c.tell_files.result.status e.opened (λ told. opened.whole told refl) is in
+          let four = refused_none config g.D.Disk.tells (g.D.Disk.files c.args.disk) c.tell_files.result.status e.opened opened.opened.whole is in
           absurd (subst (λ (s : Status). EndsAs command.Check (g.S.Source.left c.args.source.now) s) four (e.ends (g.S.Source.left c.args.source.now)));
       serves = tt;
       unopened = e.unopened;
@@ -174,16 +175,16 @@ returns-in-Serve g c =
     let old = outside g.S.Source g.K.Sink g.C.Clock g.D.Disk c.args.source.now c.args.sink.now c.args.clock.now c.args.disk in
     let new = outside g.S.Source g.K.Sink g.C.Clock g.D.Disk c.args.source.now c.args.sink.now c.serve_posts.new.clock c.serve_posts.result.disk in
     as_asked c.in-Serve.is (record {
-      does = serve_does g.S.Source g.K.Sink g.C.Clock g.D.Disk config c.args.disk c.in-Ok.store verdict opened.stands (λ told. opened.whole told refl) opened.opens
+      does = serve_does g.S.Source g.K.Sink g.C.Clock g.D.Disk config c.args.disk c.in-Ok.store verdict opened.opened opened.opens
           c.args.source.now c.args.sink.now c.args.clock.now c.serve_posts.new.clock c.serve_posts.result.disk c.serve_posts.result.status _ _ _ _ _ _ _ _
           c.in-Serve.field-0 e.serves e.opened e.undamaged (e.ends c.in-Serve.field-0);
       caused = caused_since g.D.Reader.ReadAt.faults ⊥ ⊥ old new (g.D.Disk.faults c.in-Ok.store.disk) c.serve_posts.result.status c.serve_posts.result.failed opened.faults (λ n. absurd n) (λ n. absurd n) e.caused;
       none_fell = record { source = same_count _; sink = same_count _; disk = fallen_since (g.D.Disk.faults c.args.disk) (g.D.Disk.faults c.in-Ok.store.disk) _ opened.faults e.disk_faults };
       alone = (refl, refl, e.clock);
       refused = λ is.
-          let four = refused_none config g.D.Disk.tells (g.D.Disk.files c.args.disk) c.serve_posts.result.status e.opened (λ told. opened.whole told refl) is in
+          let four = refused_none config g.D.Disk.tells (g.D.Disk.files c.args.disk) c.serve_posts.result.status e.opened opened.opened.whole is in
           absurd (subst (λ (s : Status). EndsAs (command.Serve c.in-Serve.field-0) (g.S.Source.left c.args.source.now) s) four (e.ends c.in-Serve.field-0 (g.S.Source.left c.args.source.now)));
-      serves = serve_makes g.S.Source g.K.Sink g.C.Clock g.D.Disk config c.args.disk c.in-Ok.store verdict opened.stands (λ told. opened.whole told refl) opened.opens
+      serves = serve_makes g.S.Source g.K.Sink g.C.Clock g.D.Disk config c.args.disk c.in-Ok.store verdict opened.opened opened.opens
           c.args.source.now c.args.sink.now c.args.clock.now c.serve_posts.new.clock c.serve_posts.result.disk c.serve_posts.result.status _ _ _ _ _ _ _ _ opened.settings e.serves;
       unopened = e.unopened;
     })

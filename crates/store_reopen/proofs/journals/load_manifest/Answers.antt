@@ -96,14 +96,19 @@ returns-clause-told g c tells seen rows lists says earlier same =
       other = λ is. d.1 (is ∙ d.0);
     }
 
-pub returns-in-Ok-clause-entries : goal.returns-in-Ok-clause-entries
-returns-in-Ok-clause-entries g c tells = subst (λ (h : Granularity). Lists h c.in-Ok.manifest.entries (manifest_name (c.args.place + 1)) (g.D.Disk.files c.args.disk.now)) (sym c.in-Ok.ensures.manifest.1) (c.in-Ok.ensures.entries tells)
-
-pub returns-in-Ok-clause-are : goal.returns-in-Ok-clause-are
-returns-in-Ok-clause-are g c = subst (λ (h : Granularity). AreEntries h c.in-Ok.manifest.entries) (sym c.in-Ok.ensures.manifest.1) c.in-Ok.ensures.are
-
-pub returns-in-Ok-clause-manifest : goal.returns-in-Ok-clause-manifest
-returns-in-Ok-clause-manifest g c = (c.in-Ok.ensures.manifest.0, c.in-Ok.ensures.manifest.2, (here_at c.args.config.now c.args.place (c.args.place + 1 - 1) c.granularity.result c.requires.place (omega arith) c.granularity.ensures.value) ∙ ap (λ (h : Granularity). Some h) (sym c.in-Ok.ensures.manifest.1))
+pub returns-in-Ok-clause-loaded : goal.returns-in-Ok-clause-loaded
+returns-in-Ok-clause-loaded g c =
+    let e = c.in-Ok.ensures in
+    let here = here_at c.args.config.now c.args.place (c.args.place + 1 - 1) c.granularity.result c.requires.place (omega arith) c.granularity.ensures.value in
+    record {
+      kept = e.kept;
+      said = λ tells. subst (λ (h : Granularity). Lists h c.in-Ok.manifest.entries (manifest_name (c.args.place + 1)) (g.D.Disk.files c.args.disk.now)) (sym e.manifest.1) (e.entries tells);
+      name = e.manifest.0;
+      sound = e.manifest.2;
+      granularity = here ∙ ap (λ (h : Granularity). Some h) (sym e.manifest.1);
+      nested = λ i few next. nested_next c.args.config.now i (c.args.place + 1 - 1) c.granularity.result c.granularity.ensures.good c.granularity.ensures.value few (next ∙ omega arith);
+      are = subst (λ (h : Granularity). AreEntries h c.in-Ok.manifest.entries) (sym e.manifest.1) e.are;
+    }
 
 pub returns-in-Ok-clause-catalogue : goal.returns-in-Ok-clause-catalogue
 returns-in-Ok-clause-catalogue g c tells catalogue named stored =
@@ -114,6 +119,3 @@ pub returns-in-Ok-clause-earlier : goal.returns-in-Ok-clause-earlier
 returns-in-Ok-clause-earlier g c tells i m low named kept =
     manifest_stays (c.args.place + 1) (StaysOrBegins c.granularity.result (manifest_name (c.args.place + 1))) (i + 1) m (shown_by g.D.Disk c.args.disk.now) (shown_by g.D.Disk c.load.new.disk)
     named (λ is. absurd (omega (arith, is, low))) kept (c.load.ensures.reads tells).elsewhere (c.load.ensures.any_moment tells) (c.load.ensures.opened tells)
-
-pub returns-in-Ok-clause-nested : goal.returns-in-Ok-clause-nested
-returns-in-Ok-clause-nested g c ok i few next = nested_next c.args.config.now i (c.args.place + 1 - 1) c.granularity.result c.granularity.ensures.good c.granularity.ensures.value few (next ∙ omega arith)

@@ -47,21 +47,22 @@ loop-place-preserved g c =
     let place = c.loop-place.place in
     let was = c.loop-place.invariant in
     let says = c.in_ok-manifest.ensures in
+    let own = says.loaded in
     let is = c.in_ok-push.ensures.items in
     let disk = c.load_manifest.new.disk in
     record {
       few = omega (arith, c.loop-place-test.true);
       count = ap length is ∙ length-append ms (m ∷ []) ∙ omega (arith, was.count);
       kept = λ tells. one_more (λ i k. IsKept k (shown_by g.D.Disk disk)) ms made m place is was.count
-          (λ i k here. let low = slice_get_within ms i k here in says.earlier tells i k (omega (arith, low, was.count)) (was.names i k here) (was.kept tells i k here)) (says.kept tells);
+          (λ i k here. let low = slice_get_within ms i k here in says.earlier tells i k (omega (arith, low, was.count)) (was.names i k here) (was.kept tells i k here)) (own.kept tells);
       said = λ tells. one_more (λ i k. Says (Folds k.granularity) k.entries (manifest_name (i + 1)) (g.D.Disk.files c.args.disk.now)) ms made m place is was.count (was.said tells)
-          (says_stays (Folds m.granularity) m.entries (manifest_name (place + 1)) (g.D.Disk.files c.loop-place.disk) (g.D.Disk.files c.args.disk.now) (λ n own. sym (was.rest tells place n (omega arith) c.loop-place-test.true own)) (says.entries tells));
-      names = one_more (λ i k. k.journal.name ≡ manifest_name (i + 1)) ms made m place is was.count was.names says.manifest.0;
-      sound = one_more (λ i k. k.journal.sound ≡ true) ms made m place is was.count was.sound says.manifest.1;
-      granularity = one_more (λ i k. slice_get (stores_of c.args.config.now) i ≡ Some k.granularity) ms made m place is was.count was.granularity says.manifest.2;
-      nested = λ i few low. one_further i place (λ earlier. was.nested i few earlier) (λ last. says.nested refl i few last) low;
-      are = one_more (λ i k. AreEntries k.granularity k.entries) ms made m place is was.count was.are says.are;
-      rest = λ tells i n from low own. says.others tells n (λ too. manifests_differ (i + 1) (place + 1) (λ same. omega (arith, same, from)) n own too) ∙ was.rest tells i n (omega (arith, from)) low own;
+          (says_stays (Folds m.granularity) m.entries (manifest_name (place + 1)) (g.D.Disk.files c.loop-place.disk) (g.D.Disk.files c.args.disk.now) (λ n its. sym (was.rest tells place n (omega arith) c.loop-place-test.true its)) (own.said tells));
+      names = one_more (λ i k. k.journal.name ≡ manifest_name (i + 1)) ms made m place is was.count was.names own.name;
+      sound = one_more (λ i k. k.journal.sound ≡ true) ms made m place is was.count was.sound own.sound;
+      granularity = one_more (λ i k. slice_get (stores_of c.args.config.now) i ≡ Some k.granularity) ms made m place is was.count was.granularity own.granularity;
+      nested = λ i few low. one_further i place (λ earlier. was.nested i few earlier) (λ last. own.nested i few last) low;
+      are = one_more (λ i k. AreEntries k.granularity k.entries) ms made m place is was.count was.are own.are;
+      rest = λ tells i n from low its. says.others tells n (λ too. manifests_differ (i + 1) (place + 1) (λ same. omega (arith, same, from)) n its too) ∙ was.rest tells i n (omega (arith, from)) low its;
       catalogue = λ tells s named stored. says.catalogue tells s named (was.catalogue tells s named stored);
       keeps = λ tells. kept_then (stores_of c.args.config.now) _ _ _ (was.keeps tells) (says.keeps tells);
       faults = omega (arith, was.faults, says.faults);
@@ -81,5 +82,16 @@ returns-in_err-manifest-clause-keeps g c tells = kept_then (stores_of c.args.con
 pub returns-in_err-push-clause-keeps : goal.returns-in_err-push-clause-keeps
 returns-in_err-push-clause-keeps g c tells = kept_then (stores_of c.args.config.now) _ _ _ (c.loop-place.invariant.keeps tells) (c.load_manifest.ensures.keeps tells)
 
-pub returns-clause-nested : goal.returns-clause-nested
-returns-clause-nested g c ok i low = (c.loop-place.invariant.nested i low (omega (arith, low, c.loop-place-test.false)))
+pub returns-clause-loaded : goal.returns-clause-loaded
+returns-clause-loaded g c =
+    let was = c.loop-place.invariant in
+    record {
+      kept = was.kept;
+      said = was.said;
+      three = omega (arith, was.count, was.few, c.loop-place-test.false);
+      names = was.names;
+      sound = was.sound;
+      granularity = was.granularity;
+      nested = λ i low. was.nested i low (omega (arith, low, c.loop-place-test.false));
+      are = was.are;
+    }

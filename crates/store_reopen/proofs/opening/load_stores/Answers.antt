@@ -27,11 +27,11 @@ pub load_manifests-requires : goal.load_manifests-requires
 load_manifests-requires g c = record { unopened = λ tells i low. (c.load_catalogue.ensures.keeps tells (stores_of c.args.config.now)).none_opened (Manifest i) ((c.requires.unopened tells).1 i low) }
 
 pub check_rows-requires : goal.check_rows-requires
-check_rows-requires g c = record { three = ap length c.deref.ensures.value ∙ c.in_ok-manifests.ensures.three }
+check_rows-requires g c = record { three = ap length c.deref.ensures.value ∙ c.in_ok-manifests.ensures.loaded.three }
 
 pub check_files-requires : goal.check_files-requires
 check_files-requires g c = record {
-  three = ap length c.deref-2.ensures.value ∙ c.in_ok-manifests.ensures.three;
+  three = ap length c.deref-2.ensures.value ∙ c.in_ok-manifests.ensures.loaded.three;
   of_rows = λ i m here. c.in_ok-check_rows.ensures.of_rows i m (ap (λ (l : List ManifestState). slice_get l i) (c.deref.ensures.value ∙ sym c.deref-2.ensures.value) ∙ here);
 }
 
@@ -54,7 +54,7 @@ returns-in_err-manifests-clause-keeps g c tells = (kept_then (stores_of c.args.c
 pub returns-in_err-check_rows-clause-told : goal.returns-in_err-check_rows-clause-told
 returns-in_err-check_rows-clause-told g c tells =
     let p = err_from_is_err_and c.from_residual-in_err-check_rows.result c.from_residual-in_err-check_rows.ensures.1 in
-    rw (p.1, p.2) (c.in_err-check_rows.ensures.told (stores_of c.args.config.now) (g.D.Disk.files c.args.disk.now) refl (said_as (stores_of c.args.config.now) (g.D.Disk.files c.args.disk.now) c.in_ok-catalogue.catalogue.rows c.rows-rows.result.now c.in_ok-manifests.manifests.items c.deref.result.now c.rows-rows.ensures.value c.deref.ensures.value (are_said (stores_of c.args.config.now) (g.D.Disk.files c.load_catalogue.new.disk) (g.D.Disk.files c.args.disk.now) c.in_ok-catalogue.catalogue.rows c.in_ok-manifests.manifests.items refl c.in_ok-manifests.ensures.three (c.in_ok-catalogue.ensures.rows tells) (c.in_ok-manifests.ensures.said tells) c.in_ok-manifests.ensures.granularity (λ i n low own. c.load_catalogue.ensures.others tells n (λ too. other_journal (i + 1) n too own)))))
+    rw (p.1, p.2) (c.in_err-check_rows.ensures.told (stores_of c.args.config.now) (g.D.Disk.files c.args.disk.now) refl (said_as (stores_of c.args.config.now) (g.D.Disk.files c.args.disk.now) c.in_ok-catalogue.catalogue.rows c.rows-rows.result.now c.in_ok-manifests.manifests.items c.deref.result.now c.rows-rows.ensures.value c.deref.ensures.value (are_said (stores_of c.args.config.now) (g.D.Disk.files c.load_catalogue.new.disk) (g.D.Disk.files c.args.disk.now) c.in_ok-catalogue.catalogue.rows c.in_ok-manifests.manifests.items refl c.in_ok-manifests.ensures.loaded.three (c.in_ok-catalogue.ensures.rows tells) (c.in_ok-manifests.ensures.loaded.said tells) c.in_ok-manifests.ensures.loaded.granularity (λ i n low own. c.load_catalogue.ensures.others tells n (λ too. other_journal (i + 1) n too own)))))
 
 pub returns-in_err-check_rows-clause-keeps : goal.returns-in_err-check_rows-clause-keeps
 returns-in_err-check_rows-clause-keeps g c tells = (kept_then (stores_of c.args.config.now) (shown_by g.D.Disk c.args.disk.now) (shown_by g.D.Disk c.load_catalogue.new.disk) (shown_by g.D.Disk c.load_manifests.new.disk) (c.load_catalogue.ensures.keeps tells (stores_of c.args.config.now)) (c.load_manifests.ensures.keeps tells))
@@ -62,38 +62,43 @@ returns-in_err-check_rows-clause-keeps g c tells = (kept_then (stores_of c.args.
 pub returns-in_err-check_files-clause-told : goal.returns-in_err-check_files-clause-told
 returns-in_err-check_files-clause-told g c tells =
     let p = err_from_is_err_and c.from_residual-in_err-check_files.result c.from_residual-in_err-check_files.ensures.1 in
-    rw (p.1, p.2) (c.in_err-check_files.ensures.told tells (stores_of c.args.config.now) (g.D.Disk.files c.args.disk.now) refl (said_as (stores_of c.args.config.now) (g.D.Disk.files c.args.disk.now) c.in_ok-catalogue.catalogue.rows c.rows-rows.result.now c.in_ok-manifests.manifests.items c.deref-2.result.now c.rows-rows.ensures.value c.deref-2.ensures.value (are_said (stores_of c.args.config.now) (g.D.Disk.files c.load_catalogue.new.disk) (g.D.Disk.files c.args.disk.now) c.in_ok-catalogue.catalogue.rows c.in_ok-manifests.manifests.items refl c.in_ok-manifests.ensures.three (c.in_ok-catalogue.ensures.rows tells) (c.in_ok-manifests.ensures.said tells) c.in_ok-manifests.ensures.granularity (λ i n low own. c.load_catalogue.ensures.others tells n (λ too. other_journal (i + 1) n too own)))) (λ n other. (c.load_manifests.ensures.keeps tells).now.elsewhere n other ∙ (c.load_catalogue.ensures.keeps tells (stores_of c.args.config.now)).now.elsewhere n other))
+    rw (p.1, p.2) (c.in_err-check_files.ensures.told tells (stores_of c.args.config.now) (g.D.Disk.files c.args.disk.now) refl (said_as (stores_of c.args.config.now) (g.D.Disk.files c.args.disk.now) c.in_ok-catalogue.catalogue.rows c.rows-rows.result.now c.in_ok-manifests.manifests.items c.deref-2.result.now c.rows-rows.ensures.value c.deref-2.ensures.value (are_said (stores_of c.args.config.now) (g.D.Disk.files c.load_catalogue.new.disk) (g.D.Disk.files c.args.disk.now) c.in_ok-catalogue.catalogue.rows c.in_ok-manifests.manifests.items refl c.in_ok-manifests.ensures.loaded.three (c.in_ok-catalogue.ensures.rows tells) (c.in_ok-manifests.ensures.loaded.said tells) c.in_ok-manifests.ensures.loaded.granularity (λ i n low own. c.load_catalogue.ensures.others tells n (λ too. other_journal (i + 1) n too own)))) (λ n other. (c.load_manifests.ensures.keeps tells).now.elsewhere n other ∙ (c.load_catalogue.ensures.keeps tells (stores_of c.args.config.now)).now.elsewhere n other))
 
 pub returns-in_err-check_files-clause-keeps : goal.returns-in_err-check_files-clause-keeps
 returns-in_err-check_files-clause-keeps g c tells = (kept_then (stores_of c.args.config.now) (shown_by g.D.Disk c.args.disk.now) (shown_by g.D.Disk c.load_manifests.new.disk) (shown_by g.D.Disk c.check_files.new.disk) (kept_then (stores_of c.args.config.now) (shown_by g.D.Disk c.args.disk.now) (shown_by g.D.Disk c.load_catalogue.new.disk) (shown_by g.D.Disk c.load_manifests.new.disk) (c.load_catalogue.ensures.keeps tells (stores_of c.args.config.now)) (c.load_manifests.ensures.keeps tells)) (kept_reading (stores_of c.args.config.now) (shown_by g.D.Disk c.load_manifests.new.disk) (shown_by g.D.Disk c.check_files.new.disk) (c.check_files.ensures.same tells) (c.check_files.ensures.any_moment tells) (c.check_files.ensures.opened tells)))
 
-pub returns-clause-stored : goal.returns-clause-stored
-returns-clause-stored g c tells =
-    let one = c.in_ok-manifests.ensures.catalogue tells c.in_ok-catalogue.catalogue c.in_ok-catalogue.ensures.journal.0 (c.in_ok-catalogue.ensures.stored tells) in
-    kept_reads IsCatalogue c.in_ok-catalogue.catalogue.journal (shown_by g.D.Disk c.load_manifests.new.disk) (shown_by g.D.Disk c.check_files.new.disk) c.in_ok-catalogue.catalogue.rows one (c.check_files.ensures.same tells) (c.check_files.ensures.any_moment tells) (c.check_files.ensures.opened tells)
-
-pub returns-clause-kept : goal.returns-clause-kept
-returns-clause-kept g c tells i m here = kept_reads (Configured m.granularity) m.journal (shown_by g.D.Disk c.load_manifests.new.disk) (shown_by g.D.Disk c.check_files.new.disk) m.entries (c.in_ok-manifests.ensures.kept tells i m here) (c.check_files.ensures.same tells) (c.check_files.ensures.any_moment tells) (c.check_files.ensures.opened tells)
-
-pub returns-clause-said : goal.returns-clause-said
-returns-clause-said g c tells = (are_said (stores_of c.args.config.now) (g.D.Disk.files c.load_catalogue.new.disk) (g.D.Disk.files c.args.disk.now) c.in_ok-catalogue.catalogue.rows c.in_ok-manifests.manifests.items refl c.in_ok-manifests.ensures.three (c.in_ok-catalogue.ensures.rows tells) (c.in_ok-manifests.ensures.said tells) c.in_ok-manifests.ensures.granularity (λ i n low own. c.load_catalogue.ensures.others tells n (λ too. other_journal (i + 1) n too own)))
-
-pub returns-clause-there : goal.returns-clause-there
-returns-clause-there g c tells i m here =
-    let passed = ap (λ (l : List ManifestState). slice_get l i) c.deref-2.ensures.value ∙ here in
-    let there = subst (λ (r : List Row). All (IsThere i (g.D.Disk.files c.load_manifests.new.disk) r) m.entries) c.rows-rows.ensures.value (c.in_ok-check_files.ensures.there tells i m passed) in
-    all_there_in i (g.D.Disk.files c.load_manifests.new.disk) (g.D.Disk.files c.args.disk.now) c.in_ok-catalogue.catalogue.rows m.entries (λ n other. (c.load_manifests.ensures.keeps tells).now.elsewhere n other ∙ (c.load_catalogue.ensures.keeps tells (stores_of c.args.config.now)).now.elsewhere n other) there
-
-pub returns-clause-ready : goal.returns-clause-ready
-returns-clause-ready g c = record {
-  sound = c.in_ok-catalogue.ensures.journal.1;
-  sound_lists = c.in_ok-manifests.ensures.sound;
-  granularity = same_granularities (stores_of c.args.config.now) c.in_ok-manifests.manifests.items c.in_ok-manifests.ensures.three c.in_ok-manifests.ensures.granularity;
-  nested = c.in_ok-manifests.ensures.nested refl;
-  rows = c.rows-rows.ensures.are;
-  entries = c.in_ok-manifests.ensures.are;
-  of_rows = λ i m here. subst (λ (r : List Row). All (HasRow r) m.entries) c.rows-rows.ensures.value (c.in_ok-check_rows.ensures.of_rows i m (ap (λ (l : List ManifestState). slice_get l i) c.deref.ensures.value ∙ here));
-}
+pub returns-clause-loaded : goal.returns-clause-loaded
+returns-clause-loaded g c =
+    let gs = stores_of c.args.config.now in
+    let cat = c.in_ok-catalogue.ensures in
+    let lists = c.in_ok-manifests.ensures.loaded in
+    let mid = shown_by g.D.Disk c.load_manifests.new.disk in
+    let new = shown_by g.D.Disk c.check_files.new.disk in
+    let seen = g.D.Disk.files c.args.disk.now in
+    let rows = c.in_ok-catalogue.catalogue.rows in
+    let read = c.check_files.ensures in
+    record {
+      stored = λ tells.
+          let one = c.in_ok-manifests.ensures.catalogue tells c.in_ok-catalogue.catalogue cat.journal.0 (cat.stored tells) in
+          kept_reads IsCatalogue c.in_ok-catalogue.catalogue.journal mid new rows one (read.same tells) (read.any_moment tells) (read.opened tells);
+      kept = λ tells i m here. kept_reads (Configured m.granularity) m.journal mid new m.entries (lists.kept tells i m here) (read.same tells) (read.any_moment tells) (read.opened tells);
+      said = λ tells. are_said gs (g.D.Disk.files c.load_catalogue.new.disk) seen rows c.in_ok-manifests.manifests.items refl lists.three (cat.rows tells) (lists.said tells) lists.granularity (λ i n low own. c.load_catalogue.ensures.others tells n (λ too. other_journal (i + 1) n too own));
+      there = λ tells i m here.
+          let passed = ap (λ (l : List ManifestState). slice_get l i) c.deref-2.ensures.value ∙ here in
+          let there = subst (λ (r : List Row). All (IsThere i (g.D.Disk.files c.load_manifests.new.disk) r) m.entries) c.rows-rows.ensures.value (c.in_ok-check_files.ensures.there tells i m passed) in
+          all_there_in i (g.D.Disk.files c.load_manifests.new.disk) seen rows m.entries (λ n other. (c.load_manifests.ensures.keeps tells).now.elsewhere n other ∙ (c.load_catalogue.ensures.keeps tells gs).now.elsewhere n other) there;
+      ready = record {
+        sound = cat.journal.1;
+        sound_lists = lists.sound;
+        granularity = same_granularities gs c.in_ok-manifests.manifests.items lists.three lists.granularity;
+        nested = lists.nested;
+        rows = c.rows-rows.ensures.are;
+        entries = lists.are;
+        of_rows = λ i m here. subst (λ (r : List Row). All (HasRow r) m.entries) c.rows-rows.ensures.value (c.in_ok-check_rows.ensures.of_rows i m (ap (λ (l : List ManifestState). slice_get l i) c.deref.ensures.value ∙ here));
+      };
+      name = cat.journal.0;
+      names = lists.names;
+    }
 
 pub returns-clause-keeps : goal.returns-clause-keeps
 returns-clause-keeps g c tells = (kept_then (stores_of c.args.config.now) (shown_by g.D.Disk c.args.disk.now) (shown_by g.D.Disk c.load_manifests.new.disk) (shown_by g.D.Disk c.check_files.new.disk) (kept_then (stores_of c.args.config.now) (shown_by g.D.Disk c.args.disk.now) (shown_by g.D.Disk c.load_catalogue.new.disk) (shown_by g.D.Disk c.load_manifests.new.disk) (c.load_catalogue.ensures.keeps tells (stores_of c.args.config.now)) (c.load_manifests.ensures.keeps tells)) (kept_reading (stores_of c.args.config.now) (shown_by g.D.Disk c.load_manifests.new.disk) (shown_by g.D.Disk c.check_files.new.disk) (c.check_files.ensures.same tells) (c.check_files.ensures.any_moment tells) (c.check_files.ensures.opened tells)))

@@ -3,11 +3,10 @@ use Rattle.std.proofs.lemmas.Result.{IfErr-weaker, IfOk-weaker}
 use Rattle.std.specs.Prelude.{IsSome, IsTrue, OnOk, ◌↔◌}
 use Rattle.disk_model.specs.Files.{Files}
 use Rattle.store_reopen.specs.NotOpened.{IsTold}
-use Rattle.store_reopen.specs.Reopen.{HasLoaded, IsSwept, lists_of, stores_of}
+use Rattle.store_reopen.specs.Reopen.{IsOpenedAs, IsSwept, loaded, stores_of}
 use Rattle.store_reopen.specs.Strays.{adoption_name}
-use Rattle.store_reopen.specs.Verdict.{AreSaid, IsWhole}
 use Rattle.store_reopen.proofs.Marking.{site_read, site_then}
-use Rattle.store_reopen.proofs.Swept.{loaded_behind, read_reopens, sweeps_behind, sweeps_none}
+use Rattle.store_reopen.proofs.Swept.{opened_behind, read_reopens, sweeps_behind, sweeps_none}
 use Rattle.store_reopen.proofs.opening.open_stores.Goals as goal
 
 pub load_and_sweep-requires-clause-unopened : goal.load_and_sweep-requires-clause-unopened
@@ -22,21 +21,15 @@ returns-in_err-unfinished-clause-sweeps g c tells =
     sweeps_none g.D.Disk (stores_of c.args.config.now) c.args.disk.now c.is_unfinished.new.disk
     (read_reopens g.D.Disk (stores_of c.args.config.now) c.args.disk.now c.is_unfinished.new.disk (c.requires.unopened tells) (c.is_unfinished.ensures.same tells) (c.is_unfinished.ensures.any_moment tells) (c.is_unfinished.ensures.opened tells))
 
-pub returns-clause-stands : goal.returns-clause-stands
-returns-clause-stands g c tells before after opens =
+pub returns-clause-opened : goal.returns-clause-opened
+returns-clause-opened g c =
     let gs = stores_of c.args.config.now in
-    let begun = read_reopens g.D.Disk gs c.args.disk.now c.is_unfinished.new.disk (c.requires.unopened tells) (c.is_unfinished.ensures.same tells) (c.is_unfinished.ensures.any_moment tells) (c.is_unfinished.ensures.opened tells) in
-    IfOk-weaker c.load_and_sweep.result (λ r. HasLoaded g.D.Disk gs c.is_unfinished.new.disk r.0 r.1.items c.load_and_sweep.new.disk before after) (λ r. HasLoaded g.D.Disk gs c.args.disk.now r.0 r.1.items c.load_and_sweep.new.disk before after)
-    (λ r loaded. loaded_behind g.D.Disk gs c.args.disk.now c.is_unfinished.new.disk c.load_and_sweep.new.disk r.0 r.1.items before after (c.is_unfinished.ensures.same tells) loaded) (c.load_and_sweep.ensures.stands tells before after (begun.opens before after opens))
-
-pub returns-clause-said : goal.returns-clause-said
-returns-clause-said g c tells =
-    let gs = stores_of c.args.config.now in
-    IfOk-weaker c.load_and_sweep.result (λ r. AreSaid gs (g.D.Disk.files c.is_unfinished.new.disk) r.0.rows (lists_of r.1.items)) (λ r. AreSaid gs (g.D.Disk.files c.args.disk.now) r.0.rows (lists_of r.1.items))
-    (λ r said. subst (λ (f : Files). AreSaid gs f r.0.rows (lists_of r.1.items)) (c.is_unfinished.ensures.same tells) said) (c.load_and_sweep.ensures.said tells)
-
-pub returns-clause-whole : goal.returns-clause-whole
-returns-clause-whole g c tells fine = subst (IsWhole (stores_of c.args.config.now)) (c.is_unfinished.ensures.same tells) (c.load_and_sweep.ensures.whole tells fine)
+    let old = c.args.disk.now in
+    let now = c.is_unfinished.new.disk in
+    let new = c.load_and_sweep.new.disk in
+    IfOk-weaker c.load_and_sweep.result (λ r. IsOpenedAs g.D.Disk gs now (loaded g.D.Disk r.0 r.1.items new)) (λ r. IsOpenedAs g.D.Disk gs old (loaded g.D.Disk r.0 r.1.items new))
+    (λ r opened. opened_behind g.D.Disk gs old now (loaded g.D.Disk r.0 r.1.items new) c.is_unfinished.ensures.same
+    (λ tells. read_reopens g.D.Disk gs old now (c.requires.unopened tells) (c.is_unfinished.ensures.same tells) (c.is_unfinished.ensures.any_moment tells) (c.is_unfinished.ensures.opened tells)) opened) c.load_and_sweep.ensures.opened
 
 pub returns-clause-told : goal.returns-clause-told
 returns-clause-told g c tells =

@@ -4,22 +4,15 @@ use Rattle.disk_model.specs.Files.{Content}
 use Rattle.pv_catalog.specs.Catalogue.{CatalogueState}
 use Rattle.store_manifest.specs.Manifest.{ManifestState}
 use Rattle.durable_write.specs.Held.{file_of}
-use Rattle.tier_store.specs.Stores.{Stores}
-use Rattle.tier_store.specs.Change.{Has}
 use Rattle.tier_store.proofs.Retirements.{seen_new}
-use Rattle.store_reopen.specs.Reopen.{IsSwept, LeavesSite, Sweeps, stores_of}
+use Rattle.store_reopen.specs.Reopen.{IsOpenedAs, IsSwept, LeavesSite, Sweeps, stores_of}
 use Rattle.store_reopen.specs.Strays.{IsFileOf}
 use Rattle.store_reopen.proofs.Having.{count_of}
 use Rattle.store_reopen.proofs.opening.reopen.Goals as goal
 
-pub returns-in-Ok-clause-stands : goal.returns-in-Ok-clause-stands
-returns-in-Ok-clause-stands g c tells before after opens =
-    let read = c.in-Ok.ensures.stands tells before after opens in
-    record { held = read.held; either = read.either; read = read.read; has = subst (λ s. Has g.D.Disk.tells s read.held) (sym (seen_new g.D.Disk c.new.result c.in-Ok.catalogue c.in-Ok.manifests.items c.open_stores.new.disk c.new.ensures.rows c.new.ensures.lists c.new.ensures.disk)) read.has }
-
-pub returns-in-Ok-clause-has : goal.returns-in-Ok-clause-has
-returns-in-Ok-clause-has g c =
-    subst (λ s. (held : Stores) × Has g.D.Disk.tells s held) (sym (seen_new g.D.Disk c.new.result c.in-Ok.catalogue c.in-Ok.manifests.items c.open_stores.new.disk c.new.ensures.rows c.new.ensures.lists c.new.ensures.disk)) c.in-Ok.ensures.has
+pub returns-in-Ok-clause-opened : goal.returns-in-Ok-clause-opened
+returns-in-Ok-clause-opened g c =
+    subst (λ s. IsOpenedAs g.D.Disk (stores_of c.args.config.now) c.args.disk s) (sym (seen_new g.D.Disk c.new.result c.in-Ok.catalogue c.in-Ok.manifests.items c.open_stores.new.disk c.new.ensures.rows c.new.ensures.lists c.new.ensures.disk)) c.in-Ok.ensures.opened
 
 pub returns-in-Ok-clause-swept : goal.returns-in-Ok-clause-swept
 returns-in-Ok-clause-swept g c tells = subst (λ d. IsSwept (stores_of c.args.config.now) (g.D.Disk.files c.args.disk) (g.D.Disk.files d) (g.D.Disk.past d)) (sym c.new.ensures.disk) (c.in-Ok.ensures.swept tells)
@@ -37,7 +30,7 @@ returns-in-Ok-clause-tidy g c tells finished place manifest n series part here s
     let rows = c.in-Ok.catalogue.rows in
     let there : slice_get ms place ≡ Some manifest = ap (λ (l : List ManifestState). slice_get l place) (sym c.new.ensures.lists) ∙ here in
     let own : IsFileOf manifest.granularity rows n.1 series part = subst (λ (x : CatalogueState). IsFileOf manifest.granularity x.rows n.1 series part) c.new.ensures.rows file in
-    let low : place < 3 = subst (λ (k : ℕ). place < k) (count_of (stores_of c.args.config.now) ms refl c.in-Ok.ensures.ready.granularity) (within ms place manifest there) in
+    let low : place < 3 = subst (λ (k : ℕ). place < k) (count_of (stores_of c.args.config.now) ms refl c.in-Ok.ensures.opened.ready.granularity) (within ms place manifest there) in
     let none = c.in-Ok.ensures.gone tells finished n (record {
       place = place;
       low = low;
