@@ -17,7 +17,7 @@ use Rattle.stream_merge.specs.declared.merge.Merge.{Merge}
 use Rattle.stream_merge.specs.declared.source.OpenPiece.{OpenPiece}
 use Rattle.stream_merge.specs.Pieces.{NamedBytes, Failure}
 use Rattle.stream_merge.specs.Reading.{IsSampleOf}
-use Rattle.stream_merge.specs.Source.{Went, HasFailed}
+use Rattle.stream_merge.specs.Source.{Went, HasFailed, StopsAs}
 use Rattle.stream_merge.specs.Merging.{Rest, StillGives, GoesBehind, Answers}
 use Rattle.retrieval_query.specs.declared.retrieved.Retrieved.{Retrieved}
 use Rattle.retrieval_query.specs.declared.retrieved.Retrieved.TheVariants as retrieved
@@ -162,15 +162,15 @@ module _ {P R : Type 0} (tells : Bool) (bytes : R → List ℕ) (faults : R → 
       rose_at : (a n : ℕ) → Rose a n → Rose 0 n
       rose_at a n rose = omega (arith, rose)
 
-  pub stops_by : (ty : PayloadType) (a b : P) (piece now : Option (OpenPiece R)) (opened_now risen : Type 0) (m : Merged R) (stop : Retrieved R) → Went tells bytes opened failed ty a None m b now → ((f : Option R) → m ≡ merged.ReadFault f → HasFailed faults piece opened_now risen f)
+  pub stops_by : (ty : PayloadType) (a b : P) (piece now : Option (OpenPiece R)) (own : PayloadType) (left : List NamedBytes → Type 0) (opened_now risen spent : Type 0) (m : Merged R) (stop : Retrieved R) → Went tells bytes opened failed ty a None m b now → StopsAs tells bytes faults own piece left opened_now risen spent m
       → IsToldAs m stop → StopsBy tells faults opened failed ty a stop b
-  stops_by ty a b piece now opened_now risen (merged.Line t) stop went failure told = absurd told
-  stops_by ty a b piece now opened_now risen merged.End stop went failure told = absurd told
-  stops_by ty a b piece now opened_now risen (merged.ReadFault None) stop went failure told = subst (λ (x : Retrieved R). StopsBy tells faults opened failed ty a x b) (sym told) went
-  stops_by ty a b piece now opened_now risen (merged.ReadFault (Some r)) stop went failure told = subst (λ (x : Retrieved R). StopsBy tells faults opened failed ty a x b) (sym told) (went, has_faults piece opened_now risen r (failure (Some r) refl))
-  stops_by ty a b piece now opened_now risen (merged.Damaged name at) stop went failure told = subst (λ (x : Retrieved R). StopsBy tells faults opened failed ty a x b) (sym told) (record { pieces = went.pieces; were = went.were; damaged = went.damaged })
-  stops_by ty a b piece now opened_now risen merged.Spent stop went failure told = subst (λ (x : Retrieved R). StopsBy tells faults opened failed ty a x b) (sym told) went
-  stops_by ty a b piece now opened_now risen merged.Memory stop went failure told = subst (λ (x : Retrieved R). StopsBy tells faults opened failed ty a x b) (sym told) went
+  stops_by ty a b piece now own left opened_now risen spent (merged.Line t) stop went stops told = absurd told
+  stops_by ty a b piece now own left opened_now risen spent merged.End stop went stops told = absurd told
+  stops_by ty a b piece now own left opened_now risen spent (merged.ReadFault None) stop went stops told = subst (λ (x : Retrieved R). StopsBy tells faults opened failed ty a x b) (sym told) went
+  stops_by ty a b piece now own left opened_now risen spent (merged.ReadFault (Some r)) stop went stops told = subst (λ (x : Retrieved R). StopsBy tells faults opened failed ty a x b) (sym told) (went, has_faults piece opened_now risen r stops)
+  stops_by ty a b piece now own left opened_now risen spent (merged.Damaged name at) stop went stops told = subst (λ (x : Retrieved R). StopsBy tells faults opened failed ty a x b) (sym told) (record { pieces = went.pieces; were = went.were; damaged = went.damaged })
+  stops_by ty a b piece now own left opened_now risen spent merged.Spent stop went stops told = subst (λ (x : Retrieved R). StopsBy tells faults opened failed ty a x b) (sym told) went
+  stops_by ty a b piece now own left opened_now risen spent merged.Memory stop went stops told = subst (λ (x : Retrieved R). StopsBy tells faults opened failed ty a x b) (sym told) went
 
   -- the output stopped it
   pub stops_out : (ty : PayloadType) (a b : P) (err : OutErr) → OpensSome opened a b → StopsBy {P = P} {R = R} tells faults opened failed ty a (retrieved_by err) b

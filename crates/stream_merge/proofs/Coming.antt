@@ -1,5 +1,5 @@
 -- What is yet to come, from one read to the next.
-use Rattle.std.proofs.Common.{◌≡◌, ◌⊎◌, ℕ, ◌+◌, ◌*◌, ◌^◌, ◌≤◌, ◌<◌, inl, inr, List, [], ◌∷◌, ◌++◌, Option, None, Some, Result, Err, length, take, drop, refl, sym, ap, ◌∙◌, subst, arith, append_assoc}
+use Rattle.std.proofs.Common.{◌≡◌, ◌⊎◌, ℕ, ◌+◌, ◌*◌, ◌^◌, ◌≤◌, ◌<◌, inl, inr, List, [], ◌∷◌, ◌++◌, Option, None, Some, length, take, drop, refl, sym, ap, ◌∙◌, subst, arith, append_assoc}
 use Rattle.std.specs.List.{flat_map, Contains}
 use Rattle.std.specs.Int.Digits.{digits_of}
 use Rattle.std.proofs.lemmas.Int.Digits.{number_digits_of, number_lt, all_below_base_digits_of}
@@ -17,7 +17,7 @@ use Rattle.stream_merge.specs.declared.source.SampleSource.{SampleSource}
 use Rattle.stream_merge.specs.Pieces.{NamedBytes}
 use Rattle.stream_merge.specs.Reading.{IsSampleOf, AreSamplesOf, IsReadAs, AreReadAs, IsBadFor, IsDamaged}
 use Rattle.stream_merge.specs.Beginning.{early_count, IsPlaced, AnswersAs}
-use Rattle.stream_merge.specs.Source.{open_pieces, IsOpenAs, BeginsAs, ReadsOpen, Coming, StillComing, search_steps, HasTaken, TakesFew, Pulls, Passes, OpensOn, HasFailedNow, HasRisen, HasFailed, Grew, IsFailure, IsGiven, unread, unread_in}
+use Rattle.stream_merge.specs.Source.{open_pieces, IsOpenAs, BeginsAs, ReadsOpen, Coming, StillComing, search_steps, HasTaken, TakesFew, Pulls, Passes, OpensOn, HasFailedNow, HasRisen, HasFailed, Grew, unread, unread_in}
 use Rattle.stream_merge.proofs.Leaving.{answers_on, answers_same, placed_rest, placed_none, early_cons, early_one}
 
 abbrev flat : List (List Sample) → List Sample
@@ -171,14 +171,6 @@ pub fails_there : {R : Type 0} (bytes : R → List ℕ) (left left₂ : List Nam
 fails_there {R} bytes left left₂ n q ps xs room s steps a is = record { rest = a.still.pieces; left_is = is; taken = takes_more ps a.still.pieces room (room + 1) (steps + early_count q.from a.still.coming.here) steps a.taken (omega arith) }
 
 -- a failure says nothing but that
-pub pulls_failed : {R : Type 0} (bytes : R → List ℕ) (left : List NamedBytes → Type 0) (n : ℕ) (q : Query) (ps : List NamedBytes) (xs : List Sample) (room : ℕ) (s : SampleSource R) (line : List ℕ) (steps : ℕ) (r : Merged R) → IsFailure r → TakesFew left ps (room + 1) steps → Pulls bytes left n q ps xs room s line steps r
-pulls_failed {R} bytes left n q ps xs room s line steps (Line t) is few = absurd is
-pulls_failed {R} bytes left n q ps xs room s line steps End is few = absurd is
-pulls_failed {R} bytes left n q ps xs room s line steps (ReadFault failed) is few = few
-pulls_failed {R} bytes left n q ps xs room s line steps (Damaged name at) is few = few
-pulls_failed {R} bytes left n q ps xs room s line steps Spent is few = few
-pulls_failed {R} bytes left n q ps xs room s line steps Memory is few = few
-
 -- so these are to come, none of a piece
 abbrev EndsWith : {R : Type 0} → (R → List ℕ) → (List NamedBytes → Type 0) → ℕ → Query → List NamedBytes → ℕ → ℕ → SampleSource R → List Sample → Type 0
 EndsWith {R} bytes left n q pieces room steps s l = (still : StillComing bytes left s l) × IsPlaced n q.from still.coming.here × HasTaken pieces still.pieces room (steps + early_count q.from still.coming.here)
@@ -341,14 +333,6 @@ passes_none {R} bytes left all passed ps o none are empty is =
     let P : Option (OpenPiece R) → Type 0 = λ x. Passes bytes left all x in
     subst P (sym none) (record { passed = passed; rest = []; left_is = is; are = are ∙ ap (λ (l : List NamedBytes). passed ++ l) empty })
 
-pub given_ready : {R : Type 0} (r : Merged R) (P : Type 0) → ((t : ℕ) → r ≡ Line t → P) → (r ≡ End → P) → IsGiven r → P
-given_ready {R} (Line t) P line end is = line t refl
-given_ready {R} End P line end is = end refl
-given_ready {R} (ReadFault failed) P line end is = absurd is
-given_ready {R} (Damaged name at) P line end is = absurd is
-given_ready {R} Spent P line end is = absurd is
-given_ready {R} Memory P line end is = absurd is
-
 -- HOW MUCH IS LEFT
 
 pub less_open : {R : Type 0} (c k : ℕ) (s new : SampleSource R) → new ≡ record s { piece = new.piece } → unread_in new.piece < unread_in s.piece → unread c s ≤ k → unread c new < k
@@ -365,6 +349,11 @@ none_left {R} before now k s new last same none is count all =
     let whole : unread now last ≡ unread before new = ap (λ (x : SampleSource R). unread now x) is ∙ ap (λ (n : ℕ). unread n new) count in
     omega (arith, rest, whole, ap unread_in none, all)
 
+pub tail_less : {R : Type 0} (was now k : ℕ) (s new last : SampleSource R) → new ≡ record s { piece = new.piece } → last.piece ≡ None → now ≡ was → unread was s ≤ k → length (drop last.at last.tail.items) < length (drop new.at new.tail.items) → unread now last < k
+tail_less {R} was now k s new last same gone count all less =
+    let rest = ap (λ (x : SampleSource R). length (drop x.at x.tail.items)) same in
+    omega (arith, rest, ap (λ (n : ℕ). n * 2 ^ 64) count, ap unread_in gone, all, less)
+
 -- THE TAIL
 
 pub tail_event : (ty : PayloadType) (at : ℕ) (tail rest : List Sample) (s : Sample) → AreSamplesOf ty tail → drop at tail ≡ s ∷ rest → IsSampleOf ty s
@@ -372,6 +361,3 @@ tail_event ty at tail rest s are is =
     let P : List Sample → Type 0 = λ l. AreSamplesOf ty l in
     let back = all_rest (IsSampleOf ty) (take at tail) (drop at tail) (subst P (sym (take-append-drop at tail)) are) in
     (subst P is back).0
-
-pub err_is : {R : Type 0} (q : Result (OpenPiece R) (Merged R)) (a b : Merged R) → q ≡ Err a → a ≡ b → q ≡ Err b
-err_is {R} q a b is same = is ∙ ap (λ (x : Merged R). Err x) same

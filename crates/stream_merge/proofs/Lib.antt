@@ -5,6 +5,7 @@ pub mod Reading
 mod SoFar
 mod Pulling
 mod Coming
+mod Came
 mod Giving
 pub mod Went
 mod Later

@@ -1,7 +1,7 @@
 -- What a piece is read as, line by line.
 use Rattle.std.proofs.Common.{◌≡◌, ◌≢◌, ℕ, ◌+◌, ◌-◌, ◌<◌, ◌≤◌, inl, inr, suc, List, [], ◌∷◌, ◌++◌, Some, length, take, drop, refl, sym, ap, ◌∙◌, subst, arith, append_assoc, append-nil}
 use Rattle.std.proofs.lemmas.Bool.{cases_lt}
-use Rattle.std.proofs.lemmas.List.{length-append, length-take, length-take-le, take-append-drop, take-take, take_at, drop_at, drop-take, drop-drop, drop-append-le, append_cancel_left}
+use Rattle.std.proofs.lemmas.List.{length-append, length-take-le, take-append-drop, take-take, take_at, drop_at, drop-take, drop-drop, drop-append-le, append_cancel_left}
 use Rattle.std.proofs.lemmas.List.Elements.{All-from_recursion}
 use Rattle.std.proofs.Math.Seq.{drop-append-add}
 use Rattle.line_escape.specs.Unescaping.{HasNoNewline}
@@ -14,7 +14,7 @@ use Rattle.pb_lines.specs.Header.{IsHeaderLine}
 use Rattle.pb_lines.proofs.Unique.{one_header}
 use Rattle.pb_lines.specs.File.{IsFile, IsSample, HasNoSample, lines_of}
 use Rattle.pb_lines.proofs.FileLines.{all_rest, one_line, no_line}
-use Rattle.pb_lines.proofs.FileMeaning.{begins, begin_alike, excluded, one_file, some_left}
+use Rattle.pb_lines.proofs.FileMeaning.{begin_alike, excluded, one_file, some_left}
 use Rattle.pb_file.specs.Walk.{Walk, Front, HasWalked}
 use Rattle.pb_file.specs.Search.{IsLineStart}
 use Rattle.pb_file.specs.Skip.{HasSkipped, from_place}

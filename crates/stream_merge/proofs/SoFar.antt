@@ -19,7 +19,7 @@ use Rattle.stream_merge.specs.declared.source.OpenPiece.{OpenPiece}
 use Rattle.stream_merge.specs.declared.source.SampleSource.{SampleSource}
 use Rattle.stream_merge.specs.Pieces.{NamedBytes}
 use Rattle.stream_merge.specs.Beginning.{IsAtLine}
-use Rattle.stream_merge.specs.Source.{open_pieces, IsBegun, IsFailure}
+use Rattle.stream_merge.specs.Source.{open_pieces, IsBegun}
 use Rattle.stream_merge.specs.Reads.{IsReadUpTo, IsReadToEnd, AreReadToEnd, HasReadOf, HasReadOpen, ReadsNext, HasRead, HasReadAll, ReadsOn, PullsNext}
 
 abbrev pub flat : List (List Sample) → List Sample
@@ -271,12 +271,3 @@ module _ {P R : Type 0} (bytes : R → List ℕ) (opened : P → List NamedBytes
   pulls_of_tail a b ps left s t read line (Damaged name at) same none last next end on = tt
   pulls_of_tail a b ps left s t read line Spent same none last next end on = tt
   pulls_of_tail a b ps left s t read line Memory same none last next end on = tt
-
-  -- a failure
-  pub pulls_none : (a b : P) (ps : List NamedBytes) (left : ℕ) (s : SampleSource R) (read : List Sample) (line : List ℕ) (r : Merged R) → IsFailure r → PullsNext bytes opened a ps b left read s line r
-  pulls_none a b ps left s read line (Line t) failed = absurd failed
-  pulls_none a b ps left s read line End failed = absurd failed
-  pulls_none a b ps left s read line (ReadFault f) failed = tt
-  pulls_none a b ps left s read line (Damaged name at) failed = tt
-  pulls_none a b ps left s read line Spent failed = absurd failed
-  pulls_none a b ps left s read line Memory failed = tt

@@ -1,6 +1,5 @@
 -- What a call did to the pieces: which were opened, and whether one failed.
-use Rattle.std.proofs.Common.{◌≡◌, ℕ, Bool, List, [], ◌∷◌, ◌++◌, Option, None, Some, Result, Err, IsTrue, inl, inr, refl, sym, ap, ◌∙◌, subst, append_assoc, append-nil, arith}
-use Rattle.std.specs.Prelude.{IfErr}
+use Rattle.std.proofs.Common.{◌≡◌, ℕ, Bool, List, [], ◌∷◌, ◌++◌, Option, None, Some, IsTrue, take, inl, inr, refl, sym, ap, ◌∙◌, subst, append_assoc, append-nil, arith}
 use Rattle.std.proofs.lemmas.Bool.{cases_lt}
 use Rattle.disk_model.specs.Files.{Name}
 use Rattle.pb_wire.specs.declared.payload.PayloadType.{PayloadType}
@@ -9,9 +8,9 @@ use Rattle.stream_merge.specs.declared.pieces.Merged.TheVariants.{Line, End, Rea
 use Rattle.stream_merge.specs.declared.source.OpenPiece.{OpenPiece}
 use Rattle.stream_merge.specs.Pieces.{NamedBytes, Failure, Faulted, OutOfActs, OutOfMemory}
 use Rattle.stream_merge.specs.Reading.{IsDamaged}
-use Rattle.stream_merge.specs.Source.{open_pieces, GoesOn, Went, HasFailedNow, HasRisen, Grew, IsFailure, IsGiven, IsOfTail}
+use Rattle.stream_merge.specs.Source.{open_pieces, CameOfOpen, GoesOn, Went, HasRisen, Grew, IsGiven, IsOfTail, RefusesAs}
 use Rattle.stream_merge.specs.Merging.{Gives}
-use Rattle.stream_merge.proofs.Coming.{damaged_in}
+use Rattle.stream_merge.proofs.Coming.{damaged_in, damaged_one}
 
 module _ {P R : Type 0} (tells : Bool) (bytes : R → List ℕ) (opened : P → List NamedBytes → P → Type 0) (failed : P → Failure → P → Type 0) where
   -- nothing was opened, and the open piece is as it was
@@ -32,26 +31,26 @@ module _ {P R : Type 0} (tells : Bool) (bytes : R → List ℕ) (opened : P → 
   went_given ty a b piece now Memory given goes = absurd given
 
   -- the open piece's next line was read, or not
-  pub went_open : (ty open_ty : PayloadType) (a b : P) (piece old now : Option (OpenPiece R)) (faults : R → ℕ) (r : Merged R) → open_ty ≡ ty → GoesOn tells bytes opened a piece b old → (IsTrue tells → (t : ℕ) → r ≡ Line t → open_pieces bytes now ≡ open_pieces bytes old)
-      → (IsTrue tells → (name : Name) (at : ℕ) → r ≡ Damaged name at → IsDamaged open_ty (open_pieces bytes old) name at) → ((f : Option R) → r ≡ ReadFault f → HasRisen faults old f) → (r ≡ Spent → ⊥) → (r ≡ End → ⊥) → Went tells bytes opened failed ty a piece r b now
-  went_open ty open_ty a b piece old now faults (Line t) same goes stays damaged failure never more = goes_still a b piece old now goes (λ told. stays told t refl)
-  went_open ty open_ty a b piece old now faults End same goes stays damaged failure never more = absurd (more refl)
-  went_open ty open_ty a b piece old now faults (ReadFault None) same goes stays damaged failure never more = absurd (none_risen old (failure None refl))
+  pub went_open : (ty open_ty : PayloadType) (a b : P) (piece old now : Option (OpenPiece R)) (faults : R → ℕ) (line : List ℕ) (r : Merged R) → open_ty ≡ ty → GoesOn tells bytes opened a piece b old
+      → CameOfOpen tells bytes faults open_ty old now line r → (r ≡ End → ⊥) → Went tells bytes opened failed ty a piece r b now
+  went_open ty open_ty a b piece old now faults line (Line t) same goes came more = goes_still a b piece old now goes came.stays
+  went_open ty open_ty a b piece old now faults line End same goes came more = absurd (more refl)
+  went_open ty open_ty a b piece old now faults line (ReadFault None) same goes came more = absurd (none_risen old came)
     where
       none_risen : (o : Option (OpenPiece R)) → HasRisen faults o None → ⊥
       none_risen None rose = rose
       none_risen (Some p) rose = rose
-  went_open ty open_ty a b piece old now faults (ReadFault (Some f)) same goes stays damaged failure never more = (goes.pieces, goes.were)
-  went_open ty open_ty a b piece old now faults (Damaged name at) same goes stays damaged failure never more = record {
+  went_open ty open_ty a b piece old now faults line (ReadFault (Some f)) same goes came more = (goes.pieces, goes.were)
+  went_open ty open_ty a b piece old now faults line (Damaged name at) same goes came more = record {
     pieces = goes.pieces;
     were = goes.were;
     damaged = λ told.
         let p = goes.are told in
         let T : PayloadType → Type 0 = λ y. IsDamaged y (open_pieces bytes piece ++ goes.pieces) name at in
-        subst T same (damaged_in open_ty (open_pieces bytes piece ++ goes.pieces) p.0 (open_pieces bytes old) [] name at (p.1 ∙ ap (λ (l : List NamedBytes). p.0 ++ l) (sym (append-nil (open_pieces bytes old)))) (damaged told name at refl));
+        subst T same (damaged_in open_ty (open_pieces bytes piece ++ goes.pieces) p.0 (open_pieces bytes old) [] name at (p.1 ∙ ap (λ (l : List NamedBytes). p.0 ++ l) (sym (append-nil (open_pieces bytes old)))) (came told));
   }
-  went_open ty open_ty a b piece old now faults Spent same goes stays damaged failure never more = absurd (never refl)
-  went_open ty open_ty a b piece old now faults Memory same goes stays damaged failure never more = inl (goes.pieces, goes.were)
+  went_open ty open_ty a b piece old now faults line Spent same goes came more = absurd came
+  went_open ty open_ty a b piece old now faults line Memory same goes came more = inl (goes.pieces, goes.were)
 
   module _ (opened_on : (a b c : P) (xs ys : List NamedBytes) → opened a xs b → opened b ys c → opened a (xs ++ ys) c) where
     -- a piece was opened
@@ -71,20 +70,26 @@ module _ {P R : Type 0} (tells : Bool) (bytes : R → List ℕ) (opened : P → 
     }
 
     -- the piece that was opened doesn't begin with its header
-    pub went_begun : (ty : PayloadType) (a b c : P) (piece old now : Option (OpenPiece R)) (n : NamedBytes) (faults : R → ℕ) (r : Merged R) → GoesOn tells bytes opened a piece b old → opened b (n ∷ []) c
-        → (IsTrue tells → (name : Name) (at : ℕ) → r ≡ Damaged name at → IsDamaged ty (n ∷ []) name at) → ((f : Option R) → r ≡ ReadFault f → HasFailedNow faults f) → IsFailure r → Went tells bytes opened failed ty a piece r c now
-    went_begun ty a b c piece old now n faults (Line t) goes one damaged failure is = absurd is
-    went_begun ty a b c piece old now n faults End goes one damaged failure is = absurd is
-    went_begun ty a b c piece old now n faults (ReadFault None) goes one damaged failure is = absurd (failure None refl)
-    went_begun ty a b c piece old now n faults (ReadFault (Some f)) goes one damaged failure is = (goes.pieces ++ n ∷ [], opened_on a b c goes.pieces (n ∷ []) goes.were one)
-    went_begun ty a b c piece old now n faults (Damaged name at) goes one damaged failure is = record {
-      pieces = goes.pieces ++ n ∷ [];
-      were = opened_on a b c goes.pieces (n ∷ []) goes.were one;
-      damaged = λ told.
-          damaged_in ty (open_pieces bytes piece ++ (goes.pieces ++ n ∷ [])) (open_pieces bytes piece ++ goes.pieces) (n ∷ []) [] name at (sym (append_assoc (open_pieces bytes piece) goes.pieces (n ∷ []))) (damaged told name at refl);
-    }
-    went_begun ty a b c piece old now n faults Spent goes one damaged failure is = absurd is
-    went_begun ty a b c piece old now n faults Memory goes one damaged failure is = inl (goes.pieces ++ n ∷ [], opened_on a b c goes.pieces (n ∷ []) goes.were one)
+    pub went_begun : (ty : PayloadType) (a b c : P) (piece old now : Option (OpenPiece R)) (name : Name) (len : ℕ) (reader : R) (faults : R → ℕ) (r : Merged R) → GoesOn tells bytes opened a piece b old → opened b (record { name = name; bytes = take len (bytes reader) } ∷ []) c
+        → RefusesAs tells bytes faults ty name len reader r → Went tells bytes opened failed ty a piece r c now
+    went_begun ty a b c piece old now name len reader faults (Line t) goes one why = absurd why
+    went_begun ty a b c piece old now name len reader faults End goes one why = absurd why
+    went_begun ty a b c piece old now name len reader faults (ReadFault None) goes one why = absurd why
+    went_begun ty a b c piece old now name len reader faults (ReadFault (Some f)) goes one why =
+        let n : NamedBytes = record { name = name; bytes = take len (bytes reader) } in
+        (goes.pieces ++ n ∷ [], opened_on a b c goes.pieces (n ∷ []) goes.were one)
+    went_begun ty a b c piece old now name len reader faults (Damaged found at) goes one why =
+        let n : NamedBytes = record { name = name; bytes = take len (bytes reader) } in
+        record {
+          pieces = goes.pieces ++ n ∷ [];
+          were = opened_on a b c goes.pieces (n ∷ []) goes.were one;
+          damaged = λ told.
+              damaged_in ty (open_pieces bytes piece ++ (goes.pieces ++ n ∷ [])) (open_pieces bytes piece ++ goes.pieces) (n ∷ []) [] found at (sym (append_assoc (open_pieces bytes piece) goes.pieces (n ∷ []))) (damaged_one ty n found at (why told).0 (why told).1);
+        }
+    went_begun ty a b c piece old now name len reader faults Spent goes one why = absurd why
+    went_begun ty a b c piece old now name len reader faults Memory goes one why =
+        let n : NamedBytes = record { name = name; bytes = take len (bytes reader) } in
+        inl (goes.pieces ++ n ∷ [], opened_on a b c goes.pieces (n ∷ []) goes.were one)
 
     -- what the tail gave
     pub went_tail : (ty : PayloadType) (a c : P) (piece now : Option (OpenPiece R)) (r : Merged R) → IsOfTail r → GoesOn tells bytes opened a piece c now → Went tells bytes opened failed ty a piece r c now
@@ -125,10 +130,6 @@ module _ {P R : Type 0} (tells : Bool) (bytes : R → List ℕ) (opened : P → 
       went_joined ty open_ty a b c piece old now Spent same one two = failed_on a b c one.pieces OutOfActs one.were two
       went_joined ty open_ty a b c piece old now Memory same one (inl two) = inl (one.pieces ++ two.0, opened_on a b c one.pieces two.0 one.were two.1)
       went_joined ty open_ty a b c piece old now Memory same one (inr two) = inr (failed_on a b c one.pieces OutOfMemory one.were two)
-
--- the error of a piece that wasn't begun
-pub failure_of : {X R : Type 0} (r : Result X (Merged R)) (m : Merged R) → r ≡ Err m → IfErr r IsFailure → IsFailure m
-failure_of {X} {R} r m is failure = let Q : Result X (Merged R) → Type 0 = λ x. IfErr x IsFailure in subst Q is failure
 
 -- what a call of `give` comes to is a line or the end
 pub gives_given : {R : Type 0} (to : ℕ) (k : Option ℕ) (t : ℕ) (kept : Option ℕ) (r : Merged R) → Gives to k t kept r → IsGiven r

@@ -81,6 +81,13 @@ abbrev pub Gives : {R : Type 0} → ℕ → Option ℕ → ℕ → Option ℕ �
 Gives {R} to (Some before) t kept r = (kept ≡ Some t) × (r ≡ Line before)
 Gives {R} to None t kept r = (kept ≡ None) × (t ≤ to → r ≡ Line t) × (to < t → r ≡ End)
 
+-- A line was given, where so many pieces were left before the call and are left now. The merge may be asked for the next one.
+pub record GivesLine {R : Type 0} (tells : Bool) (bytes : R → List ℕ) (before now : ℕ) (old new : Merge R) (sample : Sample) : Type 0 where
+  pub going : IsGoing tells bytes new
+  pub event : IsSampleOf old.source.ty sample
+  pub later : (line_from old ≤ sample.t) × (sample.t < line_from new)
+  pub smaller : remaining now new < remaining before old
+
 -- IN MEMORY
 
 -- nothing is kept, and the next sample is in memory, which stands in the interval

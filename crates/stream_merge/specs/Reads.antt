@@ -1,7 +1,8 @@
 -- What was read of pieces, damaged inside or not, and what a merge gave of it.
-use Rattle.std.specs.Prelude.{◌≡◌, ◌⊎◌, ℕ, ◌+◌, ◌<◌, ◌≤◌, List, [], ◌∷◌, ◌++◌, Option, None, Some, length, take, drop, Contains}
+use Rattle.std.specs.Prelude.{◌≡◌, ◌⊎◌, ℕ, ◌+◌, ◌^◌, ◌<◌, ◌≤◌, Bool, IsTrue, List, [], ◌∷◌, ◌++◌, Option, None, Some, length, take, drop, Contains}
 use Rattle.std.specs.List.{AllZip, flat_map}
 use Rattle.pb_wire.specs.declared.payload.PayloadType.{PayloadType}
+use Rattle.disk_model.specs.Files.{Name}
 use Rattle.series_model.specs.declared.sample.Sample.{Sample}
 use Rattle.series_model.specs.declared.sample.Query.{Query}
 use Rattle.series_model.specs.Series.{taken, taken_from}
@@ -17,7 +18,8 @@ use Rattle.stream_merge.specs.declared.source.OpenPiece.{OpenPiece}
 use Rattle.stream_merge.specs.declared.source.SampleSource.{SampleSource}
 use Rattle.stream_merge.specs.declared.merge.Merge.{Merge}
 use Rattle.stream_merge.specs.Pieces.{NamedBytes}
-use Rattle.stream_merge.specs.Source.{open_pieces}
+use Rattle.stream_merge.specs.Reading.{IsReadAs}
+use Rattle.stream_merge.specs.Source.{BeginsAs, IsReady, open_pieces, unread_in}
 use Rattle.stream_merge.specs.Merging.{kept_of}
 
 -- OF ONE PIECE
@@ -99,6 +101,14 @@ module _ {R : Type 0} (bytes : R → List ℕ) where
   abbrev pub HasReadOpen : PayloadType → Option (OpenPiece R) → List Sample → Type 0
   HasReadOpen ty None samples = samples ≡ []
   HasReadOpen ty (Some p) samples = HasReadOf ty p samples
+
+  -- A piece of this length was opened, and nothing was read of it since its reading began, where its samples begin to count.
+  pub record OpensAt (tells : Bool) (ty : PayloadType) (n : ℕ) (query : Query) (name : Name) (len : ℕ) (reader : R) (p : OpenPiece R) : Type 0 where
+    pub ready : IsReady tells bytes ty (Some p)
+    pub pieces : IsTrue tells → open_pieces bytes (Some p) ≡ record { name = name; bytes = take len (bytes reader) } ∷ []
+    pub lines : IsTrue tells → (xs : List Sample) → IsReadAs ty (take len (bytes reader)) xs → BeginsAs bytes n query p xs
+    pub unread : IsTrue tells → HasReadOpen ty (Some p) []
+    pub small : unread_in (Some p) < 2 ^ 64
 
   -- what a read of the open piece's next line came to, where these were read before
   abbrev pub ReadsNext : PayloadType → Option (OpenPiece R) → Option (OpenPiece R) → List Sample → List ℕ → Merged R → Type 0

@@ -19,8 +19,8 @@ use Rattle.stream_merge.specs.declared.pieces.Merged.TheVariants.{Line, End, Rea
 use Rattle.stream_merge.specs.declared.source.OpenPiece.{OpenPiece}
 use Rattle.stream_merge.specs.declared.source.SampleSource.{SampleSource}
 use Rattle.stream_merge.specs.Pieces.{NamedBytes, Failure, Faulted, OutOfActs, OutOfMemory}
-use Rattle.stream_merge.specs.Reading.{AreReadAs, IsDamaged}
-use Rattle.stream_merge.specs.Beginning.{early_count, IsPlaced, AnswersAs}
+use Rattle.stream_merge.specs.Reading.{AreReadAs, IsBadFor, IsDamaged, IsSampleOf}
+use Rattle.stream_merge.specs.Beginning.{early_count, IsAtLine, IsPlaced, AnswersAs}
 
 -- THE OPEN PIECE
 
@@ -196,13 +196,6 @@ Went {P} {R} tells bytes opened failed ty old piece Memory new now = HasOpened o
 
 -- FAILURES
 
--- a read or memory failed, or a bad line was found
-abbrev pub IsFailure : {R : Type 0} → Merged R → Type 0
-IsFailure {R} (ReadFault failed) = Unit {0}
-IsFailure {R} (Damaged name at) = Unit {0}
-IsFailure {R} Memory = Unit {0}
-IsFailure {R} _ = ⊥
-
 -- a line or the end
 abbrev pub IsGiven : {R : Type 0} → Merged R → Type 0
 IsGiven {R} (Line t) = Unit {0}
@@ -262,3 +255,67 @@ unread_in {R} (Some p) = p.walk.len - p.walk.place
 -- so many pieces are left: a piece counts more than its bytes
 abbrev pub unread : {R : Type 0} → ℕ → SampleSource R → ℕ
 unread {R} count s = count * 2 ^ 64 + unread_in s.piece + length (drop s.at s.tail.items)
+
+-- WHAT A CALL CAME TO
+
+module _ {R : Type 0} (tells : Bool) (bytes : R → List ℕ) where
+  -- A piece of this length was begun, with its header's line. The reader has the bytes that it had.
+  pub record BeginsPiece (ty : PayloadType) (name : Name) (len : ℕ) (reader : R) (p : OpenPiece R) : Type 0 where
+    pub ready : IsReady tells bytes ty (Some p)
+    pub pieces : IsTrue tells → open_pieces bytes (Some p) ≡ record { name = name; bytes = take len (bytes reader) } ∷ []
+    pub begun : IsTrue tells → IsAtLine p.walk.place p.walk (bytes reader)
+    pub same : (p.walk.len ≡ len) × (p.name ≡ name)
+    pub bytes_stay : IsTrue tells → bytes p.reader ≡ bytes reader
+    pub small : unread_in (Some p) < 2 ^ 64
+
+  module _ (faults : R → ℕ) where
+    -- why a piece wasn't opened: its reader failed, it is damaged here, or memory ran out
+    abbrev pub RefusesAs : PayloadType → Name → ℕ → R → Merged R → Type 0
+    RefusesAs ty name len reader (ReadFault failed) = HasFailedNow faults failed
+    RefusesAs ty name len reader (Damaged found at) = IsTrue tells → (found ≡ name) × IsBadFor ty (take len (bytes reader)) at
+    RefusesAs ty name len reader Memory = Unit {0}
+    RefusesAs ty name len reader _ = ⊥
+
+    -- the next line of the open piece was read, which is the same piece still
+    pub record ReadsLine (ty : PayloadType) (old new : Option (OpenPiece R)) (sample : Sample) : Type 0 where
+      pub ready : IsReady tells bytes ty new
+      pub event : IsSampleOf ty sample
+      pub stays : IsTrue tells → open_pieces bytes new ≡ open_pieces bytes old
+      pub grew : Grew faults old new
+      pub smaller : unread_in new < unread_in old
+
+    -- what a read of the open piece's next line came to: the line, the piece's end, or why there is none
+    abbrev pub CameOfOpen : PayloadType → Option (OpenPiece R) → Option (OpenPiece R) → List ℕ → Merged R → Type 0
+    CameOfOpen ty old new line (Line t) = ReadsLine ty old new (record { t = t; line = line })
+    CameOfOpen ty old new line End = new ≡ None
+    CameOfOpen ty old new line (ReadFault failed) = HasRisen faults old failed
+    CameOfOpen ty old new line (Damaged name at) = IsTrue tells → IsDamaged ty (open_pieces bytes old) name at
+    CameOfOpen ty old new line Spent = ⊥
+    CameOfOpen ty old new line Memory = Unit {0}
+
+    -- Why there is no line: a reader or an opening failed in this call, the open piece or one of those that were left is damaged, or the acts
+    -- are spent. So are told: that a piece was opened in it, that the count of the pieces rose, and that the acts are spent.
+    abbrev pub StopsAs : PayloadType → Option (OpenPiece R) → (List NamedBytes → Type 0) → Type 0 → Type 0 → Type 0 → Merged R → Type 0
+    StopsAs ty piece left opened risen spent (ReadFault failed) = HasFailed faults piece opened risen failed
+    StopsAs ty piece left opened risen spent (Damaged name at) = IsTrue tells → (ps : List NamedBytes) → left ps → IsDamaged ty (open_pieces bytes piece ++ ps) name at
+    StopsAs ty piece left opened risen spent Spent = spent
+    StopsAs ty piece left opened risen spent _ = Unit {0}
+
+    -- so many pieces were left before the call, and are left now
+    module _ (before now : ℕ) where
+      -- a line was read
+      pub record PullsOne (old new : SampleSource R) (sample : Sample) : Type 0 where
+        pub ready : IsReady tells bytes new.ty new.piece
+        pub event : IsSampleOf old.ty sample
+        pub grew : (now < before) ⊎ Grew faults old.piece new.piece
+        pub smaller : unread now new < unread before old
+
+      -- none was left
+      pub record PullsNone (old new : SampleSource R) : Type 0 where
+        pub ready : IsReady tells bytes new.ty new.piece
+        pub no_more : unread now new ≤ unread before old
+
+      abbrev pub CameOfPull : SampleSource R → SampleSource R → List ℕ → Merged R → Type 0
+      CameOfPull old new line (Line t) = PullsOne old new (record { t = t; line = line })
+      CameOfPull old new line End = PullsNone old new
+      CameOfPull old new line _ = Unit {0}

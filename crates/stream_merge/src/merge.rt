@@ -1,18 +1,18 @@
 //! The merge of pieces and a tail.
-ghost use Rattle.std.specs.Prelude.{◌≡◌, ◌≤◌, ◌<◌, ◌+◌, ◌↔◌, ◌∷◌, ◌++◌, [], ℕ, List, Option, Some, None, IfSome};
+ghost use Rattle.std.specs.Prelude.{◌≡◌, ◌≤◌, ◌<◌, ◌+◌, ◌↔◌, ◌∷◌, ◌++◌, [], ℕ, List, Some, None, IfSome};
 ghost use Rattle.std.specs.Prelude.{IsSome, IsTrue, length};
-ghost use Rattle.disk_model.specs.Files.{Name, Rose};
+ghost use Rattle.disk_model.specs.Files.{Rose};
 ghost use Rattle.series_model.specs.declared.sample.Sample.{Sample as SampleValue};
 ghost use Rattle.series_model.specs.Series.{IsRising};
 ghost use Rattle.series_model.specs.Retrieval.{answer};
 ghost use Rattle.stream_merge.specs.Pieces.{NamedBytes};
-ghost use Rattle.stream_merge.specs.Reading.{IsSampleOf, AreSamplesOf, AreReadAs, IsDamaged};
+ghost use Rattle.stream_merge.specs.Reading.{AreSamplesOf, AreReadAs};
 ghost use Rattle.pb_file.specs.Walk.{behind};
 ghost use Rattle.stream_merge.specs.Over.{over_all};
-ghost use Rattle.stream_merge.specs.Source.{open_pieces, HasFailed, OpensOn, IsGiven, Went, TakesFew};
+ghost use Rattle.stream_merge.specs.Source.{OpensOn, IsGiven, StopsAs, Went, TakesFew};
 ghost use Rattle.stream_merge.specs.Reads.{GivesNext, HasGiven};
 ghost use Rattle.stream_merge.specs.Merging.{IsGoing, IsDue, IsEarly, Rest, HoldsNext, HoldsNextLong, GoesBehind};
-ghost use Rattle.stream_merge.specs.Merging.{Answers, Gives, kept_of, line_from, remaining};
+ghost use Rattle.stream_merge.specs.Merging.{Answers, Gives, GivesLine, kept_of, line_from};
 
 use crate::pieces::{Merged, Pieces};
 use crate::source::SampleSource;
@@ -73,9 +73,14 @@ impl<R: ReadAt> Merge<R> {
     ) -> Merged<R>
         requires going { IsGoing R.tells R.bytes self.old }
         requires may { P.may_open pieces.old }
-        ensures going { (t : ℕ) → result ≡ Merged.Line t → IsGoing R.tells R.bytes self.new }
-        ensures ty { self.new.source.ty ≡ self.old.source.ty }
-        ensures same { (self.new.query ≡ self.old.query) × (self.new.source.tail ≡ self.old.source.tail) }
+        ensures line { (t : ℕ) → result ≡ Merged.Line t
+            → GivesLine R.tells R.bytes (P.count pieces.old) (P.count pieces.new) self.old self.new
+            (record { t = t; line = line.new.items }) }
+        ensures stops { StopsAs R.tells R.bytes R.faults self.old.source.ty self.old.source.piece (P.left pieces.old)
+            (P.count pieces.new < P.count pieces.old) (Rose (P.faults pieces.old) (P.faults pieces.new))
+            (P.is_spent pieces.new) result }
+        ensures same { (self.new.query ≡ self.old.query) × (self.new.source.tail ≡ self.old.source.tail)
+            × (self.new.source.ty ≡ self.old.source.ty) }
         ensures lines { IsTrue R.tells → (ps : List NamedBytes) (xs : List SampleValue) → P.left pieces.old ps
             → Rest R.bytes self.old ps xs
             → Answers R.bytes (P.left pieces.new) self.new xs line.new.items result }
@@ -83,24 +88,12 @@ impl<R: ReadAt> Merge<R> {
             → HasGiven R.bytes self.old (P.count pieces.old) ps given
             → GivesNext R.bytes P.opened pieces.old ps pieces.new (P.count pieces.new) self.old.source.ty self.old.query
             self.old.source.tail.items given self.new line.new.items result }
-        ensures event { (t : ℕ) → result ≡ Merged.Line t
-            → IsSampleOf self.old.source.ty (record { t = t; line = line.new.items }) }
-        ensures later { (t : ℕ) → result ≡ Merged.Line t → (line_from self.old ≤ t) × (t < line_from self.new) }
         ensures opens { IsTrue R.tells → (ps : List NamedBytes) → P.left pieces.old ps
             → OpensOn R.bytes (P.left pieces.new) self.old.source.piece self.new.source.piece ps result }
-        ensures damaged { IsTrue R.tells → (ps : List NamedBytes) → P.left pieces.old ps → (name : Name) (at : ℕ)
-            → result ≡ Merged.Damaged name at
-            → IsDamaged self.old.source.ty (open_pieces R.bytes self.old.source.piece ++ ps) name at }
-        ensures failed { (failed : Option R) → result ≡ Merged.ReadFault failed
-            → HasFailed R.faults self.old.source.piece (P.count pieces.new < P.count pieces.old)
-            (Rose (P.faults pieces.old) (P.faults pieces.new)) failed }
-        ensures spent { result ≡ Merged.Spent → P.is_spent pieces.new }
         ensures went { Went R.tells R.bytes P.opened P.failed self.old.source.ty pieces.old
             self.old.source.piece result pieces.new self.new.source.piece }
         ensures faults { P.faults pieces.old ≤ P.faults pieces.new }
         ensures count { P.count pieces.new ≤ P.count pieces.old }
-        ensures smaller { (t : ℕ) → result ≡ Merged.Line t
-            → remaining (P.count pieces.new) self.new < remaining (P.count pieces.old) self.old }
         ensures steps { IsTrue R.tells → (ps : List NamedBytes) (xs : List SampleValue) → P.left pieces.old ps
             → Rest R.bytes self.old ps xs
             → TakesFew (P.left pieces.new) ps (steps.old + 4) steps.new }

@@ -1,18 +1,16 @@
 //! The samples of pieces and of a tail, one after another.
-ghost use Rattle.std.specs.Prelude.{◌≡◌, ◌≢◌, ◌≤◌, ◌<◌, ◌+◌, ◌*◌, ◌^◌, ◌↔◌, ◌⊎◌, ◌∷◌, ◌++◌, [], ℕ, List, Option, Some};
-ghost use Rattle.std.specs.Prelude.{None, IfSome, IsSome, IsTrue, IfOk, IfErr, Err, length, take, drop};
-ghost use Rattle.disk_model.specs.Files.{Name, Rose};
+ghost use Rattle.std.specs.Prelude.{◌≡◌, ◌≤◌, ◌<◌, ◌+◌, ◌*◌, ◌^◌, ◌↔◌, ◌∷◌, [], ℕ, List, Some, None, IfSome, IsSome, IsTrue};
+ghost use Rattle.std.specs.Prelude.{IfOk, IfErr, length, drop};
+ghost use Rattle.disk_model.specs.Files.{Rose};
 ghost use Rattle.series_model.specs.declared.sample.Sample.{Sample as SampleValue};
 ghost use Rattle.pb_messages.specs.declared.info.PayloadInfo.{PayloadInfo as Info};
-ghost use Rattle.stream_merge.specs.declared.pieces.Merged.TheVariants as merged;
 ghost use Rattle.stream_merge.specs.Pieces.{NamedBytes};
-ghost use Rattle.stream_merge.specs.Reading.{IsSampleOf, AreSamplesOf, IsBadFor, IsReadAs, IsDamaged};
-ghost use Rattle.stream_merge.specs.Source.{IsReady, IsOpenAs, open_pieces, HasFailed, HasFailedNow, HasRisen, Grew};
-ghost use Rattle.stream_merge.specs.Source.{Coming, ReadsOpen, Pulls, OpensOn, Went, unread, unread_in, IsStop};
-ghost use Rattle.stream_merge.specs.Source.{ClosesAs, IsFailure, IsGiven, IsOfTail, HoldsIn, passed};
-ghost use Rattle.stream_merge.specs.Source.{BeginsAs};
-ghost use Rattle.stream_merge.specs.Beginning.{early_count, IsPlaced, IsAtLine, TellsAs};
-ghost use Rattle.stream_merge.specs.Reads.{HasRead, HasReadOpen, PullsNext, ReadsNext};
+ghost use Rattle.stream_merge.specs.Reading.{AreSamplesOf};
+ghost use Rattle.stream_merge.specs.Source.{IsReady, IsOpenAs, Coming, ReadsOpen, Pulls, OpensOn, Went, IsStop};
+ghost use Rattle.stream_merge.specs.Source.{ClosesAs, IsOfTail, HoldsIn, passed, BeginsPiece, RefusesAs};
+ghost use Rattle.stream_merge.specs.Source.{CameOfOpen, CameOfPull, StopsAs};
+ghost use Rattle.stream_merge.specs.Beginning.{early_count, IsPlaced, TellsAs};
+ghost use Rattle.stream_merge.specs.Reads.{HasRead, HasReadOpen, OpensAt, PullsNext, ReadsNext};
 ghost use Rattle.pb_file.specs.Walk.{behind};
 
 use crate::beginning::skip;
@@ -69,7 +67,11 @@ impl<R: ReadAt> SampleSource<R> {
         requires ready { IsReady R.tells R.bytes self.old.ty self.old.piece }
         requires tail { AreSamplesOf self.old.ty self.old.tail.items }
         requires may { P.may_open pieces.old }
-        ensures ready { IsGiven result → IsReady R.tells R.bytes self.new.ty self.new.piece }
+        ensures came { CameOfPull R.tells R.bytes R.faults (P.count pieces.old) (P.count pieces.new)
+            self.old self.new line.new.items result }
+        ensures stops { StopsAs R.tells R.bytes R.faults self.old.ty self.old.piece (P.left pieces.old)
+            (P.count pieces.new < P.count pieces.old) (Rose (P.faults pieces.old) (P.faults pieces.new))
+            (P.is_spent pieces.new) result }
         ensures same { (self.new.ty ≡ self.old.ty) × (self.new.tail ≡ self.old.tail) }
         ensures lines { IsTrue R.tells → (ps : List NamedBytes) (xs : List SampleValue) → P.left pieces.old ps
             → (c : Coming R.bytes self.old ps xs) → IsPlaced (behind last) query.from c.here
@@ -79,27 +81,12 @@ impl<R: ReadAt> SampleSource<R> {
             → HasRead R.bytes self.old (P.count pieces.old) ps read
             → PullsNext R.bytes P.opened pieces.old ps pieces.new
             (P.count pieces.new) read self.new line.new.items result }
-        ensures event { (t : ℕ) → result ≡ Merged.Line t
-            → IsSampleOf self.old.ty (record { t = t; line = line.new.items }) }
         ensures opens { IsTrue R.tells → (ps : List NamedBytes) → P.left pieces.old ps
             → OpensOn R.bytes (P.left pieces.new) self.old.piece self.new.piece ps result }
-        ensures damaged { IsTrue R.tells → (ps : List NamedBytes) → P.left pieces.old ps → (name : Name) (at : ℕ)
-            → result ≡ Merged.Damaged name at
-            → IsDamaged self.old.ty (open_pieces R.bytes self.old.piece ++ ps) name at }
-        ensures failed { (failed : Option R) → result ≡ Merged.ReadFault failed
-            → HasFailed R.faults self.old.piece (P.count pieces.new < P.count pieces.old)
-            (Rose (P.faults pieces.old) (P.faults pieces.new)) failed }
-        ensures spent { result ≡ Merged.Spent → P.is_spent pieces.new }
         ensures went { Went R.tells R.bytes P.opened P.failed self.old.ty pieces.old
             self.old.piece result pieces.new self.new.piece }
         ensures faults { P.faults pieces.old ≤ P.faults pieces.new }
         ensures count { P.count pieces.new ≤ P.count pieces.old }
-        ensures grew { (t : ℕ) → result ≡ Merged.Line t
-            → (P.count pieces.new < P.count pieces.old) ⊎ Grew R.faults self.old.piece self.new.piece }
-        ensures smaller { (t : ℕ) → result ≡ Merged.Line t
-            → unread (P.count pieces.new) self.new < unread (P.count pieces.old) self.old }
-        ensures no_more { result ≡ Merged.End
-            → unread (P.count pieces.new) self.new ≤ unread (P.count pieces.old) self.old }
     {
         'pieces: loop {
             match self.read_open(line, steps) {
@@ -159,25 +146,14 @@ impl<R: ReadAt> SampleSource<R> {
     // Reads the next line of the open piece. At its end none is open.
     fn read_open<L: Ledger>(&mut self, line: &mut Vec<u8>, steps: &mut Steps<L>) -> Merged<R>
         requires ready { IsReady R.tells R.bytes self.old.ty self.old.piece }
-        ensures ready { (t : ℕ) → result ≡ Merged.Line t → IsReady R.tells R.bytes self.new.ty self.new.piece }
-        ensures closed { result ≡ Merged.End → self.new.piece ≡ None }
+        ensures came { CameOfOpen R.tells R.bytes R.faults self.old.ty self.old.piece self.new.piece
+            line.new.items result }
         ensures ends { self.old.piece ≡ None → result ≡ Merged.End }
         ensures same { self.new ≡ record self.old { piece = self.new.piece } }
         ensures lines { IsTrue R.tells → (xs : List SampleValue) → IsOpenAs R.bytes self.old.piece xs
             → ReadsOpen R.bytes self.new.piece xs line.new.items result }
         ensures reads { IsTrue R.tells → (read : List SampleValue) → HasReadOpen R.bytes self.old.ty self.old.piece read
             → ReadsNext R.bytes self.old.ty self.old.piece self.new.piece read line.new.items result }
-        ensures event { (t : ℕ) → result ≡ Merged.Line t
-            → IsSampleOf self.old.ty (record { t = t; line = line.new.items }) }
-        ensures stays { IsTrue R.tells → (t : ℕ) → result ≡ Merged.Line t
-            → open_pieces R.bytes self.new.piece ≡ open_pieces R.bytes self.old.piece }
-        ensures damaged { IsTrue R.tells → (name : Name) (at : ℕ) → result ≡ Merged.Damaged name at
-            → IsDamaged self.old.ty (open_pieces R.bytes self.old.piece) name at }
-        ensures failed { (failed : Option R) → result ≡ Merged.ReadFault failed
-            → HasRisen R.faults self.old.piece failed }
-        ensures never { result ≢ Merged.Spent }
-        ensures grew { (t : ℕ) → result ≡ Merged.Line t → Grew R.faults self.old.piece self.new.piece }
-        ensures smaller { (t : ℕ) → result ≡ Merged.Line t → unread_in self.new.piece < unread_in self.old.piece }
         ensures counts { steps.old ≤ steps.new }
         ensures one_step { steps.new ≤ steps.old + 1 }
         ensures no_step { result ≡ Merged.End → steps.new ≡ steps.old }
@@ -233,17 +209,8 @@ fn open_at<R: ReadAt, L: Ledger>(
     steps: &mut Steps<L>,
 ) -> Result<OpenPiece<R>, Merged<R>>
     requires bytes { IsTrue R.tells → len ≤ length (R.bytes reader) }
-    ensures ready { IfOk result (λ p. IsReady R.tells R.bytes ty (Some p)) }
-    ensures pieces { IsTrue R.tells → IfOk result (λ p.
-        open_pieces R.bytes (Some p) ≡ record { name = name; bytes = take len (R.bytes reader) } ∷ []) }
-    ensures lines { IsTrue R.tells → (xs : List SampleValue) → IsReadAs ty (take len (R.bytes reader)) xs
-        → IfOk result (λ p. BeginsAs R.bytes (behind last) query p xs) }
-    ensures unread { IsTrue R.tells → IfOk result (λ p. HasReadOpen R.bytes ty (Some p) []) }
-    ensures small { IfOk result (λ p. unread_in (Some p) < 2 ^ 64) }
-    ensures damaged { IsTrue R.tells → (found : Name) (at : ℕ) → result ≡ Err (merged.Damaged found at)
-        → (found ≡ name) × IsBadFor ty (take len (R.bytes reader)) at }
-    ensures failed { (failed : Option R) → result ≡ Err (merged.ReadFault failed) → HasFailedNow R.faults failed }
-    ensures failure { IfErr result IsFailure }
+    ensures opened { IfOk result (OpensAt R.bytes R.tells ty (behind last) query name len reader) }
+    ensures refused { IfErr result (RefusesAs R.tells R.bytes R.faults ty name len reader) }
     ensures counts { steps.old ≤ steps.new }
     ensures steps { (d : ℕ) → len < 2 ^ d → steps.new ≤ steps.old + 4 * d + 5 }
 {
@@ -274,17 +241,8 @@ fn begin<R: ReadAt, L: Ledger>(
     steps: &mut Steps<L>,
 ) -> Result<OpenPiece<R>, Merged<R>>
     requires bytes { IsTrue R.tells → len ≤ length (R.bytes reader) }
-    ensures ready { IfOk result (λ p. IsReady R.tells R.bytes ty (Some p)) }
-    ensures pieces { IsTrue R.tells → IfOk result (λ p.
-        open_pieces R.bytes (Some p) ≡ record { name = name; bytes = take len (R.bytes reader) } ∷ []) }
-    ensures begun { IsTrue R.tells → IfOk result (λ p. IsAtLine p.walk.place p.walk (R.bytes reader)) }
-    ensures same { IfOk result (λ p. (p.walk.len ≡ len) × (p.name ≡ name)) }
-    ensures bytes { IsTrue R.tells → IfOk result (λ p. R.bytes p.reader ≡ R.bytes reader) }
-    ensures small { IfOk result (λ p. unread_in (Some p) < 2 ^ 64) }
-    ensures damaged { IsTrue R.tells → (found : Name) (at : ℕ) → result ≡ Err (merged.Damaged found at)
-        → (found ≡ name) × IsBadFor ty (take len (R.bytes reader)) at }
-    ensures failed { (failed : Option R) → result ≡ Err (merged.ReadFault failed) → HasFailedNow R.faults failed }
-    ensures failure { IfErr result IsFailure }
+    ensures begun { IfOk result (BeginsPiece R.tells R.bytes ty name len reader) }
+    ensures refused { IfErr result (RefusesAs R.tells R.bytes R.faults ty name len reader) }
     ensures counts { steps.old ≤ steps.new }
     ensures one_step { steps.new ≤ steps.old + 1 }
 {

@@ -47,12 +47,12 @@ returns-in_err-sample-in-Line-clause-gave g c =
     let t = c.in-Line.t in
     let subject : Subject = record { name = c.args.name.now; about = c.args.about.now; query = c.args.query } in
     let line = c.next.new.line.items in
-    let event : IsEvent c.args.about.now.ty (record { t = t; line = line }) = event_from c.args.about.now.ty (record { t = t; line = line }) (subst (λ (y : PayloadType). IsSampleOf y (record { t = t; line = line })) inv.ty (c.in-Line.ensures.event t refl)) in
+    let event : IsEvent c.args.about.now.ty (record { t = t; line = line }) = event_from c.args.about.now.ty (record { t = t; line = line }) (subst (λ (y : PayloadType). IsSampleOf y (record { t = t; line = line })) inv.ty (c.in-Line.ensures.line t refl).event) in
     let given = inv.giving.given in
     let breaks : (more : List Sample) → AreEvents subject.about.ty (given ++ record { t = t; line = line } ∷ more) → g.O.Out.broke c.args.out.now subject (given ++ record { t = t; line = line } ∷ more) c.sample-in-Line.new.self =
     subst (λ (l : List ℕ). (more : List Sample) → AreEvents subject.about.ty (given ++ record { t = t; line = l } ∷ more) → g.O.Out.broke c.args.out.now subject (given ++ record { t = t; line = l } ∷ more) c.sample-in-Line.new.self) c.deref.ensures.value (λ more events. c.in_err-sample-in-Line.ensures.broken c.args.out.now subject given more events inv.giving.has) in
     let p = err_from_is_err_and c.from_residual-in_err-sample-in-Line.result c.from_residual-in_err-sample-in-Line.ensures.1 in
-    let low = (c.in-Line.ensures.later t refl).0 in
+    let low = (c.in-Line.ensures.line t refl).later.0 in
     rw p.1 (sample_breaks R.tells R.bytes P.left g.O.Out.gave g.O.Out.broke c.args.about.now.ty c.args.pieces.now c.args.merge c.args.out.now subject c.lines.pieces c.lines.merge c.lines.count (line_from c.lines.merge) c.lines.out inv.giving c.next.new.pieces c.next.new.self t line event low c.in-Line.ensures.lines c.sample-in-Line.new.self p.0 refl breaks)
 
 pub returns-in_err-sample-in-Line-clause-whole : goal.returns-in_err-sample-in-Line-clause-whole
@@ -63,12 +63,12 @@ returns-in_err-sample-in-Line-clause-whole g c tells ps xs is rest all =
     let t = c.in-Line.t in
     let subject : Subject = record { name = c.args.name.now; about = c.args.about.now; query = c.args.query } in
     let line = c.next.new.line.items in
-    let event : IsEvent c.args.about.now.ty (record { t = t; line = line }) = event_from c.args.about.now.ty (record { t = t; line = line }) (subst (λ (y : PayloadType). IsSampleOf y (record { t = t; line = line })) inv.ty (c.in-Line.ensures.event t refl)) in
+    let event : IsEvent c.args.about.now.ty (record { t = t; line = line }) = event_from c.args.about.now.ty (record { t = t; line = line }) (subst (λ (y : PayloadType). IsSampleOf y (record { t = t; line = line })) inv.ty (c.in-Line.ensures.line t refl).event) in
     let given = inv.giving.given in
     let breaks : (more : List Sample) → AreEvents subject.about.ty (given ++ record { t = t; line = line } ∷ more) → g.O.Out.broke c.args.out.now subject (given ++ record { t = t; line = line } ∷ more) c.sample-in-Line.new.self =
     subst (λ (l : List ℕ). (more : List Sample) → AreEvents subject.about.ty (given ++ record { t = t; line = l } ∷ more) → g.O.Out.broke c.args.out.now subject (given ++ record { t = t; line = l } ∷ more) c.sample-in-Line.new.self) c.deref.ensures.value (λ more events. c.in_err-sample-in-Line.ensures.broken c.args.out.now subject given more events inv.giving.has) in
     let p = err_from_is_err_and c.from_residual-in_err-sample-in-Line.result c.from_residual-in_err-sample-in-Line.ensures.1 in
-    let low = (c.in-Line.ensures.later t refl).0 in
+    let low = (c.in-Line.ensures.line t refl).later.0 in
     rw p.1 (sample_breaks_whole R.tells R.bytes P.left g.O.Out.gave g.O.Out.broke c.args.about.now.ty c.args.pieces.now c.args.merge c.args.out.now subject c.lines.pieces c.lines.merge c.lines.count (line_from c.lines.merge) c.lines.out inv.giving c.next.new.pieces c.next.new.self t line event low c.in-Line.ensures.lines c.sample-in-Line.new.self p.0 breaks tells ps xs is rest all)
 
 pub overflow_add-count-in-Line : goal.overflow_add-count-in-Line
@@ -80,8 +80,8 @@ overflow_add-count-in-Line g c =
     let subject : Subject = record { name = c.args.name.now; about = c.args.about.now; query = c.args.query } in
     let line = c.next.new.line.items in
     let s : Sample = record { t = t; line = line } in
-    let event : IsEvent c.args.about.now.ty s = event_from c.args.about.now.ty s (subst (λ (y : PayloadType). IsSampleOf y s) inv.ty (c.in-Line.ensures.event t refl)) in
-    let low = few R.tells R.bytes P.left g.O.Out.gave g.O.Out.broke c.args.about.now.ty c.args.pieces.now c.args.merge c.args.out.now subject c.lines.pieces c.lines.merge c.lines.count (line_from c.lines.merge) c.lines.out inv.giving s event (c.in-Line.ensures.later t refl).0 in
+    let event : IsEvent c.args.about.now.ty s = event_from c.args.about.now.ty s (subst (λ (y : PayloadType). IsSampleOf y s) inv.ty (c.in-Line.ensures.line t refl).event) in
+    let low = few R.tells R.bytes P.left g.O.Out.gave g.O.Out.broke c.args.about.now.ty c.args.pieces.now c.args.merge c.args.out.now subject c.lines.pieces c.lines.merge c.lines.count (line_from c.lines.merge) c.lines.out inv.giving s event (c.in-Line.ensures.line t refl).later.0 in
     search (rules, low)
 
 pub lines-preserved : goal.lines-preserved
@@ -93,15 +93,15 @@ lines-preserved g c =
     let t = c.in-Line.t in
     let subject : Subject = record { name = c.args.name.now; about = c.args.about.now; query = c.args.query } in
     let line = c.next.new.line.items in
-    let event : IsEvent c.args.about.now.ty (record { t = t; line = line }) = event_from c.args.about.now.ty (record { t = t; line = line }) (subst (λ (y : PayloadType). IsSampleOf y (record { t = t; line = line })) inv.ty (c.in-Line.ensures.event t refl)) in
+    let event : IsEvent c.args.about.now.ty (record { t = t; line = line }) = event_from c.args.about.now.ty (record { t = t; line = line }) (subst (λ (y : PayloadType). IsSampleOf y (record { t = t; line = line })) inv.ty (c.in-Line.ensures.line t refl).event) in
     let given = inv.giving.given in
     let has : g.O.Out.gave c.args.out.now subject (given ++ record { t = t; line = line } ∷ []) c.sample-in-Line.new.self =
     subst (λ (l : List ℕ). g.O.Out.gave c.args.out.now subject (given ++ record { t = t; line = l } ∷ []) c.sample-in-Line.new.self) c.deref.ensures.value (c.in_ok-sample-in-Line.ensures.given c.args.out.now subject given inv.giving.has) in
     let goes = goes_joined R.tells R.bytes P.opened P.failed g.met.P.Pieces.opened_on c.args.pieces.now c.lines.pieces c.next.new.pieces None c.lines.merge.source.piece c.next.new.self.source.piece inv.goes c.in-Line.ensures.went in
-    let later = c.in-Line.ensures.later t refl in
+    let later = (c.in-Line.ensures.line t refl).later in
     record {
-      going = c.in-Line.ensures.going t refl;
-      ty = c.in-Line.ensures.ty ∙ inv.ty;
+      going = (c.in-Line.ensures.line t refl).going;
+      ty = c.in-Line.ensures.same.2 ∙ inv.ty;
       may = g.met.P.Pieces.goes_on c.args.pieces.now c.next.new.pieces goes.pieces c.requires.may goes.were;
       faults = omega (arith, inv.faults, c.sample-in-Line.ensures.faults);
       goes = goes;
@@ -146,7 +146,7 @@ returns-in_default-next g c =
     let subject : Subject = record { name = c.args.name.now; about = c.args.about.now; query = c.args.query } in
     let went = went_joined R.tells R.bytes P.opened P.failed g.met.P.Pieces.opened_on g.met.P.Pieces.failed_on c.args.about.now.ty c.lines.merge.source.ty c.args.pieces.now c.lines.pieces c.next.new.pieces None c.lines.merge.source.piece c.next.new.self.source.piece c.next.result inv.ty inv.goes c.next.ensures.went in
     record {
-      gives = stops_by R.tells R.bytes R.faults P.opened P.failed c.args.about.now.ty c.args.pieces.now c.next.new.pieces c.lines.merge.source.piece c.next.new.self.source.piece _ _ c.next.result c.stopped_by.result went c.next.ensures.failed c.stopped_by.ensures;
+      gives = stops_by R.tells R.bytes R.faults P.opened P.failed c.args.about.now.ty c.args.pieces.now c.next.new.pieces c.lines.merge.source.piece c.next.new.self.source.piece _ _ _ _ _ c.next.result c.stopped_by.result went c.next.ensures.stops c.stopped_by.ensures;
       gave = stops_some R.tells R.bytes P.left g.O.Out.gave g.O.Out.broke c.args.about.now.ty c.args.pieces.now c.args.merge c.args.out.now subject c.lines.pieces c.lines.merge c.lines.count (line_from c.lines.merge) c.lines.out inv.giving g.met.O.Out.front c.stopped_by.result refl;
       whole = stops_whole R.tells R.bytes P.left g.O.Out.gave g.O.Out.broke c.args.about.now.ty c.args.pieces.now c.args.merge c.args.out.now subject c.lines.pieces c.lines.merge c.lines.count (line_from c.lines.merge) c.lines.out inv.giving g.met.O.Out.front c.stopped_by.result;
       faults = inv.faults;

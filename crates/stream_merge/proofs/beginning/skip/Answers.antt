@@ -1,4 +1,4 @@
-use Rattle.std.proofs.Common.{◌≡◌, ℕ, ◌+◌, List, Option, Some, sym, ap, subst, take, ◌∙◌, Err}
+use Rattle.std.proofs.Common.{◌≡◌, ℕ, ◌+◌, List, Option, sym, ap, subst, take, ◌∙◌, Err}
 use Rattle.std.proofs.lemmas.Result.{err_from_is_err_and}
 use Rattle.pb_file.specs.declared.search.SearchErr.{SearchErr}
 use Rattle.pb_file.specs.declared.search.SearchErr.TheVariants as search_err

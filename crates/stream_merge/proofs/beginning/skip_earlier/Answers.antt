@@ -1,4 +1,4 @@
-use Rattle.std.proofs.Common.{◌≡◌, ℕ, ◌≤◌, inr, List, Option, Some, None, sym, subst, take, ◌∙◌, Err, ap}
+use Rattle.std.proofs.Common.{◌≡◌, ℕ, ◌≤◌, inr, List, Option, sym, subst, take, ◌∙◌, Err, ap}
 use Rattle.std.proofs.lemmas.Result.{err_from_is_err_and}
 use Rattle.pb_file.specs.declared.search.SearchErr.{SearchErr}
 use Rattle.pb_file.specs.declared.search.SearchErr.TheVariants as search_err

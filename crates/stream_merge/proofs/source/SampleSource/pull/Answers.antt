@@ -1,17 +1,17 @@
 use Rattle.std.proofs.Common.{◌≡◌, ◌+◌, ◌++◌, ◌∷◌, [], List, Some, None, inl, inr, refl, sym, ap, ◌∙◌, subst, take, arith, append-nil}
 use Rattle.std.proofs.lemmas.List.{length-take-le}
-use Rattle.series_model.specs.declared.sample.Sample.{Sample}
 use Rattle.pb_file.specs.Walk.{behind}
 use Rattle.pb_wire.specs.declared.payload.PayloadType.{PayloadType}
 use Rattle.stream_merge.specs.declared.source.SampleSource.{SampleSource}
 use Rattle.stream_merge.specs.Pieces.{NamedBytes, Faulted, OutOfActs, OutOfMemory}
-use Rattle.stream_merge.specs.Reading.{IsSampleOf, AreSamplesOf, IsDamaged}
-use Rattle.stream_merge.specs.Source.{open_pieces, IsReady, Pulls}
+use Rattle.stream_merge.specs.Reading.{AreSamplesOf}
+use Rattle.stream_merge.specs.Source.{CameOfPull, Pulls, RefusesAs, open_pieces}
 use Rattle.stream_merge.specs.Beginning.{early_count}
-use Rattle.stream_merge.proofs.Coming.{proceeds_first, proceeds_at, proceeds_ended, proceeds_opened, fails_opened, fails_there, pulls_failed, pulls_tail, pulls_open, passes_end, passes_opened, passes_none, passed_all, damaged_in, damaged_one, failed_open, failed_first, grew_since, opens_open, opens_any, given_ready, less_open, less_opened, tail_event, none_left, err_is}
-use Rattle.stream_merge.proofs.Went.{goes_nowhere, goes_opened, goes_none, went_open, went_begun, went_tail, failure_of}
+use Rattle.stream_merge.proofs.Coming.{proceeds_first, proceeds_at, proceeds_ended, proceeds_opened, fails_opened, fails_there, pulls_tail, pulls_open, passes_end, passes_opened, passes_none, passed_all, opens_open, opens_any, less_opened}
+use Rattle.stream_merge.proofs.Came.{came_open, came_refused, came_tail, pulls_refused, reads_refused, stays_of, stops_open, stops_refused, stops_tail}
+use Rattle.stream_merge.proofs.Went.{goes_nowhere, goes_opened, goes_none, went_open, went_begun, went_tail}
 use Rattle.stream_merge.specs.Reads.{HasRead, HasReadOpen, PullsNext}
-use Rattle.stream_merge.proofs.SoFar.{read_ended, read_opened, read_same, reads_first, reads_then, pulls_more, pulls_of_tail, pulls_none}
+use Rattle.stream_merge.proofs.SoFar.{read_ended, read_opened, read_same, reads_first, reads_then, pulls_more, pulls_of_tail}
 use Rattle.stream_merge.proofs.source.SampleSource.pull.Goals as goal
 
 pub returns-in_default : goal.returns-in_default
@@ -25,8 +25,12 @@ returns-in_default g c =
     let r = c.read_open.result in
     let first = c.args.self.now.piece in
     let left = P.left c.pieces.pieces in
+    let stays = stays_of R.tells R.bytes R.faults s.ty s.piece new.piece c.read_open.new.line.items r e.came in
     record {
-      ready = given_ready r (IsReady R.tells R.bytes new.ty new.piece) e.ready (λ is. absurd (c.in_default.not-End is));
+      came =
+          let N : SampleSource g.row.R.Denot → Type 0 = λ x. CameOfPull R.tells R.bytes R.faults (P.count c.args.pieces.now) (P.count c.pieces.pieces) c.args.self.now x c.read_open.new.line.items r in
+          subst N (sym e.same) (came_open R.tells R.bytes R.faults (P.count c.args.pieces.now) (P.count c.pieces.pieces) c.args.self.now s new.piece c.read_open.new.line.items r inv.same.0 inv.since inv.smaller e.came c.in_default.not-End);
+      stops = stops_open R.tells R.bytes R.faults left (P.left c.args.pieces.now) _ _ _ c.args.self.now.ty s.ty first s.piece new.piece c.read_open.new.line.items r inv.same.0 inv.since inv.opens e.came;
       same = (ap (λ (x : SampleSource g.row.R.Denot). x.ty) e.same ∙ inv.same.0, ap (λ (x : SampleSource g.row.R.Denot). x.tail) e.same ∙ inv.same.1);
       lines = λ tells ps xs is coming placed.
           let n = behind c.args.last in
@@ -37,22 +41,11 @@ returns-in_default g c =
           subst N (sym e.same) (pulls_open R.bytes left n q ps xs room s new.piece c.pieces.steps c.read_open.new.steps line r (inv.lines tells ps xs is coming placed) (e.lines tells) e.one_step c.in_default.not-End);
       reads = λ tells ps read has.
           let N : SampleSource g.row.R.Denot → Type 0 = λ x. PullsNext R.bytes P.opened c.args.pieces.now ps c.pieces.pieces (P.count c.pieces.pieces) read x c.read_open.new.line.items r in
-          subst N (sym e.same) (pulls_more R.bytes P.opened c.args.pieces.now c.pieces.pieces ps (P.count c.pieces.pieces) s new.piece read c.read_open.new.line.items r (e.stays tells) e.ends (e.reads tells) c.in_default.not-End (inv.reads tells ps read has));
-      event = λ t is. let Q : PayloadType → Type 0 = λ ty. IsSampleOf ty (record { t = t; line = c.read_open.new.line.items }) in subst Q inv.same.0 (e.event t is);
-      opens = λ tells ps is. opens_open R.bytes left first s.piece new.piece ps r (e.stays tells) c.in_default.not-End (inv.opens tells ps is);
-      damaged = λ tells ps is name at bad.
-          let p = inv.opens tells ps is in
-          let all = open_pieces R.bytes first ++ ps in
-          let Q : PayloadType → Type 0 = λ ty. IsDamaged ty all name at in
-          subst Q inv.same.0 (damaged_in s.ty all p.passed (open_pieces R.bytes s.piece) p.rest name at p.are (e.damaged tells name at bad));
-      failed = λ failed is. failed_open R.faults first s.piece _ _ failed inv.since (e.failed failed is);
-      spent = λ is. absurd (e.never is);
-      went = went_open R.tells R.bytes P.opened P.failed c.args.self.now.ty s.ty c.args.pieces.now c.pieces.pieces first s.piece new.piece R.faults r inv.same.0 inv.went e.stays e.damaged e.failed e.never c.in_default.not-End;
+          subst N (sym e.same) (pulls_more R.bytes P.opened c.args.pieces.now c.pieces.pieces ps (P.count c.pieces.pieces) s new.piece read c.read_open.new.line.items r (stays tells) e.ends (e.reads tells) c.in_default.not-End (inv.reads tells ps read has));
+      opens = λ tells ps is. opens_open R.bytes left first s.piece new.piece ps r (stays tells) c.in_default.not-End (inv.opens tells ps is);
+      went = went_open R.tells R.bytes P.opened P.failed c.args.self.now.ty s.ty c.args.pieces.now c.pieces.pieces first s.piece new.piece R.faults c.read_open.new.line.items r inv.same.0 inv.went e.came c.in_default.not-End;
       faults = inv.faults;
       count = inv.count;
-      grew = λ t is. grew_since R.faults first s.piece new.piece _ (e.grew t is) inv.since;
-      smaller = λ t is. less_open (P.count c.pieces.pieces) _ s new e.same (e.smaller t is) inv.smaller;
-      no_more = λ is. absurd (c.in_default.not-End is);
     }
 
 pub pieces-preserved : goal.pieces-preserved
@@ -66,9 +59,10 @@ pieces-preserved g c =
     let new = c.read_open.new.self in
     let p = c.in-Ok.piece in
     let n : NamedBytes = record { name = c.in-Piece.name; bytes = take c.in-Piece.len (R.bytes c.in-Piece.reader) } in
-    let none : new.piece ≡ None = e.closed refl in
+    let none : new.piece ≡ None = e.came in
+    let opened = c.in-Ok.ensures.opened in
     record {
-      ready = c.in-Ok.ensures.ready;
+      ready = opened.ready;
       same = (ap (λ (x : SampleSource g.row.R.Denot). x.ty) e.same ∙ inv.same.0, ap (λ (x : SampleSource g.row.R.Denot). x.tail) e.same ∙ inv.same.1, ap (λ (x : SampleSource g.row.R.Denot). x.at) e.same ∙ inv.same.2);
       lines = λ tells ps xs is coming placed.
           let k = behind c.args.last in
@@ -77,7 +71,7 @@ pieces-preserved g c =
           let left = P.left c.pieces.pieces in
           let a = proceeds_at R.bytes left k q ps xs room (record s { piece = new.piece }) new c.read_open.new.steps e.same (proceeds_ended R.bytes left k q ps xs room s new.piece c.pieces.steps c.read_open.new.steps none (e.lines tells) (e.no_step refl) (inv.lines tells ps xs is coming placed)) in
           let over = o.opens tells a.still.pieces a.still.left_is in
-          proceeds_opened R.bytes left (P.left c.open_next.new.self) k q ps xs room new p n over.rest c.in-Piece.len c.read_open.new.steps c.open_at.new.steps none a over.first over.others (c.in-Ok.ensures.lines tells) (length-take-le c.in-Piece.len (R.bytes c.in-Piece.reader) (o.bytes tells)) c.in-Ok.ensures.steps;
+          proceeds_opened R.bytes left (P.left c.open_next.new.self) k q ps xs room new p n over.rest c.in-Piece.len c.read_open.new.steps c.open_at.new.steps none a over.first over.others (opened.lines tells) (length-take-le c.in-Piece.len (R.bytes c.in-Piece.reader) (o.bytes tells)) c.in-Ok.ensures.steps;
       reads = λ tells ps read has.
           let on = inv.reads tells ps read has in
           let k = P.count c.pieces.pieces in
@@ -85,45 +79,46 @@ pieces-preserved g c =
           let back = ap (λ (x : SampleSource g.row.R.Denot). record x { piece = Some p }) e.same in
           let fresh : HasReadOpen R.bytes s.ty (Some p) [] = (
           let Q : PayloadType → Type 0 = λ ty. HasReadOpen R.bytes ty (Some p) [] in
-          subst Q (ap (λ (x : SampleSource g.row.R.Denot). x.ty) e.same) (c.in-Ok.ensures.unread tells)
+          subst Q (ap (λ (x : SampleSource g.row.R.Denot). x.ty) e.same) (opened.unread tells)
           ) in
           reads_then R.bytes P.opened g.met.P.Pieces.opened_on c.args.pieces.now c.pieces.pieces c.open_next.new.self ps (n ∷ []) k (P.count c.open_next.new.self) s (record new { piece = Some p }) read read o.leads on
           (λ h. read_same R.bytes (record gone { piece = Some p }) (record new { piece = Some p }) (P.count c.open_next.new.self) (P.count c.open_next.new.self) ((ps ++ on.more) ++ n ∷ []) read back refl
-          (read_opened R.bytes gone p n k (P.count c.open_next.new.self) (ps ++ on.more) read none o.count (c.in-Ok.ensures.pieces tells) fresh (read_ended R.bytes s new.piece k (ps ++ on.more) read none (e.reads tells) h)));
+          (read_opened R.bytes gone p n k (P.count c.open_next.new.self) (ps ++ on.more) read none o.count (opened.pieces tells) fresh (read_ended R.bytes s new.piece k (ps ++ on.more) read none (e.reads tells) h)));
       opens = λ tells ps is.
           let all = open_pieces R.bytes c.args.self.now.piece ++ ps in
           let passed = passes_end R.bytes (P.left c.pieces.pieces) all s.piece new.piece none (inv.opens tells ps is) in
           let over = o.opens tells passed.rest passed.left_is in
-          passes_opened R.bytes (P.left c.open_next.new.self) all (Some p) passed.passed passed.rest over.rest n (passed_all R.bytes (P.left c.pieces.pieces) all new.piece none passed) over.first (c.in-Ok.ensures.pieces tells) over.others;
+          passes_opened R.bytes (P.left c.open_next.new.self) all (Some p) passed.passed passed.rest over.rest n (passed_all R.bytes (P.left c.pieces.pieces) all new.piece none passed) over.first (opened.pieces tells) over.others;
       since = inl (omega (arith, o.count, inv.count));
       may = g.met.P.Pieces.goes_on c.pieces.pieces c.open_next.new.self (n ∷ []) inv.may o.leads;
-      went = goes_opened R.tells R.bytes P.opened P.failed g.met.P.Pieces.opened_on c.args.pieces.now c.pieces.pieces c.open_next.new.self c.args.self.now.piece s.piece (Some p) n inv.went o.leads c.in-Ok.ensures.pieces;
+      went = goes_opened R.tells R.bytes P.opened P.failed g.met.P.Pieces.opened_on c.args.pieces.now c.pieces.pieces c.open_next.new.self c.args.self.now.piece s.piece (Some p) n inv.went o.leads opened.pieces;
       faults = omega (arith, o.faults, inv.faults);
       count = omega (arith, o.count, inv.count);
-      smaller = less_opened (P.count c.pieces.pieces) (P.count c.open_next.new.self) _ s new p e.same o.count c.in-Ok.ensures.small inv.smaller;
+      smaller = less_opened (P.count c.pieces.pieces) (P.count c.open_next.new.self) _ s new p e.same o.count opened.small inv.smaller;
     }
 
-pub returns-in-Err-clause-damaged : goal.returns-in-Err-clause-damaged
-returns-in-Err-clause-damaged g c tells ps is name at bad =
+pub returns-in-Err-clause-came : goal.returns-in-Err-clause-came
+returns-in-Err-clause-came g c =
+    let R = g.R.ReadAt in
+    came_refused R.tells R.bytes R.faults c.read_open.new.self.ty c.in-Piece.name c.in-Piece.len c.in-Piece.reader _ _ _ _ _ c.in-Err.merged c.in-Err.ensures.refused
+
+pub returns-in-Err-clause-stops : goal.returns-in-Err-clause-stops
+returns-in-Err-clause-stops g c =
     let R = g.R.ReadAt in
     let P = g.P.Pieces in
     let inv = c.pieces.invariant in
     let e = c.in-End.ensures in
     let s = c.pieces.self in
     let new = c.read_open.new.self in
-    let none : new.piece ≡ None = e.closed refl in
-    let all = open_pieces R.bytes c.args.self.now.piece ++ ps in
-    let n : NamedBytes = record { name = c.in-Piece.name; bytes = take c.in-Piece.len (R.bytes c.in-Piece.reader) } in
-    let passed = passes_end R.bytes (P.left c.pieces.pieces) all s.piece new.piece none (inv.opens tells ps is) in
+    let first = c.args.self.now.piece in
+    let T : PayloadType → Type 0 = λ y. RefusesAs R.tells R.bytes R.faults y c.in-Piece.name c.in-Piece.len c.in-Piece.reader c.in-Err.merged in
+    let why = subst T (ap (λ (x : SampleSource g.row.R.Denot). x.ty) e.same ∙ inv.same.0) c.in-Err.ensures.refused in
+    stops_refused R.tells R.bytes R.faults c.args.self.now.ty c.in-Piece.name c.in-Piece.len c.in-Piece.reader first (P.left c.args.pieces.now) _ _ _ c.in-Err.merged (omega (arith, c.in-Piece.ensures.count, inv.count))
+    (λ tells ps is.
+    let all = open_pieces R.bytes first ++ ps in
+    let passed = passes_end R.bytes (P.left c.pieces.pieces) all s.piece new.piece e.came (inv.opens tells ps is) in
     let over = c.in-Piece.ensures.opens tells passed.rest passed.left_is in
-    let found = c.open_at.ensures.damaged tells name at (err_is c.open_at.result c.in-Err.merged _ c.in-Err.is bad) in
-    let Q : PayloadType → Type 0 = λ ty. IsDamaged ty all name at in
-    subst Q (ap (λ (x : SampleSource g.row.R.Denot). x.ty) e.same ∙ inv.same.0) (damaged_in new.ty all passed.passed (n ∷ []) over.rest name at (passed_all R.bytes (P.left c.pieces.pieces) all new.piece none passed ∙ ap (λ (l : List NamedBytes). passed.passed ++ l) over.first) (damaged_one new.ty n name at found.0 found.1))
-
-pub returns-in-Err-clause-failed : goal.returns-in-Err-clause-failed
-returns-in-Err-clause-failed g c failed is =
-    let R = g.R.ReadAt in
-    failed_first R.faults c.args.self.now.piece _ _ failed (omega (arith, c.in-Piece.ensures.count, c.pieces.invariant.count)) (c.open_at.ensures.failed failed (err_is c.open_at.result c.in-Err.merged _ c.in-Err.is is))
+    (passed.passed, over.rest, passed_all R.bytes (P.left c.pieces.pieces) all new.piece e.came passed ∙ ap (λ (l : List NamedBytes). passed.passed ++ l) over.first)) why
 
 pub returns-in-NoMore-clause-lines : goal.returns-in-NoMore-clause-lines
 returns-in-NoMore-clause-lines g c tells ps xs is coming placed =
@@ -136,9 +131,9 @@ returns-in-NoMore-clause-lines g c tells ps xs is coming placed =
     let q = c.args.query in
     let room = c.args.steps.now + early_count q.from coming.here in
     let left = P.left c.pieces.pieces in
-    let a = proceeds_at R.bytes left k q ps xs room (record s { piece = new.piece }) new c.read_open.new.steps e.same (proceeds_ended R.bytes left k q ps xs room s new.piece c.pieces.steps c.read_open.new.steps (e.closed refl) (e.lines tells) (e.no_step refl) (c.pieces.invariant.lines tells ps xs is coming placed)) in
+    let a = proceeds_at R.bytes left k q ps xs room (record s { piece = new.piece }) new c.read_open.new.steps e.same (proceeds_ended R.bytes left k q ps xs room s new.piece c.pieces.steps c.read_open.new.steps e.came (e.lines tells) (e.no_step refl) (c.pieces.invariant.lines tells ps xs is coming placed)) in
     let last = c.read_tail.new.self in
-    let none : new.piece ≡ None = e.closed refl in
+    let none : new.piece ≡ None = e.came in
     let over = c.in-NoMore.ensures.opens tells a.still.pieces a.still.left_is in
     pulls_tail R.bytes left (P.left c.open_next.new.self) k q ps xs room new last c.read_open.new.steps c.read_tail.new.line.items c.read_tail.result a none (ap (λ (x : SampleSource g.row.R.Denot). x.piece) c.read_tail.ensures.same ∙ none) over.0 over.1 c.read_tail.ensures.line c.read_tail.ensures.end
 
@@ -153,12 +148,12 @@ returns-in-Err-clause-lines g c tells ps xs is coming placed =
     let q = c.args.query in
     let room = c.args.steps.now + early_count q.from coming.here in
     let left = P.left c.pieces.pieces in
-    let a = proceeds_at R.bytes left k q ps xs room (record s { piece = new.piece }) new c.read_open.new.steps e.same (proceeds_ended R.bytes left k q ps xs room s new.piece c.pieces.steps c.read_open.new.steps (e.closed refl) (e.lines tells) (e.no_step refl) (c.pieces.invariant.lines tells ps xs is coming placed)) in
+    let a = proceeds_at R.bytes left k q ps xs room (record s { piece = new.piece }) new c.read_open.new.steps e.same (proceeds_ended R.bytes left k q ps xs room s new.piece c.pieces.steps c.read_open.new.steps e.came (e.lines tells) (e.no_step refl) (c.pieces.invariant.lines tells ps xs is coming placed)) in
     let n : NamedBytes = record { name = c.in-Piece.name; bytes = take c.in-Piece.len (R.bytes c.in-Piece.reader) } in
     let o = c.in-Piece.ensures in
     let over = o.opens tells a.still.pieces a.still.left_is in
     let few = fails_opened R.bytes left (P.left c.open_next.new.self) k q ps xs room new n over.rest c.in-Piece.len c.read_open.new.steps c.open_at.new.steps a over.first over.others (length-take-le c.in-Piece.len (R.bytes c.in-Piece.reader) (o.bytes tells)) c.open_at.ensures.steps in
-    pulls_failed R.bytes (P.left c.open_next.new.self) k q ps xs room new c.open_at.new.line.items c.open_at.new.steps c.in-Err.merged (failure_of c.open_at.result c.in-Err.merged c.in-Err.is c.open_at.ensures.failure) few
+    pulls_refused R.tells R.bytes R.faults _ _ _ _ (P.left c.open_next.new.self) k q ps xs room new c.open_at.new.line.items c.open_at.new.steps c.in-Err.merged c.in-Err.ensures.refused few
 
 pub returns-in-ReadFault-clause-lines : goal.returns-in-ReadFault-clause-lines
 returns-in-ReadFault-clause-lines g c tells ps xs is coming placed =
@@ -171,7 +166,7 @@ returns-in-ReadFault-clause-lines g c tells ps xs is coming placed =
     let q = c.args.query in
     let room = c.args.steps.now + early_count q.from coming.here in
     let left = P.left c.pieces.pieces in
-    let a = proceeds_at R.bytes left k q ps xs room (record s { piece = new.piece }) new c.read_open.new.steps e.same (proceeds_ended R.bytes left k q ps xs room s new.piece c.pieces.steps c.read_open.new.steps (e.closed refl) (e.lines tells) (e.no_step refl) (c.pieces.invariant.lines tells ps xs is coming placed)) in
+    let a = proceeds_at R.bytes left k q ps xs room (record s { piece = new.piece }) new c.read_open.new.steps e.same (proceeds_ended R.bytes left k q ps xs room s new.piece c.pieces.steps c.read_open.new.steps e.came (e.lines tells) (e.no_step refl) (c.pieces.invariant.lines tells ps xs is coming placed)) in
     fails_there R.bytes left (P.left c.open_next.new.self) k q ps xs room new c.read_open.new.steps a (c.in-ReadFault.ensures.opens tells a.still.pieces a.still.left_is)
 
 pub returns-in-Spent-clause-lines : goal.returns-in-Spent-clause-lines
@@ -185,7 +180,7 @@ returns-in-Spent-clause-lines g c tells ps xs is coming placed =
     let q = c.args.query in
     let room = c.args.steps.now + early_count q.from coming.here in
     let left = P.left c.pieces.pieces in
-    let a = proceeds_at R.bytes left k q ps xs room (record s { piece = new.piece }) new c.read_open.new.steps e.same (proceeds_ended R.bytes left k q ps xs room s new.piece c.pieces.steps c.read_open.new.steps (e.closed refl) (e.lines tells) (e.no_step refl) (c.pieces.invariant.lines tells ps xs is coming placed)) in
+    let a = proceeds_at R.bytes left k q ps xs room (record s { piece = new.piece }) new c.read_open.new.steps e.same (proceeds_ended R.bytes left k q ps xs room s new.piece c.pieces.steps c.read_open.new.steps e.came (e.lines tells) (e.no_step refl) (c.pieces.invariant.lines tells ps xs is coming placed)) in
     fails_there R.bytes left (P.left c.open_next.new.self) k q ps xs room new c.read_open.new.steps a (c.in-Spent.ensures.opens tells a.still.pieces a.still.left_is)
 
 pub returns-in-Memory-clause-lines : goal.returns-in-Memory-clause-lines
@@ -199,7 +194,7 @@ returns-in-Memory-clause-lines g c tells ps xs is coming placed =
     let q = c.args.query in
     let room = c.args.steps.now + early_count q.from coming.here in
     let left = P.left c.pieces.pieces in
-    let a = proceeds_at R.bytes left k q ps xs room (record s { piece = new.piece }) new c.read_open.new.steps e.same (proceeds_ended R.bytes left k q ps xs room s new.piece c.pieces.steps c.read_open.new.steps (e.closed refl) (e.lines tells) (e.no_step refl) (c.pieces.invariant.lines tells ps xs is coming placed)) in
+    let a = proceeds_at R.bytes left k q ps xs room (record s { piece = new.piece }) new c.read_open.new.steps e.same (proceeds_ended R.bytes left k q ps xs room s new.piece c.pieces.steps c.read_open.new.steps e.came (e.lines tells) (e.no_step refl) (c.pieces.invariant.lines tells ps xs is coming placed)) in
     fails_there R.bytes left (P.left c.open_next.new.self) k q ps xs room new c.read_open.new.steps a (c.in-Memory.ensures.opens tells a.still.pieces a.still.left_is)
 
 pub returns-in-NoMore-clause-reads : goal.returns-in-NoMore-clause-reads
@@ -212,7 +207,7 @@ returns-in-NoMore-clause-reads g c tells ps read has =
     let new = c.read_open.new.self in
     let k = P.count c.pieces.pieces in
     let now = P.count c.open_next.new.self in
-    let none : new.piece ≡ None = e.closed refl in
+    let none : new.piece ≡ None = e.came in
     let on = c.pieces.invariant.reads tells ps read has in
     let over = reads_then R.bytes P.opened g.met.P.Pieces.opened_on c.args.pieces.now c.pieces.pieces c.open_next.new.self ps [] k now s new read read o.leads on
     (λ h. let Q : List NamedBytes → Type 0 = λ l. HasRead R.bytes new now l read in
@@ -223,17 +218,25 @@ pub returns-in-Err-clause-reads : goal.returns-in-Err-clause-reads
 returns-in-Err-clause-reads g c tells ps read has =
     let R = g.R.ReadAt in
     let P = g.P.Pieces in
-    pulls_none R.bytes P.opened c.args.pieces.now c.open_next.new.self ps (P.count c.open_next.new.self) c.read_open.new.self read c.open_at.new.line.items c.in-Err.merged (failure_of c.open_at.result c.in-Err.merged c.in-Err.is c.open_at.ensures.failure)
+    reads_refused R.tells R.bytes R.faults _ _ _ _ P.opened c.args.pieces.now c.open_next.new.self ps (P.count c.open_next.new.self) c.read_open.new.self read c.open_at.new.line.items c.in-Err.merged c.in-Err.ensures.refused
 
-pub returns-in-NoMore-clause-event : goal.returns-in-NoMore-clause-event
-returns-in-NoMore-clause-event g c t is =
+pub returns-in-NoMore-clause-came : goal.returns-in-NoMore-clause-came
+returns-in-NoMore-clause-came g c =
+    let R = g.R.ReadAt in
+    let P = g.P.Pieces in
     let new = c.read_open.new.self in
+    let e = c.in-End.ensures in
     let inv = c.pieces.invariant in
-    let same = c.in-End.ensures.same in
-    let tail : new.tail ≡ c.args.self.now.tail = ap (λ (x : SampleSource g.row.R.Denot). x.tail) same ∙ inv.same.1 in
-    let s : Sample = record { t = t; line = c.read_tail.new.line.items } in
-    let P : _ → Type 0 = λ x. AreSamplesOf c.args.self.now.ty x.items in
-    tail_event c.args.self.now.ty new.at new.tail.items _ s (subst P (sym tail) c.requires.tail) (c.read_tail.ensures.line t is)
+    let tail : new.tail ≡ c.args.self.now.tail = ap (λ (x : SampleSource g.row.R.Denot). x.tail) e.same ∙ inv.same.1 in
+    let S : _ → Type 0 = λ x. AreSamplesOf c.args.self.now.ty x.items in
+    let read = c.read_tail.ensures in
+    came_tail R.tells R.bytes R.faults (P.count c.args.pieces.now) (P.count c.pieces.pieces) (P.count c.open_next.new.self) c.args.self.now c.pieces.self new c.read_tail.new.self c.read_tail.new.line.items c.read_tail.result (subst S (sym tail) c.requires.tail) e.same e.came read.same
+    c.in-NoMore.ensures.count inv.smaller read.line read.end read.smaller
+
+pub returns-in-NoMore-clause-stops : goal.returns-in-NoMore-clause-stops
+returns-in-NoMore-clause-stops g c =
+    let R = g.R.ReadAt in
+    stops_tail R.tells R.bytes R.faults c.args.self.now.ty c.args.self.now.piece (g.P.Pieces.left c.args.pieces.now) _ _ _ c.read_tail.result c.read_tail.ensures.whole
 
 pub returns-in-NoMore-clause-opens : goal.returns-in-NoMore-clause-opens
 returns-in-NoMore-clause-opens g c tells ps is =
@@ -245,16 +248,11 @@ returns-in-NoMore-clause-opens g c tells ps is =
     let first = c.args.self.now.piece in
     let all = open_pieces R.bytes first ++ ps in
     let left = P.left c.open_next.new.self in
-    let none : new.piece ≡ None = c.in-End.ensures.closed refl in
+    let none : new.piece ≡ None = c.in-End.ensures.came in
     let passed = passes_end R.bytes (P.left c.pieces.pieces) all c.pieces.self.piece new.piece none (inv.opens tells ps is) in
     let over = c.in-NoMore.ensures.opens tells passed.rest passed.left_is in
     opens_any R.bytes left first last.piece ps c.read_tail.result
     (passes_none R.bytes left all passed.passed passed.rest last.piece (ap (λ (x : SampleSource g.row.R.Denot). x.piece) c.read_tail.ensures.same ∙ none) (passed_all R.bytes (P.left c.pieces.pieces) all new.piece none passed) over.0 over.1)
-
-pub returns-in-NoMore-clause-no_more : goal.returns-in-NoMore-clause-no_more
-returns-in-NoMore-clause-no_more g c is =
-    let P = g.P.Pieces in
-    none_left (P.count c.pieces.pieces) (P.count c.open_next.new.self) _ c.pieces.self c.read_open.new.self c.read_tail.new.self c.in-End.ensures.same (c.in-End.ensures.closed refl) (c.read_tail.ensures.end is).1 c.in-NoMore.ensures.count c.pieces.invariant.smaller
 
 pub pieces-init : goal.pieces-init
 pieces-init g c =
@@ -282,14 +280,9 @@ returns-in-Err-clause-went g c =
     let inv = c.pieces.invariant in
     let s = c.pieces.self in
     let new = c.read_open.new.self in
-    let n : NamedBytes = record { name = c.in-Piece.name; bytes = take c.in-Piece.len (R.bytes c.in-Piece.reader) } in
-    let ty : new.ty ≡ c.args.self.now.ty = ap (λ (x : SampleSource g.row.R.Denot). x.ty) c.in-End.ensures.same ∙ inv.same.0 in
-    went_begun R.tells R.bytes P.opened P.failed g.met.P.Pieces.opened_on c.args.self.now.ty c.args.pieces.now c.pieces.pieces c.open_next.new.self c.args.self.now.piece s.piece new.piece n R.faults c.in-Err.merged inv.went c.in-Piece.ensures.leads
-    (λ tells name at is.
-    let found = c.open_at.ensures.damaged tells name at (err_is c.open_at.result c.in-Err.merged _ c.in-Err.is is) in
-    let Q : PayloadType → Type 0 = λ y. IsDamaged y (n ∷ []) name at in
-    subst Q ty (damaged_one new.ty n name at found.0 found.1))
-    (λ failed is. c.open_at.ensures.failed failed (err_is c.open_at.result c.in-Err.merged _ c.in-Err.is is)) (failure_of c.open_at.result c.in-Err.merged c.in-Err.is c.open_at.ensures.failure)
+    let T : PayloadType → Type 0 = λ y. RefusesAs R.tells R.bytes R.faults y c.in-Piece.name c.in-Piece.len c.in-Piece.reader c.in-Err.merged in
+    let why = subst T (ap (λ (x : SampleSource g.row.R.Denot). x.ty) c.in-End.ensures.same ∙ inv.same.0) c.in-Err.ensures.refused in
+    went_begun R.tells R.bytes P.opened P.failed g.met.P.Pieces.opened_on c.args.self.now.ty c.args.pieces.now c.pieces.pieces c.open_next.new.self c.args.self.now.piece s.piece new.piece c.in-Piece.name c.in-Piece.len c.in-Piece.reader R.faults c.in-Err.merged inv.went c.in-Piece.ensures.leads why
 
 pub returns-in-NoMore-clause-went : goal.returns-in-NoMore-clause-went
 returns-in-NoMore-clause-went g c =
@@ -297,7 +290,7 @@ returns-in-NoMore-clause-went g c =
     let P = g.P.Pieces in
     let inv = c.pieces.invariant in
     let last = c.read_tail.new.self in
-    let none : last.piece ≡ None = ap (λ (x : SampleSource g.row.R.Denot). x.piece) c.read_tail.ensures.same ∙ c.in-End.ensures.closed refl in
+    let none : last.piece ≡ None = ap (λ (x : SampleSource g.row.R.Denot). x.piece) c.read_tail.ensures.same ∙ c.in-End.ensures.came in
     went_tail R.tells R.bytes P.opened P.failed g.met.P.Pieces.opened_on c.args.self.now.ty c.args.pieces.now c.open_next.new.self c.args.self.now.piece last.piece c.read_tail.result c.read_tail.ensures.whole
     (goes_none R.tells R.bytes P.opened P.failed g.met.P.Pieces.opened_on c.args.pieces.now c.pieces.pieces c.open_next.new.self c.args.self.now.piece c.pieces.self.piece last.piece inv.went c.in-NoMore.ensures.leads none)
 
