@@ -13,3 +13,4 @@ pub mod Serving
 pub mod Sessions
 pub mod Tallying
 pub mod World
+pub mod Getting

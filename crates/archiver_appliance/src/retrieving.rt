@@ -1,23 +1,21 @@
 // `get`: the answer of a variable.
 ghost use Rattle.std.specs.Prelude.{◌≡◌, ◌≤◌, ◌⊎◌, ℕ, List, Option, IsTrue};
-ghost use Rattle.disk_model.specs.Files.{Name, Rose as DiskRose};
-ghost use Rattle.disk_model.specs.Past.{Passes};
+ghost use Rattle.disk_model.specs.Files.{Rose as DiskRose};
 ghost use Rattle.edge_io.specs.Stream.{Rose};
 ghost use Rattle.tier_store.specs.Change.{Has};
 ghost use Rattle.tier_store.specs.Seen.{seen};
 ghost use Rattle.tier_store.specs.Stores.{Stores};
-ghost use Rattle.store_reopen.specs.Reopen.{IsUnopened, lists_of};
+ghost use Rattle.store_reopen.specs.Reopen.{lists_of};
 ghost use Rattle.act_model.specs.Machine.{Machine};
 ghost use Rattle.archive_core.specs.Parts.{parts};
 ghost use Rattle.archive_core.specs.Stands.{Stands};
 ghost use Rattle.archiver_appliance.specs.Acting.{IsFresh, IsNotMade};
-ghost use Rattle.archiver_appliance.specs.Judging.{IsDamagedFile, IsOfOpened, IsOneOf};
-ghost use Rattle.command_words.specs.Status.{number_of};
+ghost use Rattle.archiver_appliance.specs.Judging.{IsOfOpened};
+ghost use Rattle.archiver_appliance.specs.Getting.{FindsName, GetsListed, LeavesAsRead};
 ghost use Rattle.archiver_appliance.specs.Run.{EndsAs};
 ghost use Rattle.command_words.specs.declared.command.StoreCommand.TheVariants as asked;
 ghost use Rattle.archiver_appliance.specs.Outside.{HasNotFallen, IsCausedBy};
-ghost use Rattle.archiver_appliance.specs.Retrieving.{GetsRead, GetsSome, HasNone, IsRetrieved, ReadsPinAt, Retrieves};
-ghost use Rattle.archiver_appliance.specs.Retrieving.{RetrievesFrom};
+ghost use Rattle.archiver_appliance.specs.Retrieving.{GetsSome, IsRetrieved, ReadsPinAt, Retrieves, RetrievesFrom};
 
 use crate::opened::{Came, out_of_memory};
 use act_model::laws::soundness_stays;
@@ -46,22 +44,16 @@ pub fn get_from<K: Sink, D: Disk>(
         (D.past store.disk) (D.past result.disk) result.status) }
     ensures some { GetsSome store.catalogue.rows name.now query
         (K.written sink.old) (K.written sink.new) result.status }
-    ensures read { IsTrue D.tells → GetsRead (D.files store.disk) store.catalogue.rows
+    ensures listed { IsTrue D.tells → GetsListed (D.files store.disk) store.catalogue.rows
         (lists_of store.manifests.items) name.now query (K.written sink.old) (K.written sink.new) result.status }
-    ensures none { HasNone store.catalogue.rows name.now → IsOneOf (number_of result.status) 4 7 9 }
-    ensures named { result.status ≡ Status.NoSuchVariable
-        → HasNone store.catalogue.rows name.now × (sink.new ≡ sink.old) }
-    ensures damaged { IsTrue D.tells → (file : Name) (at : ℕ) → result.status ≡ Status.Damaged file at
-        → IsDamagedFile (D.files store.disk) store.catalogue.rows (lists_of store.manifests.items) name.now file at }
-    ensures files { IsTrue D.tells → D.files result.disk ≡ D.files store.disk }
-    ensures any_moment { IsTrue D.tells → Passes (λ a b. b ≡ a) (D.past store.disk) (D.past result.disk) }
+    ensures found { FindsName store.catalogue.rows name.now sink.old sink.new result.status }
+    ensures left { IsTrue D.tells → LeavesAsRead D.Disk store.disk result.disk }
     ensures opened { IsOfOpened result.status }
     ensures ends { (input : Option (List ℕ)) → EndsAs (asked.Get name.entry query) input result.status }
     ensures caused { IsCausedBy D.Reader.faults ⊥ (Rose (K.write_faults sink.old) (K.write_faults sink.new))
         (DiskRose (D.faults store.disk) (D.faults result.disk)) result.status result.failed }
     ensures write_faults { K.write_faults sink.old ≤ K.write_faults sink.new }
     ensures disk_faults { HasNotFallen (D.faults store.disk) (D.faults result.disk) }
-    ensures unopened { IsTrue D.tells → IsUnopened (D.files result.disk) (D.opened result.disk) }
 {
     soundness_stays();
     let mut archive = match Archive::of(alloc, store, 0) {

@@ -89,13 +89,13 @@ returns-in-Get g c =
     as_asked c.in-Get.is (record {
       does = get_does g.S.Source g.K.Sink g.C.Clock g.D.Disk config c.args.disk c.in-Ok.store verdict opened.opened opened.opens
           c.args.source.now c.args.source.now c.args.sink.now c.get_from.new.sink c.args.clock.now c.args.clock.now c.get_from.result.disk c.get_from.result.status
-          c.in-Get.name c.in-Get.query (λ told. opened.reads told (reading told)) e.files e.any_moment refl refl opened.settings e.retrieves e.some e.read e.none (λ is. (e.named is).0) e.damaged e.opened e.ends;
+          c.in-Get.name c.in-Get.query (λ told. opened.reads told (reading told)) (λ told. (e.left told).files) (λ told. (e.left told).any_moment) refl refl opened.settings e.retrieves e.some (λ told. (e.listed told).read) e.found.none (λ is. (e.found.named is).0) (λ told. (e.listed told).damaged) e.opened e.ends;
       caused = caused_since g.D.Reader.ReadAt.faults ⊥ (Rose old.write_faults new.write_faults) old new (g.D.Disk.faults c.in-Ok.store.disk) c.get_from.result.status c.get_from.result.failed opened.faults (λ n. absurd n) (λ x. x) e.caused;
       none_fell = record { source = same_count _; sink = e.write_faults; disk = fallen_since (g.D.Disk.faults c.args.disk) (g.D.Disk.faults c.in-Ok.store.disk) _ opened.faults e.disk_faults };
       alone = (refl, refl, refl);
-      refused = λ is. (refl, (e.named (refused_none config g.D.Disk.tells (g.D.Disk.files c.args.disk) c.get_from.result.status e.opened opened.opened.whole is)).1, refl);
+      refused = λ is. (refl, (e.found.named (refused_none config g.D.Disk.tells (g.D.Disk.files c.args.disk) c.get_from.result.status e.opened opened.opened.whole is)).1, refl);
       serves = tt;
-      unopened = e.unopened;
+      unopened = λ told. (e.left told).unopened;
     })
 
 pub returns-in-Etl : goal.returns-in-Etl
