@@ -79,14 +79,17 @@ impl ReadAt for FolderFile {
 }
 
 /// Files of the operating system in four folders: the site's for store 0, which has the catalogue and the manifests,
-/// and the short, medium and long term's for the stores 1, 2 and 3. A folder that is absent is made before the first
-/// file in it. It keeps the last used file of each store open, and files that were changed until they are synced:
-/// where 256 of them wait, they are synced before the next write. After a sync that failed it syncs nothing more. Many
-/// names at once it syncs in threads.
+/// and the short, medium and long term's for the stores 1, 2 and 3. Those of a new archive are made by the first call,
+/// and one within a store before the first file in it. It keeps the last used file of each store open, and files that
+/// were changed until they are synced: where 256 of them wait, they are synced before the next write. After a sync that
+/// failed it syncs nothing more. Many names at once it syncs in threads.
 ///
 /// Its first call takes the locks of the folders, which it keeps: one program writes and no other reads or writes, or
 /// some read. Where another has a lock, each call is a fault. So it is where two stores have one folder, where a
 /// store's folder isn't the archive's by its mark, and where a link, a pipe or a folder stands in a file's place.
+///
+/// Where one of the four folders goes away beneath it, or another one comes in its place, a copy too, it makes none
+/// anew: each opening, making, removing, listing and sync of a file there is a fault until the folder is back.
 ///
 /// The folders of an archive that has no marks yet get them before the first change of a file of a store. Whoever makes
 /// it has found in the stores what the site lists.

@@ -46,10 +46,19 @@ const ADOPTION: &str = "adopt";
 enum Claim {
     // No call was made yet that could be.
     Waits,
-    // The folders are locked that have a file to lock. Where one has none, this program may make none.
-    Taken(Vec<File>),
+    // The folders are locked that have a file to lock, in the order of the stores. Where one has none, this program may
+    // make none.
+    Taken(Vec<Option<Lock>>),
     // There is no site's folder, and none is made. No store has a file.
     Empty,
+}
+
+// The file of a folder that is locked. It stays open for that, so no other one gets its inode meanwhile.
+#[derive(Drop)]
+struct Lock {
+    path: String,
+    file: File,
+    inode: (u64, u64),
 }
 
 // A file that is kept open.
@@ -286,6 +295,7 @@ impl<R: Files<File = File> + Drop> Folders<R> {
             self.keep(name, file, true)?;
             return Ok(None);
         }
+        self.check_folder(name.store)?;
         let Some(size) = self.size_of(path.as_str())? else {
             return Err(ErrorKind::NotFound.into());
         };
@@ -310,6 +320,7 @@ impl<R: Files<File = File> + Drop> Folders<R> {
             self.drafts.put(name, &[])?;
             return Ok(());
         }
+        self.check_folder(name.store)?;
         let path = self.path(name)?;
         self.make_way(name.store, parent(path.as_str()))?;
         let file = OpenOptions::new()
@@ -321,48 +332,53 @@ impl<R: Files<File = File> + Drop> Folders<R> {
         self.keep(name, file, true)
     }
 
-    // Makes the folder of a new file, where it isn't known to be there. No folder that got a name counts as synced.
+    // Makes the folder of a new file, where it isn't known to be there, and what of those between it and its store's is
+    // absent. No folder that got a name counts as synced.
     fn make_way(&mut self, store: u8, folder: &str) -> io::Result<()> {
         if self.synced.remove(folder) {
             return Ok(());
         }
         let root = self.root(store)?.len();
-        if self.make_folder(folder, root)? {
-            let apart = self.stand_apart();
-            if apart.is_err() {
-                self.claim = Claim::Waits;
-            }
-            apart?;
+        let absent = self.absent(folder, root)?;
+        for made in absent.iter().rev() {
+            self.make_folder(made)?;
         }
         Ok(())
     }
 
-    // Makes a folder, and what of those that lead to it is absent, and tells whether any was. Those down to a store's
-    // own, whose path has `root` bytes, are synced at once: where the program is stopped between two of them, the next
-    // one begins above the last that is there.
-    fn make_folder(&mut self, folder: &str, root: usize) -> io::Result<bool> {
+    // Makes a store's own folder, and what of those that lead to it is absent. Each name is synced at once: where the
+    // program is stopped between two of them, the next one begins above the last that is there.
+    fn make_root(&mut self, root: &str) -> io::Result<()> {
+        let absent = self.absent(root, 0)?;
+        if let Some(first) = absent.last() {
+            self.sync_above(parent(first))?;
+        }
+        for made in absent.iter().rev() {
+            self.make_folder(made)?;
+            self.sync_folder(parent(made))?;
+        }
+        Ok(())
+    }
+
+    // Of a folder and those that lead to it, below one whose path has `above` bytes, the absent ones, the last first.
+    fn absent<'a>(&mut self, folder: &'a str, above: usize) -> io::Result<Vec<&'a str>> {
         let mut absent = Vec::new(self.alloc);
         let mut level = folder;
         for _ in 0..folder.len() {
-            if self.has_folder(level)? {
+            if level.len() <= above || self.has_folder(level)? {
                 break;
             }
             absent.push(level)?;
             level = parent(level);
         }
-        if !absent.is_empty() && level.len() <= root {
-            self.sync_above(level)?;
-        }
-        for made in absent.iter().rev() {
-            let answer = fs::create_dir(&self.files, *made);
-            self.noted(made, answer)?;
-            let above = parent(made);
-            self.synced.remove(above);
-            if made.len() <= root {
-                self.sync_folder(above)?;
-            }
-        }
-        Ok(!absent.is_empty())
+        Ok(absent)
+    }
+
+    fn make_folder(&mut self, folder: &str) -> io::Result<()> {
+        let made = fs::create_dir(&self.files, folder);
+        self.noted(folder, made)?;
+        self.synced.remove(parent(folder));
+        Ok(())
     }
 
     fn has_folder(&mut self, path: &str) -> io::Result<bool> {
@@ -482,7 +498,8 @@ impl<R: Files<File = File> + Drop> Folders<R> {
             Err(e) => return Err(e),
         };
         self.synced_well(written)?;
-        self.sync_folders(name)
+        self.sync_folders(name)?;
+        self.check_folder(name.store)
     }
 
     fn may_sync(&self) -> io::Result<()> {
@@ -560,6 +577,7 @@ impl<R: Files<File = File> + Drop> Folders<R> {
             self.drafts.remove(name)?;
             return Ok(());
         }
+        self.check_folder(name.store)?;
         let path = self.path(name)?;
         self.size_of(path.as_str())?;
         if self.holds(name) {
@@ -574,6 +592,7 @@ impl<R: Files<File = File> + Drop> Folders<R> {
     // The names of a store, over its folders.
     pub fn names(&mut self, store: u8) -> io::Result<Vec<FileName>> {
         self.begin()?;
+        self.check_folder(store)?;
         let root = self.root_copy(store)?;
         let names = self.listed(store);
         self.noted(root.as_str(), names)
@@ -636,6 +655,7 @@ impl<R: Files<File = File> + Drop> Folders<R> {
     // A file to read of at least so many bytes, and its path.
     pub fn open(&mut self, name: &FileName, len: u64) -> io::Result<(File, String)> {
         self.begin()?;
+        self.check_folder(name.store)?;
         let path = self.path(name)?;
         if self.size_of(path.as_str())?.is_none() {
             return Err(ErrorKind::NotFound.into());

@@ -125,7 +125,7 @@ impl<R: Files<File = File> + Drop> Folders<R> {
         let targets = self.targets(names)?;
         self.sync_targets(rt, &targets)?;
         self.settled.clear();
-        Ok(())
+        self.check_folders(names)
     }
 
     // Syncs the files that wait for it, where they are as many as may be open.
@@ -170,6 +170,16 @@ impl<R: Files<File = File> + Drop> Folders<R> {
                 let root = self.root_copy(store)?;
                 self.sync_above(root.as_str())?;
                 self.set_aside(store)?;
+            }
+        }
+        Ok(())
+    }
+
+    // The folders of these names' stores are still those that were locked.
+    fn check_folders(&mut self, names: &[FileName]) -> io::Result<()> {
+        for store in 0..4u8 {
+            if names.iter().any(|name| name.store == store) {
+                self.check_folder(store)?;
             }
         }
         Ok(())

@@ -1,12 +1,13 @@
-// What is done before the first call: locks are taken, and the folders' marks are looked at. And their marking.
+// What is done before the first call: locks are taken, and the folders' marks are looked at. And their marking, and the
+// look whether a folder is still the one that was locked.
 //
 // An archive's site has an identity, which the marks of its three stores have too. Marking goes by these steps, each of
 // which is on the disk before the next: the site's mark, then those of the stores, then the line in the site's that all
 // are there. So without that line marking goes on where it was broken off, and with it a store's folder without its
 // mark isn't the archive's.
-use super::{ADOPTION, Access, Claim, Folders, LOCK, is_closed, read_from};
+use super::{ADOPTION, Access, Claim, Folders, LOCK, Lock, is_closed, read_from};
 use crate::marks::{DONE, MARK, Mark, ROOM, identity_of, line_of, mark_of, word_of};
-use std::fs::{self, File, OpenOptions, TryLockError};
+use std::fs::{self, File, Metadata, OpenOptions, TryLockError};
 use std::io::{self, ErrorKind};
 use std::os::unix::fs::{FileExt, MetadataExt};
 use std::rt::Files;
@@ -19,6 +20,16 @@ const BEGUN: u64 = 8;
 
 // The bytes of a manifest's file of generations that tells none.
 const NONE_TOLD: u64 = 1;
+
+// Whether nothing has a path, or something else stands where a folder on it was.
+fn is_absence(kind: ErrorKind) -> bool {
+    matches!(kind, ErrorKind::NotFound | ErrorKind::NotADirectory)
+}
+
+// The numbers of a file's device and of its inode there.
+fn inode_of(found: &Metadata) -> (u64, u64) {
+    (found.dev(), found.ino())
+}
 
 impl<R: Files<File = File> + Drop> Folders<R> {
     // Before the first call: takes the locks, and looks whether the stores have folders of their
@@ -52,16 +63,14 @@ impl<R: Files<File = File> + Drop> Folders<R> {
         let mut locks = Vec::new(self.alloc);
         let root = self.root_copy(0)?;
         if self.access.may_write() {
-            self.make_folder(root.as_str(), root.len())?;
+            self.make_root(root.as_str())?;
         } else {
             let found = fs::exists(&self.files, root.as_str());
             if !self.noted(root.as_str(), found)? {
                 return Ok(Claim::Empty);
             }
         }
-        if let Some(lock) = self.take_lock(0, LOCK, true)? {
-            locks.push(lock)?;
-        }
+        locks.push(self.take_lock(0, LOCK, true)?)?;
         let site = self.mark(0)?;
         self.check_site(site.as_ref())?;
         self.check_adoption()?;
@@ -72,9 +81,7 @@ impl<R: Files<File = File> + Drop> Folders<R> {
         }
         self.stand_apart()?;
         for store in 1..4u8 {
-            if let Some(lock) = self.take_lock(store, MARK, may_make)? {
-                locks.push(lock)?;
-            }
+            locks.push(self.take_lock(store, MARK, may_make)?)?;
             self.check_store(store, site.as_ref())?;
         }
         self.is_marked = is_marked;
@@ -84,19 +91,19 @@ impl<R: Files<File = File> + Drop> Folders<R> {
     fn make_stores(&mut self) -> io::Result<()> {
         for store in 1..4u8 {
             let root = self.root_copy(store)?;
-            self.make_folder(root.as_str(), root.len())?;
+            self.make_root(root.as_str())?;
         }
         Ok(())
     }
 
     // Two stores in one folder would write over each other's files.
-    pub(super) fn stand_apart(&mut self) -> io::Result<()> {
+    fn stand_apart(&mut self) -> io::Result<()> {
         let mut seen: Vec<(u64, u64)> = Vec::new(self.alloc);
         for store in 0..4u8 {
             let root = self.root_copy(store)?;
             match fs::metadata(&self.files, root.as_str()) {
                 Ok(found) => {
-                    let folder = (found.dev(), found.ino());
+                    let folder = inode_of(&found);
                     if seen.contains(&folder) {
                         let twice = io::Error::new(ErrorKind::InvalidInput, "folder of two stores");
                         return self.noted(root.as_str(), Err(twice));
@@ -113,14 +120,14 @@ impl<R: Files<File = File> + Drop> Folders<R> {
     // Locks
 
     // The lock of a folder, alone or with others that read, if there is a file for it.
-    fn take_lock(&mut self, store: u8, name: &str, may_make: bool) -> io::Result<Option<File>> {
+    fn take_lock(&mut self, store: u8, name: &str, may_make: bool) -> io::Result<Option<Lock>> {
         let root = self.root_copy(store)?;
         let path = format!(in self.alloc; "{root}/{name}")?;
         let locked = self.lock(path.as_str(), may_make);
         self.noted(path.as_str(), locked)
     }
 
-    fn lock(&self, path: &str, may_make: bool) -> io::Result<Option<File>> {
+    fn lock(&self, path: &str, may_make: bool) -> io::Result<Option<Lock>> {
         let Some(file) = self.open_lock(path, may_make)? else {
             return Ok(None);
         };
@@ -130,7 +137,11 @@ impl<R: Files<File = File> + Drop> Folders<R> {
             file.try_lock_shared()
         };
         match taken {
-            Ok(()) => Ok(Some(file)),
+            Ok(()) => {
+                let path = String::from_str(self.alloc, path)?;
+                let inode = inode_of(&file.metadata()?);
+                Ok(Some(Lock { path, file, inode }))
+            }
             Err(TryLockError::WouldBlock) => {
                 let held = "lock held by another program";
                 Err(io::Error::new(ErrorKind::WouldBlock, held))
@@ -155,6 +166,35 @@ impl<R: Files<File = File> + Drop> Folders<R> {
             Ok(file) => Ok(Some(file)),
             Err(e) if is_closed(e.kind()) && is_there => Ok(Some(fs::open(&self.files, path)?)),
             Err(e) if is_closed(e.kind()) && !self.access.may_write() => Ok(None),
+            Err(e) => Err(e),
+        }
+    }
+
+    // Before a file of a store is opened, made or removed by its path, and behind a sync: the store's folder is still
+    // the one that was locked. Where it went away, or another one is in its place, as that beneath a mount, what is
+    // written there would be lost.
+    pub(super) fn check_folder(&mut self, store: u8) -> io::Result<()> {
+        match self.has_locked(store) {
+            Ok(true) => Ok(()),
+            Ok(false) => self.not_mounted(store),
+            Err(e) => {
+                let root = self.root_copy(store)?;
+                self.noted(root.as_str(), Err(e))
+            }
+        }
+    }
+
+    // Whether a folder has in it the file that was locked, if one was.
+    fn has_locked(&self, store: u8) -> io::Result<bool> {
+        let Claim::Taken(locks) = &self.claim else {
+            return Ok(true);
+        };
+        let Some(Some(lock)) = locks.get(store as usize) else {
+            return Ok(true);
+        };
+        match fs::symlink_metadata(&self.files, lock.path.as_str()) {
+            Ok(found) => Ok(inode_of(&found) == lock.inode),
+            Err(e) if is_absence(e.kind()) => Ok(false),
             Err(e) => Err(e),
         }
     }
@@ -332,6 +372,7 @@ impl<R: Files<File = File> + Drop> Folders<R> {
             None => self.new_identity()?,
         };
         for store in 0..4u8 {
+            self.check_folder(store)?;
             let line = line_of(self.alloc, identity.as_str(), store)?;
             let path = self.mark_path(store)?;
             let put = self.put_mark(path.as_str(), line.as_bytes());
