@@ -1,4 +1,4 @@
-// The feeds that wait at their port.
+// The connections that wait at a port.
 use crate::stopping::{Ports, Stop};
 use crate::telling::tell;
 use service::Kind;
@@ -7,60 +7,79 @@ use std::fs;
 // So many seconds lie between two lines at least.
 const MINUTE: u64 = 60;
 
+// It is told where no door was free at so many looks one after another. A feed may hold its door for days, and a burst
+// of requests is soon over.
+const LOOKS_FOR_FEEDS: u32 = 1;
+
+const LOOKS_FOR_REQUESTS: u32 = 10;
+
 // Where the system lists its connections and those ports at which it waits for some (Linux).
 const TABLES: [&str; 2] = ["/proc/net/tcp", "/proc/net/tcp6"];
 
 // The state of such a port in these lists.
 const LISTENS: &str = "0A";
 
-/// Tells of feeds that wait while no door is free, at most once a minute.
+/// Tells of connections of a kind that wait while no door for them is free, at most once a minute.
 #[derive(Drop)]
 pub struct Queue {
+    kind: Kind,
     // The seconds at which it looked last, and told last.
     looked: Option<u64>,
     told: Option<u64>,
+    // At how many looks up to the last one no door was free.
+    busy: u32,
 }
 
 impl Queue {
     /// One that has told nothing.
-    pub fn new() -> Queue {
+    pub fn new(kind: Kind) -> Queue {
         Queue {
+            kind,
             looked: None,
             told: None,
+            busy: 0,
         }
     }
 
-    /// Looks once a second, while no door for feeds waits for a connection, how many connections wait at
-    /// their port, and tells it.
+    /// Looks once a second whether a door waits for a connection. Where none does, for requests ten times one after
+    /// another, it tells how many connections wait at their port.
     pub fn tell(&mut self, rt: &HostRuntime, stop: &Stop, ports: &Ports, now: u64) {
-        if !self.is_due(now) || !stop.is_serving() || stop.waiting(Kind::Feed) > 0 {
+        if self.looked == Some(now) || !stop.is_serving() {
             return;
         }
         self.looked = Some(now);
-        let Ports {
-            feed_port,
-            doors,
-            ..
-        } = ports;
-        let feeds = waiting_at(rt, *feed_port);
-        if feeds == 0 {
+        if stop.waiting(self.kind) > 0 {
+            self.busy = 0;
+            return;
+        }
+        self.busy = self.busy.saturating_add(1);
+        let (port, those, looks) = match self.kind {
+            Kind::Feed => (ports.feed_port, "feeds", LOOKS_FOR_FEEDS),
+            Kind::Http => (ports.http_port, "requests", LOOKS_FOR_REQUESTS),
+        };
+        if self.busy < looks || self.is_told(now) {
+            return;
+        }
+        let waiting = waiting_at(rt, port);
+        if waiting == 0 {
             return;
         }
         self.told = Some(now);
+        let doors = ports.doors;
         tell(
             rt,
             format!(in rt.alloc();
-                "port {feed_port}: no door is free; doors {doors}, feeds that wait {feeds}"
+                "port {port}: no door is free; doors {doors}, {those} that wait {waiting}"
             ),
         );
     }
 
-    fn is_due(&self, now: u64) -> bool {
-        let is_told = match self.told {
+    // Whether it told within the last minute.
+    fn is_told(&self, now: u64) -> bool {
+        match self.told {
             Some(told) => now.saturating_sub(told) < MINUTE,
             None => false,
-        };
-        !is_told && self.looked != Some(now)
+        }
     }
 }
 

@@ -97,9 +97,9 @@ pub struct Ports {
     pub doors: u32,
 }
 
-/// Tells what a service hands in to be told and which feeds wait, until it is over, and looks for the file. Where
-/// that is there the service is to end, and those doors that wait for a connection find out. A file that was there
-/// before asked for the end of an earlier service: it is removed once the archive is open, and one that can't be
+/// Tells what a service hands in to be told and what waits at its ports, until it is over, and looks for the file.
+/// Where that is there the service is to end, and those doors that wait for a connection find out. A file that was
+/// there before asked for the end of an earlier service: it is removed once the archive is open, and one that can't be
 /// removed ends this one too.
 pub fn watch<R: Files + Net + Clock + Wait>(
     rt: &HostRuntime,
@@ -111,7 +111,8 @@ pub fn watch<R: Files + Net + Clock + Wait>(
 ) {
     let mut is_old = is_there(handles, file);
     let mut teller = Teller::new(rt);
-    let mut queue = Queue::new();
+    let mut feeds = Queue::new(Kind::Feed);
+    let mut requests = Queue::new(Kind::Http);
     let mut woken = None;
     for _ in handles.forever() {
         let is_over = stop.over.load(Ordering::SeqCst);
@@ -129,7 +130,8 @@ pub fn watch<R: Files + Net + Clock + Wait>(
         }
         let now = teller.seconds(rt);
         if !stop.is_asked() {
-            queue.tell(rt, stop, ports, now);
+            feeds.tell(rt, stop, ports, now);
+            requests.tell(rt, stop, ports, now);
         } else if woken != Some(now) {
             wake_waiting(handles, stop, ports);
             woken = Some(now);
