@@ -627,13 +627,16 @@ def renamed(text, name):
 
 
 def of_long_texts():
-    """A header of 70,000 bytes, and an hour of samples: texts of many chunks."""
+    """A header of 70,000 bytes, an hour of samples, and one with 12,000 field values, some of whose names come twice: texts of many chunks."""
     yield "ingest", chunk_of("SCALAR_INT", None, [(b"EGU", b"m" * 70_000)], 2024, []), None
     lines = [escape(number_field(1, second) + b"\x10\x00\x1d\x01\x00\x00\x00") + b"\n" for second in range(3_600)]
     yield "ingest", chunk_of("SCALAR_INT", None, [], 2024, lines).replace(b"A:B", b"A:C"), None
+    names = [b"N%d" % (number % 9_000) for number in range(12_000)]
+    values = b"".join(b":%c\n%c%s\x12\x01%d" % (len(name) + 5, len(name), name, number % 10) for number, name in enumerate(names))
+    yield "ingest", chunk_of("SCALAR_INT", None, [], 2024, [escape(b"\x08\x01\x10\x00\x1d\x01\x00\x00\x00" + values) + b"\n"]).replace(b"A:B", b"A:D"), None
     piece = b'[{"meta":{"name":"A:B","EGU":"' + b"m" * 70_000 + b'"},"data":[]}]\n'
     yield "ask", get("/retrieval/data/getData.json?pv=A%3AB&" + ALL, 0), data_head("json", 0) + piece
-    for name in ("A%3AB", "A%3AC"):
+    for name in ("A%3AB", "A%3AC", "A%3AD"):
         for kind in ("raw", "json"):
             for version in (0, 1):
                 yield "ask", get(f"/retrieval/data/getData.{kind}?pv={name}&" + ALL, version), None

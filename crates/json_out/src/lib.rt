@@ -16,9 +16,8 @@
 //!
 //! Model: the sink, what is gathered for it, and of the text the samples' type and whether one was given.
 //!
-//! Caveats: floating-point numbers are written as their bits, since a decimal number would not tell them exactly. The
-//! names of one object's members are compared each with each, so the time for an event grows with the square of the
-//! number of its field values. Memory is taken for one sample's text.
+//! Caveats: floating-point numbers are written as their bits, since a decimal number would not tell them exactly.
+//! Memory is taken for one sample's text, and for where the names of its object's members stand.
 //!
 //! Tests: the built program's run it.
 #![tactic(auto)]
