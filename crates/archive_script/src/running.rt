@@ -22,6 +22,28 @@ use std::alloc::Global;
 // Where nothing is told to fail in so many runs on end, each call is behind the script's last.
 const QUIET_RUNS: u32 = 32;
 
+// How a call of the disk goes wrong.
+#[derive(Clone, Copy)]
+enum Trouble {
+    Fails,
+    // All from that call on fail.
+    Stops,
+    // It fails, and what failed is asked for once more.
+    AskedAgain,
+}
+
+impl Trouble {
+    // The one with which a line has the script run for each call.
+    fn of_line(line: &str) -> Option<Trouble> {
+        match line {
+            "each call fails" => Some(Trouble::Fails),
+            "each call stops" => Some(Trouble::Stops),
+            "each call asked again" => Some(Trouble::AskedAgain),
+            _ => None,
+        }
+    }
+}
+
 // A run of a script, as far as it has come.
 #[derive(Drop)]
 struct Run {
@@ -260,16 +282,15 @@ fn new_run(alloc: Global, again: bool) -> Run {
 fn put_call(
     alloc: Global,
     script: &str,
-    how: &str,
+    trouble: Trouble,
     call: u64,
     whole: &str,
     why: &mut Text,
 ) -> Result<(bool, bool)> {
-    let mut run = new_run(alloc, how == "asked again");
-    let disk = if how == "stops" {
-        ran(&mut run, script, &[], Some(call))?
-    } else {
-        ran(&mut run, script, &[call], None)?
+    let mut run = new_run(alloc, matches!(trouble, Trouble::AskedAgain));
+    let disk = match trouble {
+        Trouble::Stops => ran(&mut run, script, &[], Some(call))?,
+        Trouble::Fails | Trouble::AskedAgain => ran(&mut run, script, &[call], None)?,
     };
     let is_ahead = put_wrong(alloc, &disk, &run.config, &run.ledger, why)?;
     if run.again && reports(alloc, &disk, &run.config)?.as_str() != whole {
@@ -282,14 +303,14 @@ fn put_call(
 fn put_each_call(
     alloc: Global,
     script: &str,
-    how: &str,
+    trouble: Trouble,
     whole: &str,
     text: &mut Text,
 ) -> Result<()> {
     let (mut quiet, mut is_right, mut is_ahead) = (0u32, true, false);
     for call in 1..u64::MAX {
         let mut why = Text::new(alloc);
-        let (ahead, failed) = put_call(alloc, script, how, call, whole, &mut why)?;
+        let (ahead, failed) = put_call(alloc, script, trouble, call, whole, &mut why)?;
         is_ahead |= ahead;
         if !why.is_empty() {
             is_right = false;
@@ -316,9 +337,9 @@ pub(crate) fn told(alloc: Global, script: &str) -> Result<String> {
     let whole = reports(alloc, &disk, &run.config)?;
     let Run { mut text, .. } = run;
     for line in script.lines() {
-        if let Some(how) = line.strip_prefix("each call ") {
+        if let Some(trouble) = Trouble::of_line(line) {
             text.put("each call");
-            put_each_call(alloc, script, how, whole.as_str(), &mut text)?;
+            put_each_call(alloc, script, trouble, whole.as_str(), &mut text)?;
         }
     }
     text.into_string()
