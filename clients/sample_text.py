@@ -17,6 +17,7 @@ ISO = re.compile(r"(\d{4}-\d\d-\d\dT\d\d:\d\d:\d\d)(?:\.(\d{1,9}))?(Z|[+-]\d\d:\
 UNITS = {"s": 1, "m": 60, "h": 3_600, "d": 86_400, "w": 604_800}
 AGO = re.compile(r"(?:now ?- ?)?(\d+(?:\.\d+)?)([smhdw])")
 LOCAL = re.compile(r"\d{4}-\d\d-\d\d(?:[T ]\d\d:\d\d(?::\d\d(?:\.\d{1,6})?)?)?")
+EPOCH = datetime(1970, 1, 1, tzinfo=timezone.utc)
 FORMS = "as 2024-01-31, 2024-01-31T08:00, 2024-01-31T08:00:00Z, now, today, yesterday, 15m, now-1w"
 
 
@@ -83,7 +84,7 @@ def nanoseconds(text):
         civil = datetime.fromisoformat(found[1] + found[3].replace("Z", "+00:00"))
     except ValueError:
         raise ValueError(f"no such time: {text}") from None
-    seconds = (civil - datetime(1970, 1, 1, tzinfo=timezone.utc)) // timedelta(seconds=1)
+    seconds = (civil - EPOCH) // timedelta(seconds=1)
     return seconds * SECOND + int((found[2] or "").ljust(9, "0"))
 
 
@@ -91,13 +92,18 @@ def iso(moment):
     """The ISO text of a moment: a text as it is, a `datetime` with a zone, a `datetime64`, nanoseconds since 1970."""
     if isinstance(moment, str):
         return moment
+    if isinstance(moment, numpy.datetime64):
+        return numpy.datetime_as_string(moment, unit="ns") + "Z"
     if isinstance(moment, datetime):
         if moment.tzinfo is None:
             raise ValueError(f"a time without a zone: {moment}")
-        moment = numpy.datetime64(moment.astimezone(timezone.utc).replace(tzinfo=None), "ns")
-    elif not isinstance(moment, numpy.datetime64):
-        moment = numpy.datetime64(int(moment), "ns")
-    return numpy.datetime_as_string(moment.astype("datetime64[ns]"), unit="ns") + "Z"
+        moment = (moment - EPOCH) // timedelta(microseconds=1) * 1_000
+    # Not by way of numpy's nanoseconds, whose years end with 2262.
+    seconds, nanos = divmod(int(moment), SECOND)
+    try:
+        return f"{(EPOCH + timedelta(seconds=seconds)).replace(tzinfo=None).isoformat()}.{nanos:09}Z"
+    except OverflowError:
+        raise ValueError("a time out of the calendar's years") from None
 
 
 def moment_of(word, now):

@@ -14,6 +14,7 @@ import sys
 import threading
 import time
 import urllib.request
+from datetime import datetime, timezone
 
 import archappl
 import drawing
@@ -143,6 +144,10 @@ def management(_, service):
     refused(lambda: archappl.get(server, "M:C", *ALL), 404, "E26")
     refused(lambda: archappl.details(server, "M::A"), 400, "E31")
     refused(lambda: archappl.get(server, "M:A", "yesterday", ALL[1]), 400, "E31")
+    utc = timezone.utc
+    for end in (datetime(2499, 12, 31, tzinfo=utc), numpy.datetime64("2499-12-31"), 2**63):
+        want("an end that numpy's nanoseconds don't reach", len(archappl.get(server, "M:A", ALL[0], end)), 1)
+    refused(lambda: archappl.get(server, "M:A", ALL[0], datetime(2600, 1, 1, tzinfo=utc)), 400, "E31")
 
 
 def renamed(_, service):
