@@ -534,16 +534,26 @@ def run_plot(options):
 
 
 def run_watch(options):
-    """Writes the last sample of variables, and then each new one."""
+    """Writes the last sample of variables, and then each new one. Where nothing answers at first it ends; later what goes wrong with a
+    variable is told when it begins, and the variable is asked for again, as a service may be started anew."""
     writer = writer_of(options)
-    last = dict.fromkeys(options.pv)
+    last, wrong, is_first = dict.fromkeys(options.pv), {}, True
     while True:
         for pv in options.pv:
-            piece = newest(options.server, pv, last[pv])
+            piece, before, wrong[pv] = (), wrong.get(pv), None
+            try:
+                piece = newest(options.server, pv, last[pv])
+            except (ArchiverError, pb_stream.BadStream) as error:
+                wrong[pv] = str(error)
+                if wrong[pv] != before:
+                    print(f"archappl: {pv}: {error}", file=sys.stderr)
             if len(piece):
                 writer.piece(piece)
                 last[pv] = int(piece.times[-1].astype("int64"))
         sys.stdout.flush()
+        if is_first and all(wrong.values()):
+            return 1
+        is_first = False
         time.sleep(options.every)
 
 

@@ -360,25 +360,32 @@ def words(_, service):
 
 
 def watched(_, service):
-    """`watch` writes the last sample, and then each new one; Ctrl-C ends it."""
+    """`watch` writes the last sample, and then each new one, also of a service that is started anew; Ctrl-C ends it."""
     server = service.address
     archappl.archive(server, "W:A", "SCALAR_INT")
     header = pb_stream.Header(5, "W:A", 2024)
     start = 1_704_067_200 * SECOND
     archappl.send(server, [pb_stream.chunk(header, [(start, 1), (start + SECOND, 2)])])
-    command = [sys.executable, CLIENTS / "archappl.py", "--server", server, "watch", "--every", "0.1", "W:A"]
+    command = [sys.executable, CLIENTS / "archappl.py", "--server", server, "watch", "--every", "0.1", "W:A", "W:NO"]
     with started(command, stdout=subprocess.PIPE, stderr=subprocess.PIPE, text=True) as process:
         try:
             want("the first line", process.stdout.readline(), "name time value severity status\n")
             want("the last sample", process.stdout.readline(), "W:A 2024-01-01T00:00:01.000000000Z 2 0 0\n")
+            want("what isn't there", process.stderr.readline(), "archappl: W:NO: E26: the archive has no such variable\n")
             for number in (3, 4):
+                if number == 4:
+                    service.stop()
+                    want("a service that is away", process.stderr.readline()[:12], "archappl: W:")
+                    service.start()
                 archappl.send(server, [pb_stream.chunk(header, [(start + number * SECOND, number, 1, 6)])])
                 line = f"W:A 2024-01-01T00:00:0{number}.000000000Z {number} 1 6\n"
                 want("a new one", process.stdout.readline(), line)
             process.send_signal(signal.SIGINT)
-            want("the end", (status_of(process), process.stderr.read()), (130, ""))
+            want("the end", status_of(process), 130)
         finally:
             process.kill()
+    only = run("archappl.py", "--server", server, "watch", "W:NO", status=1)[1]
+    want("nothing to watch", only, "archappl: W:NO: E26: the archive has no such variable\n")
 
 
 def damage(service, name):
