@@ -4,7 +4,7 @@ use Rattle.std.specs.Prelude.{◌-◌, slice_get, nat_lt}
 use Rattle.series_model.specs.declared.batch.RowSamples.{RowSamples}
 use Rattle.series_model.specs.Series.{end_of}
 use Rattle.act_model.specs.declared.acts.Answer.TheVariants.{Flushed}
-use Rattle.act_model.specs.Machine.{Machine, held_bytes}
+use Rattle.act_model.specs.Machine.{held_bytes}
 use Rattle.act_model.specs.Reply.{Reply}
 use Rattle.two_histories.specs.ArchiveIntake.{IntakeHalf, RowLook, look_at, known_as, machine_of, batch_of, bytes_in}
 use Rattle.two_histories.specs.IntakeStep.{IntakePart, LooksAt, IntakeAnswer, SawBatch, SawRow, IntakeStep, offers, ticks, no_row, sees_doors, sees_batch, sees_row, takes, takes_flush, lacks_memory}
