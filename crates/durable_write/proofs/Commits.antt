@@ -14,7 +14,7 @@ use Rattle.disk_model.proofs.Passing.{passes_then, passes_none, passes_weaker}
 use Rattle.gate_journal.specs.Generations.{IsOwn, AtOwn}
 use Rattle.partition_names.specs.declared.granularity.Granularity.{Granularity}
 use Rattle.store_manifest.specs.Batches.{Configured, Folds}
-use Rattle.store_manifest.specs.Manifest.{manifest_name, ManifestState, CommitsEntries, IsKept as IsManifestKept, IsUnsure as IsManifestUnsure}
+use Rattle.store_manifest.specs.Manifest.{EndsEntries, manifest_name, ManifestState, CommitsEntries, IsKept as IsManifestKept, IsUnsure as IsManifestUnsure}
 use Rattle.durable_write.specs.Stored.{HoldsEither, IsStored, IsInDoubt, AreHeld, AreSafe, CatalogueStored}
 use Rattle.durable_write.proofs.Staying.{stored_left, not_in, catalogue_stays, own_stay, own_long, safe_stays}
 use Rattle.store_manifest.specs.declared.entry.Change.{Change}
@@ -250,26 +250,25 @@ module _ (catalogue : JournalState) (m made : ManifestState) (shelf : Shelf) (ol
       }
 
 -- what the manifest in memory is then
-pub commit_ends : (m made : ManifestState) (after : List Entry) (r : Result (Unit {0}) DiskErr) → made.granularity ≡ m.granularity → made.journal.name ≡ m.journal.name → OnOk r (made.entries ≡ after) → OnOk r (made.journal.sound ≡ true)
-    → (r ≡ Err Fault → (made.entries ≡ m.entries) × (made.next ≡ after)) → (r ≡ Err Memory → (made.journal.sound ≡ true) × (made.entries ≡ m.entries)) → ManifestEnds m made after r
-commit_ends m made after (Ok a) same_g name entries sound fault memory = record { granularity = same_g; name = name; entries = entries; sound = sound; unchanged = tt; next = tt; memory = λ is. sound }
-commit_ends m made after (Err Fault) same_g name entries sound fault memory = record {
-  granularity = same_g;
-  name = name;
+pub commit_ends : (m made : ManifestState) (after : List Entry) (r : Result (Unit {0}) DiskErr) → EndsEntries m made after r → ManifestEnds m made after r
+commit_ends m made after (Ok a) e = record { granularity = e.granularity; name = e.name; entries = e.entries; sound = e.sound; unchanged = tt; next = tt; memory = λ is. e.sound }
+commit_ends m made after (Err Fault) e = record {
+  granularity = e.granularity;
+  name = e.name;
   entries = tt;
   sound = tt;
-  unchanged = (fault refl).0;
-  next = λ unsound. (fault refl).1;
-  memory = λ is. (memory is).0;
+  unchanged = (e.doubtful refl).0;
+  next = λ unsound. (e.doubtful refl).1;
+  memory = λ is. (e.memory is).0;
 }
-commit_ends m made after (Err Memory) same_g name entries sound fault memory = record {
-  granularity = same_g;
-  name = name;
+commit_ends m made after (Err Memory) e = record {
+  granularity = e.granularity;
+  name = e.name;
   entries = tt;
   sound = tt;
-  unchanged = (memory refl).1;
-  next = λ unsound. let still : made.journal.sound ≡ true = (memory refl).0 in absurd (cc (still, unsound));
-  memory = λ is. (memory is).0;
+  unchanged = (e.memory refl).1;
+  next = λ unsound. let still : made.journal.sound ≡ true = (e.memory refl).0 in absurd (cc (still, unsound));
+  memory = λ is. (e.memory is).0;
 }
 
 -- what it leaves of other names

@@ -26,7 +26,7 @@ use Rattle.store_manifest.specs.declared.folding.Folded.TheVariants.{Nothing, Go
 use Rattle.store_manifest.specs.declared.lists.SeriesLists.{SeriesLists}
 use Rattle.store_manifest.specs.Folded.{IsFolded}
 use Rattle.store_manifest.specs.Listing.{entries_of, AreLists}
-use Rattle.store_manifest.specs.Manifest.{Lists, ManifestState, CommitsEntries, IsKept, StaysOrBegins, IsLong, limit_of}
+use Rattle.store_manifest.specs.Manifest.{LeavesLoaded, Lists, ManifestState, CommitsEntries, IsKept, StaysOrBegins, IsLong, limit_of}
 use Rattle.store_manifest.specs.Numbers.{HasSizes}
 use Rattle.store_manifest.proofs.Meaning.{some_bytes, written_batch, begun_empty, configured_more, configured_folds, one_fold, one_granularity}
 use Rattle.store_manifest.proofs.Order.{folds_entries, folds_sized}
@@ -222,6 +222,14 @@ module _ (g : Granularity) (name own : Name) (is : own ≡ name) where
 
   pub load_moment : (old new : Past) → Passes (AtOwn own (KeepsBatches own)) old new → Passes (AtOwn name (StaysOrBegins g name)) old new
   load_moment old new passes = passes_weaker (AtOwn own (KeepsBatches own)) (AtOwn name (StaysOrBegins g name)) old new passes (λ a c was step. load_reads a c step)
+
+  pub load_leaves : (old new : DiskShown) → AtOwn own (KeepsBatches own) old.files new.files → Passes (AtOwn own (KeepsBatches own)) old.past new.past → ((n : Name) → (IsOwn own n → ⊥) → new.opened n ≡ old.opened n) → ((n : Name) → IsOwn own n → new.opened n ≡ 0) → LeavesLoaded g name old new
+  load_leaves old new kept passes opened unopened = record {
+    reads = load_reads old.files new.files kept;
+    any_moment = load_moment old.past new.past passes;
+    opened = load_opened name own is old.opened new.opened new.opened refl opened;
+    unopened = load_unopened name own is new.opened new.opened refl unopened;
+  }
 
   was_empty : (a b : Files) → HasBatchesOf name b [] → StaysOrBegins g name a b → HasBatchesOf name a []
   was_empty a b empty (inl keeps) = (keeps.batches []).1 empty

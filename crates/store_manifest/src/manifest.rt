@@ -1,24 +1,20 @@
 // The manifest on the disk: each commit makes its changes whole or not at all, also across a crash.
-ghost use Rattle.std.specs.Prelude.{◌≡◌, ◌≢◌, ◌⊎◌, ◌==◌, ◌≤◌, ◌<◌, ◌+◌, [], ◌∷◌, List, ℕ, filter, length, IfOk, IfErr};
-ghost use Rattle.std.specs.Prelude.{OnOk, OnErr, IsErrOf, IsTrue, true, false, Ok, Err};
+ghost use Rattle.std.specs.Prelude.{◌≡◌, ◌≢◌, ◌==◌, ◌≤◌, ◌+◌, [], ◌∷◌, ℕ, filter, length, IfOk, IfErr, OnOk, OnErr};
+ghost use Rattle.std.specs.Prelude.{IsErrOf, IsTrue, true, false, Ok};
 ghost use Rattle.std.specs.Int.{IsInRange};
 ghost use Rattle.disk_model.specs.Files.{Name, Rose};
 ghost use Rattle.disk_model.specs.Past.{Passes};
-ghost use Rattle.disk_model.specs.declared.disk.DiskErr.TheVariants.{Fault};
 ghost use Rattle.gate_journal.specs.Batches.{greatest_batch};
-ghost use Rattle.gate_journal.specs.Generations.{IsOwn, AtOwn, HasBatchesOf, HasOneOf, IsBadOf};
+ghost use Rattle.gate_journal.specs.Generations.{IsOwn, AtOwn, HasOneOf};
 ghost use Rattle.gate_journal.specs.Journal.{IsSettledWith, is_of_commit, OnlyRemoves};
-ghost use Rattle.gate_journal.specs.Kept.{Says, SaysEither};
 ghost use Rattle.gate_journal.specs.DiskShown.{shown_by};
-ghost use Rattle.partition_names.specs.declared.granularity.Granularity.{Granularity as GranularityValue};
-ghost use Rattle.store_manifest.specs.declared.entry.Entry.{Entry as EntryValue};
-ghost use Rattle.store_manifest.specs.declared.error.ManifestErr.TheVariants.{Disk as OfDisk, BadJournal, BadBatch};
 ghost use Rattle.store_manifest.specs.declared.error.ManifestErr.TheVariants.{GranularityDiffers};
-ghost use Rattle.store_manifest.specs.Batches.{config, batch_of, whole, Configured, Folds, IsBadBatch};
+ghost use Rattle.store_manifest.specs.Batches.{config, batch_of, whole, Configured, Folds};
 ghost use Rattle.store_manifest.specs.Entries.{all_changed, AllCanFollow, AreEntries};
 ghost use Rattle.store_manifest.specs.Listing.{entries_of, AreLists};
-ghost use Rattle.store_manifest.specs.Manifest.{manifest_name, CommitsEntries, IsKept, IsUnsure, IsLong, Lists};
-ghost use Rattle.store_manifest.specs.Manifest.{StaysOrBegins, limit_of};
+ghost use Rattle.store_manifest.specs.Manifest.{manifest_name, CommitsEntries, IsKept, IsUnsure, IsLong};
+ghost use Rattle.store_manifest.specs.Manifest.{EndsEntries, EndsGate, EndsReview, ReviewsEntries};
+ghost use Rattle.store_manifest.specs.Manifest.{IsLoaded, IsRefused, LeavesLoaded};
 
 use crate::folding::{Folded, Folding};
 use crate::listing::Listing;
@@ -70,34 +66,11 @@ impl Manifest {
         requires store { IsInRange 1 3 store }
         requires unopened { IsTrue D.tells → (n : Name) → IsOwn (manifest_name store) n → D.opened disk.old n ≡ 0 }
 
-        ensures kept { IsTrue D.tells → IfOk result (λ m. IsKept m (shown_by D.Disk disk.new)) }
-        ensures entries { IsTrue D.tells
-            → IfOk result (λ m. Lists g m.entries (manifest_name store) (D.files disk.old)) }
-        ensures are { IfOk result (λ m. AreEntries g m.entries) }
-        ensures manifest { IfOk result (λ m.
-            (m.journal.name ≡ manifest_name store) × (m.granularity ≡ g) × (m.journal.sound ≡ true)) }
-
-        ensures bad_journal { IsTrue D.tells → (file : Name) (at : ℕ) → result ≡ Err (BadJournal file at)
-            → IsBadOf (manifest_name store) (D.files disk.old) file at }
-        ensures bad_batch { IsTrue D.tells → (number : ℕ) → result ≡ Err (BadBatch number)
-            → (bs : List (List ℕ)) × HasBatchesOf (manifest_name store) (D.files disk.old) bs × IsBadBatch bs number }
-        ensures differs { IsTrue D.tells → (kept asked : GranularityValue)
-            → result ≡ Err (GranularityDiffers kept asked)
-            → (asked ≡ g) × (kept ≢ g) × (entries : List EntryValue)
-            × Says (Configured kept) entries (manifest_name store) (D.files disk.old) }
-
-        // What reads give of the manifest's files, and what a crash at any moment leaves of them, holds the batches
-        // that it held before, or it held none and lists nothing still; every other name has what it had.
-        ensures reads { IsTrue D.tells → AtOwn (manifest_name store) (StaysOrBegins g (manifest_name store))
-            (D.files disk.old) (D.files disk.new) }
-        ensures any_moment { IsTrue D.tells
-            → Passes (AtOwn (manifest_name store) (StaysOrBegins g (manifest_name store)))
-            (D.past disk.old) (D.past disk.new) }
-        ensures opened { IsTrue D.tells → (n : Name) → (IsOwn (manifest_name store) n → ⊥)
-            → D.opened disk.new n ≡ D.opened disk.old n }
-        ensures unopened { IsTrue D.tells → (n : Name) → IsOwn (manifest_name store) n → D.opened disk.new n ≡ 0 }
+        ensures loaded { IfOk result (λ m. IsLoaded D.Disk store g disk.old m disk.new) }
+        ensures refused { IsRefused D.Disk store g disk.old disk.new result }
+        ensures leaves { IsTrue D.tells
+            → LeavesLoaded g (manifest_name store) (shown_by D.Disk disk.old) (shown_by D.Disk disk.new) }
         ensures faults { D.faults disk.old ≤ D.faults disk.new }
-        ensures cause { result ≡ Err (OfDisk Fault) → Rose (D.faults disk.old) (D.faults disk.new) }
     {
         let name = manifest_file(alloc, store)?;
         let mut folding = Folding::new(alloc);
@@ -168,36 +141,18 @@ impl Manifest {
         ensures commits { IsTrue D.tells
             → CommitsEntries Folds (all_changed self.old.entries changes.now) result self.old self.new
             (shown_by D.Disk disk.old) (shown_by D.Disk disk.new) }
-        ensures entries { OnOk result (self.new.entries ≡ all_changed self.old.entries changes.now) }
-        ensures state { (self.new.granularity ≡ self.old.granularity)
-            × (self.new.journal.name ≡ self.old.journal.name) }
+        ensures ends { EndsEntries self.old self.new (all_changed self.old.entries changes.now) result }
         ensures nothing { changes.now ≡ [] → (result ≡ Ok tt) × (disk.new ≡ disk.old) }
 
-        // Where the closed gate stands afterwards, which tells exactly where the journal was begun anew:
-        // it doesn't grow for good.
-        ensures begun { let size = length (whole self.old.granularity self.old.entries) in
-            changes.now ≢ [] → IsLong (self.old.journal.current.place + 1) size
-            → OnOk result (self.new.journal.current.place ≡ (size + 5) + (5 + length (batch_of changes.now))) }
-        ensures grown { let size = length (whole self.old.granularity self.old.entries) in
-            changes.now ≢ [] → (IsLong (self.old.journal.current.place + 1) size → ⊥)
-            → OnOk result
-            (self.new.journal.current.place ≡ self.old.journal.current.place + (5 + length (batch_of changes.now))) }
-        ensures short { let size = length (whole self.old.granularity self.old.entries) in
-            changes.now ≢ [] → size ≤ greatest_batch
-            → OnOk result (self.new.journal.current.place + 1 < limit_of size + length (batch_of changes.now) + 5) }
-
-        ensures sound { OnOk result (self.new.journal.sound ≡ true) }
-        ensures doubtful { IsErrOf result DiskErr.Fault
-            → (self.new.entries ≡ self.old.entries) × (self.new.next ≡ all_changed self.old.entries changes.now) }
-        ensures fault { IsErrOf result DiskErr.Fault
-            → (self.new.journal.sound ≡ false) × Rose (D.faults disk.old) (D.faults disk.new) }
-        ensures memory { IsErrOf result DiskErr.Memory
-            → (self.new.journal.sound ≡ true) × (self.new.entries ≡ self.old.entries) }
+        ensures gate { changes.now ≢ []
+            → OnOk result (EndsGate (length (whole self.old.granularity self.old.entries)) (length (batch_of changes.now))
+            self.old.journal.current.place self.new.journal.current.place) }
         ensures untouched { let size = length (whole self.old.granularity self.old.entries) in
             IsErrOf result DiskErr.Memory
             → (IsLong (self.old.journal.current.place + 1) size → ⊥)
             → (self.new.journal ≡ self.old.journal) × (disk.new ≡ disk.old) }
         ensures faults { D.faults disk.old ≤ D.faults disk.new }
+        ensures cause { IsErrOf result DiskErr.Fault → Rose (D.faults disk.old) (D.faults disk.new) }
     {
         if changes.is_empty() {
             return Ok(());
@@ -214,24 +169,12 @@ impl Manifest {
         requires unsound { self.old.journal.sound ≡ false }
         requires doubt { IsTrue D.tells → IsUnsure self.old (shown_by D.Disk disk.old) }
 
-        ensures kept { IsTrue D.tells → OnOk result (IsKept self.new (shown_by D.Disk disk.new)) }
-        ensures entries { OnOk result ((self.new.entries ≡ self.old.entries) ⊎ (self.new.entries ≡ self.old.next)) }
-        ensures sound { OnOk result (self.new.journal.sound ≡ true) }
-        ensures state { (self.new.granularity ≡ self.old.granularity)
-            × (self.new.journal.name ≡ self.old.journal.name) }
-        ensures still { OnErr result ((self.new.journal.sound ≡ false) × (self.new.entries ≡ self.old.entries)
-            × (self.new.next ≡ self.old.next)) }
+        ensures ends { EndsReview result self.old self.new }
 
         // A crash at any moment leaves the entries from before the commit or those that it was to make, and of every
         // name that isn't the manifest's what it might have left before.
-        ensures doubtful { IsTrue D.tells → OnErr result (IsUnsure self.new (shown_by D.Disk disk.new)) }
-        ensures any_moment { IsTrue D.tells → Passes (AtOwn self.old.journal.name
-            (SaysEither (Configured self.old.granularity) self.old.entries self.old.next self.old.journal.name))
-            (D.past disk.old) (D.past disk.new) }
-        ensures elsewhere { IsTrue D.tells → (n : Name) → (IsOwn self.old.journal.name n → ⊥)
-            → D.files disk.new n ≡ D.files disk.old n }
-        ensures opened { IsTrue D.tells → (n : Name) → (IsOwn self.old.journal.name n → ⊥)
-            → D.opened disk.new n ≡ D.opened disk.old n }
+        ensures reviews { IsTrue D.tells
+            → ReviewsEntries result self.old self.new (shown_by D.Disk disk.old) (shown_by D.Disk disk.new) }
 
         // After a commit it changes no file and no image of a crash, and after an error the manifest is as before.
         // After a journal that was to begin anew it changes only the file that it removes.

@@ -30,17 +30,22 @@ add-requires-clause-prepared g c =
 pub add-requires-clause-kept : goal.add-requires-clause-kept
 add-requires-clause-kept g c tells = (c.in_ok-shorten.ensures.commits tells).made
 
-pub returns-clause-short : goal.returns-clause-short
-returns-clause-short g c =
-    rw (← c.self.view_is) (λ some small.
+pub returns-clause-gate : goal.returns-clause-gate
+returns-clause-gate g c =
+    rw (← c.self.view_is) (λ some.
     let same = c.in_ok-prepare.ensures.entries in
     let P : List Entry → Type 0 = λ l. IsLong (c.self.inside.journal.current.place + 1) (length (whole c.self.inside.granularity l)) → c.shorten.new.self.journal.current.place ≡ length (whole c.self.inside.granularity l) + 5 in
     let Q : List Entry → Type 0 = λ l. (IsLong (c.self.inside.journal.current.place + 1) (length (whole c.self.inside.granularity l)) → ⊥) → c.shorten.new.self.journal.current.place ≡ c.self.inside.journal.current.place in
     let begun = subst P same c.in_ok-shorten.ensures.begun in
     let grown = subst Q same c.in_ok-shorten.ensures.grown in
+    let size = length (whole c.self.inside.granularity (entries_of c.self.inside.listing.lists.listed.entries)) in
+    let added = length (batch_of c.args.changes.now) in
     on_ok_weaker c.add.result (λ placed.
-    stays_short c.self.inside.journal.current.place c.add.new.self.journal.current.place (length (whole c.self.inside.granularity (entries_of c.self.inside.listing.lists.listed.entries))) (length (batch_of c.args.changes.now)) small (λ long. placed ∙ ap (λ (n : ℕ). n + (5 + length (batch_of c.args.changes.now))) (begun long))
-    (λ not_long. placed ∙ ap (λ (n : ℕ). n + (5 + length (batch_of c.args.changes.now))) (grown not_long))) c.add.ensures.placed)
+    record {
+      begun = λ long. placed ∙ ap (λ (n : ℕ). n + (5 + added)) (begun long);
+      grown = λ not_long. placed ∙ ap (λ (n : ℕ). n + (5 + added)) (grown not_long);
+      short = λ small. stays_short c.self.inside.journal.current.place c.add.new.self.journal.current.place size added small (λ long. placed ∙ ap (λ (n : ℕ). n + (5 + added)) (begun long)) (λ not_long. placed ∙ ap (λ (n : ℕ). n + (5 + added)) (grown not_long));
+    }) c.add.ensures.placed)
 
 pub returns-then-is_empty-clause-commits : goal.returns-then-is_empty-clause-commits
 returns-then-is_empty-clause-commits g c tells =

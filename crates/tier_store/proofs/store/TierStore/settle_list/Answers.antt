@@ -43,10 +43,10 @@ review-requires-clause-doubt g c tells =
     list_in_doubt g.D.Disk.tells _ was.0 was.1 c.args.i c.index_mut.result.now (here g at) was.2 (unsound g at) tells
 
 pub returns-clause-opened : goal.returns-clause-opened
-returns-clause-opened g c tells = made_further c.review.new.self c.index_mut.result.now.journal.name _ _ c.review.ensures.state.1 (c.review.ensures.opened tells) (c.in_ok-review.ensures.kept tells)
+returns-clause-opened g c tells = made_further c.review.new.self c.index_mut.result.now.journal.name _ _ c.review.ensures.ends.name (c.review.ensures.reviews tells).opened (c.in_ok-review.ensures.reviews tells).kept
 
 pub returns-in_err-review-clause-opened : goal.returns-in_err-review-clause-opened
-returns-in_err-review-clause-opened g c tells = unsure_further c.review.new.self c.index_mut.result.now.journal.name _ _ c.review.ensures.state.1 (c.review.ensures.opened tells) (c.in_err-review.ensures.doubtful tells)
+returns-in_err-review-clause-opened g c tells = unsure_further c.review.new.self c.index_mut.result.now.journal.name _ _ c.review.ensures.ends.name (c.review.ensures.reviews tells).opened (c.in_err-review.ensures.reviews tells).doubtful
 
 pub returns-clause-settled : goal.returns-clause-settled
 returns-clause-settled g c before after was =
@@ -54,24 +54,24 @@ returns-clause-settled g c before after was =
     let at = (goal.at.returns-clause-settled g c).After-index_mut in
     let says = c.review.ensures in
     let settled = c.in_ok-review.ensures in
-    list_settled (shown_by g.D.Disk) g.D.Disk.faults g.D.Disk.tells self.disk c.review.new.disk self.catalogue self.manifests.items before after c.args.i c.index_mut.result.now c.review.new.self (here g at) says.state.0 says.state.1 (λ tells. alone c.index_mut.result.now.journal.name (Says g at) _ _ (says.any_moment tells) (says.elsewhere tells) (returns-clause-opened g c tells))
-    (unsound g at) settled.sound was settled.entries settled.kept
+    list_settled (shown_by g.D.Disk) g.D.Disk.faults g.D.Disk.tells self.disk c.review.new.disk self.catalogue self.manifests.items before after c.args.i c.index_mut.result.now c.review.new.self (here g at) says.ends.granularity says.ends.name (λ tells. alone c.index_mut.result.now.journal.name (Says g at) _ _ (says.reviews tells).any_moment (says.reviews tells).elsewhere (returns-clause-opened g c tells))
+    (unsound g at) settled.ends.sound was settled.ends.entries (λ tells. (settled.reviews tells).kept)
 
 pub returns-in_err-review-clause-still : goal.returns-in_err-review-clause-still
 returns-in_err-review-clause-still g c before after was =
     let self = c.args.self.now in
     let at = (goal.at.returns-in_err-review-clause-still g c).After-index_mut in
     let says = c.review.ensures in
-    let still = c.in_err-review.ensures.still in
+    let still = c.in_err-review.ensures.ends.still in
     let p = err_from_is_err_and c.from_residual.result c.from_residual.ensures.1 in
-    rw p.1 (list_open (shown_by g.D.Disk) g.D.Disk.faults g.D.Disk.tells self.disk c.review.new.disk self.catalogue self.manifests.items before after c.args.i c.index_mut.result.now c.review.new.self (here g at) says.state.0 says.state.1 (λ tells. alone c.index_mut.result.now.journal.name (Says g at) _ _ (says.any_moment tells) (says.elsewhere tells) (returns-in_err-review-clause-opened g c tells))
-    (unsound g at) still.0 was still.1 still.2 c.in_err-review.ensures.doubtful)
+    rw p.1 (list_open (shown_by g.D.Disk) g.D.Disk.faults g.D.Disk.tells self.disk c.review.new.disk self.catalogue self.manifests.items before after c.args.i c.index_mut.result.now c.review.new.self (here g at) says.ends.granularity says.ends.name (λ tells. alone c.index_mut.result.now.journal.name (Says g at) _ _ (says.reviews tells).any_moment (says.reviews tells).elsewhere (returns-in_err-review-clause-opened g c tells))
+    (unsound g at) still.0 was still.1 still.2 (λ tells. (c.in_err-review.ensures.reviews tells).doubtful))
 
 pub returns-clause-granularity : goal.returns-clause-granularity
-returns-clause-granularity g c = same_granularities c.args.self.now.manifests.items c.args.i c.index_mut.result.now c.review.new.self (here g (goal.at.returns-clause-granularity g c).After-index_mut) c.review.ensures.state.0
+returns-clause-granularity g c = same_granularities c.args.self.now.manifests.items c.args.i c.index_mut.result.now c.review.new.self (here g (goal.at.returns-clause-granularity g c).After-index_mut) c.review.ensures.ends.granularity
 
 pub returns-in_err-review-clause-granularity : goal.returns-in_err-review-clause-granularity
-returns-in_err-review-clause-granularity g c = same_granularities c.args.self.now.manifests.items c.args.i c.index_mut.result.now c.review.new.self (here g (goal.at.returns-in_err-review-clause-granularity g c).After-index_mut) c.review.ensures.state.0
+returns-in_err-review-clause-granularity g c = same_granularities c.args.self.now.manifests.items c.args.i c.index_mut.result.now c.review.new.self (here g (goal.at.returns-in_err-review-clause-granularity g c).After-index_mut) c.review.ensures.ends.granularity
 
 settles : (g : _) (c : After-review g) (end : End (Unit {0}) ⊥) → (IsFailed end → Rose (g.D.Disk.faults c.args.self.now.disk) (g.D.Disk.faults c.review.new.disk))
     → OnlySettles g.D.Disk.tells (seen g.D.Disk c.args.self.now) (seen_by g.D.Disk c.args.self.now.catalogue (slice_set c.args.self.now.manifests.items c.args.i c.review.new.self) c.review.new.disk) end
@@ -84,9 +84,9 @@ settles g c end cause =
     let zero : IsTrue g.D.Disk.tells → journal.0 ≡ 0 = λ tells. zero_named g.D.Disk.tells (seen g.D.Disk c.args.self.now) was.0 was.1 c.args.i m here was.2 tells in
     let says = c.review.ensures in
     record {
-      files = λ tells n other. says.elsewhere tells n (λ own. other (own_store journal n own ∙ zero tells));
-      frame = λ tells. passes_weaker (AtOwn journal (SaysEither (Configured m.granularity) m.entries m.next journal)) SameFiles _ _ (says.any_moment tells) (λ a b left step n other. step.elsewhere n (λ own. other (own_store journal n own ∙ zero tells)));
-      any_moment = λ tells before after begun. list_moment g.D.Disk.tells _ (g.D.Disk.past c.review.new.disk) before after c.args.i m here begun not_sound tells (says.any_moment tells);
+      files = λ tells n other. (says.reviews tells).elsewhere n (λ own. other (own_store journal n own ∙ zero tells));
+      frame = λ tells. passes_weaker (AtOwn journal (SaysEither (Configured m.granularity) m.entries m.next journal)) SameFiles _ _ (says.reviews tells).any_moment (λ a b left step n other. step.elsewhere n (λ own. other (own_store journal n own ∙ zero tells)));
+      any_moment = λ tells before after begun. list_moment g.D.Disk.tells _ (g.D.Disk.past c.review.new.disk) before after c.args.i m here begun not_sound tells (says.reviews tells).any_moment;
       quiet = λ settled. let sound = settled.manifests c.args.i m here in absurd (cc (not_sound, sound));
       faults = says.faults;
       cause = cause;
@@ -101,7 +101,7 @@ returns-in_err-review-clause-settles g c =
     settles g (goal.at.returns-in_err-review-clause-settles g c).After-review _ (failed_so _ _ c.from_residual.result (λ is. c.review.ensures.cause (c.in_err-review.was ∙ sym (p.1 ∙ ap (λ (x : DiskErr). Err x) p.2) ∙ is)))
 
 pub returns-clause-leaves : goal.returns-clause-leaves
-returns-clause-leaves g c = commit_leaves g.D.Disk.tells _ _ c.index_mut.result.now.journal.name _ refl (zero_store g (goal.at.returns-clause-leaves g c).After-index_mut) c.review.ensures.elsewhere (returns-clause-opened g c) c.review.ensures.any_moment
+returns-clause-leaves g c = commit_leaves g.D.Disk.tells _ _ c.index_mut.result.now.journal.name _ refl (zero_store g (goal.at.returns-clause-leaves g c).After-index_mut) (λ tells. (c.review.ensures.reviews tells).elsewhere) (returns-clause-opened g c) (λ tells. (c.review.ensures.reviews tells).any_moment)
 
 pub returns-in_err-review-clause-leaves : goal.returns-in_err-review-clause-leaves
-returns-in_err-review-clause-leaves g c = commit_leaves g.D.Disk.tells _ _ c.index_mut.result.now.journal.name _ refl (zero_store g (goal.at.returns-in_err-review-clause-leaves g c).After-index_mut) c.review.ensures.elsewhere (returns-in_err-review-clause-opened g c) c.review.ensures.any_moment
+returns-in_err-review-clause-leaves g c = commit_leaves g.D.Disk.tells _ _ c.index_mut.result.now.journal.name _ refl (zero_store g (goal.at.returns-in_err-review-clause-leaves g c).After-index_mut) (λ tells. (c.review.ensures.reviews tells).elsewhere) (returns-in_err-review-clause-opened g c) (λ tells. (c.review.ensures.reviews tells).any_moment)
