@@ -16,7 +16,7 @@ use Rattle.gate_journal.specs.DiskShown.{DiskShown}
 use Rattle.gate_journal.proofs.Keeping.{says_stays}
 use Rattle.partition_names.specs.declared.granularity.Granularity.{Granularity}
 use Rattle.pv_catalog.specs.Catalogue as catalogue
-use Rattle.pv_catalog.specs.Catalogue.{CatalogueState, HasState, Refuses, IsRefusal, IsNameRefusal, IsOfRows, RefusesName, registered, renamed, catalogue_name}
+use Rattle.pv_catalog.specs.Catalogue.{EndsRows, CatalogueState, HasState, Refuses, IsRefusal, IsNameRefusal, IsOfRows, RefusesName, registered, renamed, catalogue_name}
 use Rattle.pv_catalog.specs.Rows.{IsCatalogue, KeepsRows, switched}
 use Rattle.pv_catalog.specs.declared.error.RegisterErr.{RegisterErr}
 use Rattle.pv_catalog.specs.declared.error.RegisterErr.TheVariants as of_register
@@ -210,32 +210,31 @@ module _ {S : Type 0} (shows : S → DiskShown) (faults_of : S → ℕ) (tells :
 
   -- REGISTERING
 
-  pub register_changes : (name : List ℕ) (about : About) (r : Result ℕ RegisterErr) → made.journal.name ≡ c.journal.name
+  pub register_changes : (name : List ℕ) (about : About) (r : Result ℕ RegisterErr)
       → (IsTrue tells → Passes (AtOwn c.journal.name (SaysEither IsCatalogue c.rows (c.rows ++ registered c.rows name about ∷ []) c.journal.name)) (shows d).past (shows after).past) → (IsTrue tells → (n : Name) → (IsOwn c.journal.name n → ⊥) → (shows after).files n ≡ (shows d).files n)
       → (IsTrue tells → (shows after).opened ≡ (shows d).opened) → faults_of d ≤ faults_of after
-      → IfOk r (λ id. id ≡ length c.rows) → OnOk r (made.rows ≡ c.rows ++ registered c.rows name about ∷ []) → OnOk r (made.journal.sound ≡ true) → (IsTrue tells → OnOk r (catalogue.IsStored made (shows after)))
-      → IfErr r (IsRefusal c.rows name) → ((e : RegisterErr) → Refuses c.rows name e → (r ≡ Err e) ⊎ (r ≡ Err (of_register.Disk Memory))) → IfErr r (λ e. IsOfRows e → (made ≡ c) × (after ≡ d)) → OnErr r (made.rows ≡ c.rows)
-      → (IsTrue tells → r ≡ Err (of_register.Disk Fault) → catalogue.IsInDoubt made (shows after)) → (r ≡ Err (of_register.Disk Fault) → made.next ≡ c.rows ++ registered c.rows name about ∷ [])
-      → (r ≡ Err (of_register.Disk Fault) → (made.journal.sound ≡ false) × Rose (faults_of d) (faults_of after)) → (r ≡ Err (of_register.Disk Memory) → (made.journal ≡ c.journal) × (after ≡ d))
+      → IfOk r (λ id. id ≡ length c.rows) → EndsRows r (r ≡ Err (of_register.Disk Fault)) (r ≡ Err (of_register.Disk Memory)) (c.rows ++ registered c.rows name about ∷ []) c made → (IsTrue tells → OnOk r (catalogue.IsStored made (shows after)))
+      → IfErr r (IsRefusal c.rows name) → ((e : RegisterErr) → Refuses c.rows name e → (r ≡ Err e) ⊎ (r ≡ Err (of_register.Disk Memory))) → IfErr r (λ e. IsOfRows e → (made ≡ c) × (after ≡ d))
+      → (IsTrue tells → r ≡ Err (of_register.Disk Fault) → catalogue.IsInDoubt made (shows after)) → (r ≡ Err (of_register.Disk Fault) → Rose (faults_of d) (faults_of after)) → (r ≡ Err (of_register.Disk Memory) → after ≡ d)
       → Changes tells (registering name about) before behind (end_of_register r)
-  register_changes name about (Ok id) named passes elsewhere opened faults is_id rows sound stored refusal exactly unchanged kept doubt next fault memory =
+  register_changes name about (Ok id) passes elsewhere opened faults is_id ends stored refusal exactly unchanged doubt cause untouched =
       let free : (e : RegisterErr) → Refuses c.rows name e → ⊥ = λ e refuses. elim (exactly e refuses) [ inl is ↦ absurd (cc (is)) | inr is ↦ absurd (cc (is)) ] in
-      rows_done (c.rows ++ registered c.rows name about ∷ []) (keeps_more c.rows (registered c.rows name about ∷ [])) named passes elsewhere opened faults (registering name about) (registers c.rows name about free) (keys_pushed c.rows name about free) id (λ held same. is_id ∙ ap (λ (rs : List Row). length rs) (sym same)) rows sound stored
-  register_changes name about (Err (of_register.NameTaken i)) named passes elsewhere opened faults is_id rows sound stored refusal exactly unchanged kept doubt next fault memory =
-      rows_same (registering name about) (Refused (of_register.NameTaken i)) (ap (λ (s : CatalogueState). s.journal) (unchanged tt).0) kept (unchanged tt).1 (λ held has same. (has, subst (λ (rs : List Row). Refuses rs name (of_register.NameTaken i)) (sym same) refusal)) (λ failed. failed)
-  register_changes name about (Err (of_register.KeyTaken i)) named passes elsewhere opened faults is_id rows sound stored refusal exactly unchanged kept doubt next fault memory =
-      rows_same (registering name about) (Refused (of_register.KeyTaken i)) (ap (λ (s : CatalogueState). s.journal) (unchanged tt).0) kept (unchanged tt).1 (λ held has same. (has, subst (λ (rs : List Row). Refuses rs name (of_register.KeyTaken i)) (sym same) refusal)) (λ failed. failed)
-  register_changes name about (Err of_register.Full) named passes elsewhere opened faults is_id rows sound stored refusal exactly unchanged kept doubt next fault memory =
-      rows_same (registering name about) (Refused of_register.Full) (ap (λ (s : CatalogueState). s.journal) (unchanged tt).0) kept (unchanged tt).1 (λ held has same. (has, subst (λ (rs : List Row). Refuses rs name of_register.Full) (sym same) refusal)) (λ failed. failed)
-  register_changes name about (Err (of_register.Disk Fault)) named passes elsewhere opened faults is_id rows sound stored refusal exactly unchanged kept doubt next fault memory =
+      rows_done (c.rows ++ registered c.rows name about ∷ []) (keeps_more c.rows (registered c.rows name about ∷ [])) ends.name passes elsewhere opened faults (registering name about) (registers c.rows name about free) (keys_pushed c.rows name about free) id (λ held same. is_id ∙ ap (λ (rs : List Row). length rs) (sym same)) ends.rows ends.sound stored
+  register_changes name about (Err (of_register.NameTaken i)) passes elsewhere opened faults is_id ends stored refusal exactly unchanged doubt cause untouched =
+      rows_same (registering name about) (Refused (of_register.NameTaken i)) (ap (λ (s : CatalogueState). s.journal) (unchanged tt).0) ends.kept (unchanged tt).1 (λ held has same. (has, subst (λ (rs : List Row). Refuses rs name (of_register.NameTaken i)) (sym same) refusal)) (λ failed. failed)
+  register_changes name about (Err (of_register.KeyTaken i)) passes elsewhere opened faults is_id ends stored refusal exactly unchanged doubt cause untouched =
+      rows_same (registering name about) (Refused (of_register.KeyTaken i)) (ap (λ (s : CatalogueState). s.journal) (unchanged tt).0) ends.kept (unchanged tt).1 (λ held has same. (has, subst (λ (rs : List Row). Refuses rs name (of_register.KeyTaken i)) (sym same) refusal)) (λ failed. failed)
+  register_changes name about (Err of_register.Full) passes elsewhere opened faults is_id ends stored refusal exactly unchanged doubt cause untouched =
+      rows_same (registering name about) (Refused of_register.Full) (ap (λ (s : CatalogueState). s.journal) (unchanged tt).0) ends.kept (unchanged tt).1 (λ held has same. (has, subst (λ (rs : List Row). Refuses rs name of_register.Full) (sym same) refusal)) (λ failed. failed)
+  register_changes name about (Err (of_register.Disk Fault)) passes elsewhere opened faults is_id ends stored refusal exactly unchanged doubt cause untouched =
       let free : (e : RegisterErr) → Refuses c.rows name e → ⊥ = λ e refuses. elim (exactly e refuses) [ inl is ↦ of_disk c.rows name e Fault is refuses | inr is ↦ absurd (cc (is)) ] in
-      rows_failed (c.rows ++ registered c.rows name about ∷ []) (keeps_more c.rows (registered c.rows name about ∷ [])) named passes elsewhere opened faults (registering name about) (registers c.rows name about free) (keys_pushed c.rows name about free) kept (next refl) (fault refl).0 (λ told. doubt told refl) (fault refl).1
-  register_changes name about (Err (of_register.Disk Memory)) named passes elsewhere opened faults is_id rows sound stored refusal exactly unchanged kept doubt next fault memory =
-      rows_same (registering name about) Spent (memory refl).0 kept (memory refl).1 (λ held has same. has) (λ failed. failed)
+      rows_failed (c.rows ++ registered c.rows name about ∷ []) (keeps_more c.rows (registered c.rows name about ∷ [])) ends.name passes elsewhere opened faults (registering name about) (registers c.rows name about free) (keys_pushed c.rows name about free) ends.kept (ends.next refl) (ends.unsound refl) (λ told. doubt told refl) (cause refl)
+  register_changes name about (Err (of_register.Disk Memory)) passes elsewhere opened faults is_id ends stored refusal exactly unchanged doubt cause untouched =
+      rows_same (registering name about) Spent (ends.memory refl) ends.kept (untouched refl) (λ held has same. has) (λ failed. failed)
 
   -- RENAMING
 
-  module _ (row : ℕ) (within : row < length c.rows) (name : List ℕ) (r : Result ℕ RenameErr) (named : made.journal.name ≡ c.journal.name)
+  module _ (row : ℕ) (within : row < length c.rows) (name : List ℕ) (r : Result ℕ RenameErr) (ends : EndsRows r (r ≡ Err (of_rename.Disk Fault)) (r ≡ Err (of_rename.Disk Memory)) (renamed row name c.rows) c made)
       (passes : IsTrue tells → Passes (AtOwn c.journal.name (SaysEither IsCatalogue c.rows (renamed row name c.rows) c.journal.name)) (shows d).past (shows after).past)
       (elsewhere : IsTrue tells → (n : Name) → (IsOwn c.journal.name n → ⊥) → (shows after).files n ≡ (shows d).files n) (opened : IsTrue tells → (shows after).opened ≡ (shows d).opened) (faults : faults_of d ≤ faults_of after)
       (exactly : (e : RenameErr) → RefusesName c.rows row name e → (r ≡ Err e) × (made ≡ c) × (after ≡ d)) where
@@ -250,16 +249,16 @@ module _ {S : Type 0} (shows : S → DiskShown) (faults_of : S → ℕ) (tells :
         let same = exactly e refuses in
         rows_same (renaming row name) (Refused e) (ap (λ (s : CatalogueState). s.journal) same.1) kept same.2 (λ held has rows. (has, subst (λ (rs : List Row). RefusesName rs row name e) (sym rows) refuses)) (λ failed. failed)
 
-    pub rename_changes : IfOk r (λ id. id ≡ length c.rows) → OnOk r (made.rows ≡ renamed row name c.rows) → OnOk r (made.journal.sound ≡ true) → (IsTrue tells → OnOk r (catalogue.IsStored made (shows after)))
-        → IfErr r (IsNameRefusal c.rows row name) → OnErr r (made.rows ≡ c.rows) → (IsTrue tells → r ≡ Err (of_rename.Disk Fault) → catalogue.IsInDoubt made (shows after)) → (r ≡ Err (of_rename.Disk Fault) → made.next ≡ renamed row name c.rows)
-        → (r ≡ Err (of_rename.Disk Fault) → (made.journal.sound ≡ false) × Rose (faults_of d) (faults_of after)) → (r ≡ Err (of_rename.Disk Memory) → (made.journal ≡ c.journal) × (after ≡ d)) → Changes tells (renaming row name) before behind (end_of_rename r)
-    rename_changes is_id rows sound stored refusal kept doubt next fault memory = go r refl is_id rows sound stored refusal kept
+    pub rename_changes : IfOk r (λ id. id ≡ length c.rows) → (IsTrue tells → OnOk r (catalogue.IsStored made (shows after)))
+        → IfErr r (IsNameRefusal c.rows row name) → (IsTrue tells → r ≡ Err (of_rename.Disk Fault) → catalogue.IsInDoubt made (shows after))
+        → (r ≡ Err (of_rename.Disk Fault) → Rose (faults_of d) (faults_of after)) → (r ≡ Err (of_rename.Disk Memory) → after ≡ d) → Changes tells (renaming row name) before behind (end_of_rename r)
+    rename_changes is_id stored refusal doubt cause untouched = go r refl is_id ends.rows ends.sound stored refusal ends.kept
       where
         go : (x : Result ℕ RenameErr) → r ≡ x → IfOk x (λ id. id ≡ length c.rows) → OnOk x (made.rows ≡ renamed row name c.rows) → OnOk x (made.journal.sound ≡ true) → (IsTrue tells → OnOk x (catalogue.IsStored made (shows after)))
             → IfErr x (IsNameRefusal c.rows row name) → OnErr x (made.rows ≡ c.rows) → Changes tells (renaming row name) before behind (end_of_rename x)
         go (Ok id) is is_id rows sound stored refusal kept =
             let may = taken (λ e not. let wrong : ◌≡◌ {A = Result ℕ RenameErr} (Ok id) (Err e) = sym is ∙ not in absurd (cc wrong)) in
-            rows_done (renamed row name c.rows) (keeps_renamed c.rows row name may.0) named passes elsewhere opened faults (renaming row name) (renames row name c.rows may.0 may.1) (keys_renamed c.rows row name may.0 may.1) id
+            rows_done (renamed row name c.rows) (keeps_renamed c.rows row name may.0) ends.name passes elsewhere opened faults (renaming row name) (renames row name c.rows may.0 may.1) (keys_renamed c.rows row name may.0 may.1) id
             (λ held same. is_id ∙ ap (λ (rs : List Row). length rs) (sym same)) rows sound stored
         go (Err of_rename.NotPaused) is is_id rows sound stored refusal kept = refused of_rename.NotPaused kept refusal
         go (Err (of_rename.NameTaken i)) is is_id rows sound stored refusal kept = refused (of_rename.NameTaken i) kept refusal
@@ -267,44 +266,44 @@ module _ {S : Type 0} (shows : S → DiskShown) (faults_of : S → ℕ) (tells :
         go (Err of_rename.Full) is is_id rows sound stored refusal kept = refused of_rename.Full kept refusal
         go (Err (of_rename.Disk Fault)) is is_id rows sound stored refusal kept =
             let may = taken (λ e not refuses. subst (RefusesName c.rows row name) (same_name_err e (of_rename.Disk Fault) (sym not ∙ is)) refuses) in
-            rows_failed (renamed row name c.rows) (keeps_renamed c.rows row name may.0) named passes elsewhere opened faults (renaming row name) (renames row name c.rows may.0 may.1) (keys_renamed c.rows row name may.0 may.1) kept (next is) (fault is).0 (λ told. doubt told is) (fault is).1
-        go (Err (of_rename.Disk Memory)) is is_id rows sound stored refusal kept = rows_same (renaming row name) Spent (memory is).0 kept (memory is).1 (λ held has same. has) (λ failed. failed)
+            rows_failed (renamed row name c.rows) (keeps_renamed c.rows row name may.0) ends.name passes elsewhere opened faults (renaming row name) (renames row name c.rows may.0 may.1) (keys_renamed c.rows row name may.0 may.1) kept (ends.next is) (ends.unsound is) (λ told. doubt told is) (cause is)
+        go (Err (of_rename.Disk Memory)) is is_id rows sound stored refusal kept = rows_same (renaming row name) Spent (ends.memory is) kept (untouched is) (λ held has same. has) (λ failed. failed)
 
   -- SWITCHING
 
-  module _ (row : ℕ) (within : row < length c.rows) (named : made.journal.name ≡ c.journal.name) (elsewhere : IsTrue tells → (n : Name) → (IsOwn c.journal.name n → ⊥) → (shows after).files n ≡ (shows d).files n) (opened : IsTrue tells → (shows after).opened ≡ (shows d).opened) (faults : faults_of d ≤ faults_of after) (r : Result (Unit {0}) StateErr)
-      (sound : OnOk r (made.journal.sound ≡ true)) (stored : IsTrue tells → OnOk r (catalogue.IsStored made (shows after))) (kept : OnErr r (made.rows ≡ c.rows)) (doubt : IsTrue tells → r ≡ Err (of_state.Disk Fault) → catalogue.IsInDoubt made (shows after))
-      (fault : r ≡ Err (of_state.Disk Fault) → (made.journal.sound ≡ false) × Rose (faults_of d) (faults_of after)) (memory : r ≡ Err (of_state.Disk Memory) → (made.journal ≡ c.journal) × (after ≡ d)) where
-    pub pause_changes : (IsTrue tells → Passes (AtOwn c.journal.name (SaysEither IsCatalogue c.rows (switched row Paused c.rows) c.journal.name)) (shows d).past (shows after).past) → OnOk r (made.rows ≡ switched row Paused c.rows) → ((r ≡ Err of_state.NotRunning) ↔ (HasState c.rows row Running → ⊥)) → (r ≡ Err of_state.NotPaused → ⊥)
-        → (r ≡ Err of_state.NotRunning → (made ≡ c) × (after ≡ d)) → (r ≡ Err (of_state.Disk Fault) → made.next ≡ switched row Paused c.rows) → Changes tells (pausing row) before behind (end_of_switch r)
-    pause_changes passes rows exactly never unchanged next = go r refl sound stored kept rows
+  module _ (row : ℕ) (within : row < length c.rows) (elsewhere : IsTrue tells → (n : Name) → (IsOwn c.journal.name n → ⊥) → (shows after).files n ≡ (shows d).files n) (opened : IsTrue tells → (shows after).opened ≡ (shows d).opened) (faults : faults_of d ≤ faults_of after) (r : Result (Unit {0}) StateErr)
+      (stored : IsTrue tells → OnOk r (catalogue.IsStored made (shows after))) (doubt : IsTrue tells → r ≡ Err (of_state.Disk Fault) → catalogue.IsInDoubt made (shows after))
+      (cause : r ≡ Err (of_state.Disk Fault) → Rose (faults_of d) (faults_of after)) (untouched : r ≡ Err (of_state.Disk Memory) → after ≡ d) where
+    pub pause_changes : (IsTrue tells → Passes (AtOwn c.journal.name (SaysEither IsCatalogue c.rows (switched row Paused c.rows) c.journal.name)) (shows d).past (shows after).past) → EndsRows r (r ≡ Err (of_state.Disk Fault)) (r ≡ Err (of_state.Disk Memory)) (switched row Paused c.rows) c made → ((r ≡ Err of_state.NotRunning) ↔ (HasState c.rows row Running → ⊥)) → (r ≡ Err of_state.NotPaused → ⊥)
+        → (r ≡ Err of_state.NotRunning → (made ≡ c) × (after ≡ d)) → Changes tells (pausing row) before behind (end_of_switch r)
+    pause_changes passes ends exactly never unchanged = go r refl ends.sound stored ends.kept ends.rows
       where
         by : (r ≡ Err of_state.NotRunning → ⊥) → (held : Stores) → held.rows ≡ c.rows → Switches row Running Paused held (with_rows held (switched row Paused c.rows))
         by other held same = switches row Running Paused c.rows held same (elim (has_state c.rows row Running within) [ inl has ↦ has | inr not ↦ absurd (other (exactly.1 not)) ])
 
         go : (x : Result (Unit {0}) StateErr) → r ≡ x → OnOk x (made.journal.sound ≡ true) → (IsTrue tells → OnOk x (catalogue.IsStored made (shows after))) → OnErr x (made.rows ≡ c.rows) → OnOk x (made.rows ≡ switched row Paused c.rows) → Changes tells (pausing row) before behind (end_of_switch x)
         go (Ok a) is sound stored kept rows =
-            rows_done (switched row Paused c.rows) (keeps_switched row Paused c.rows) named passes elsewhere opened faults (pausing row) (by (λ other. absurd (cc (is, other)))) (keys_switched row Paused c.rows) a (λ held same. tt) rows sound stored
+            rows_done (switched row Paused c.rows) (keeps_switched row Paused c.rows) ends.name passes elsewhere opened faults (pausing row) (by (λ other. absurd (cc (is, other)))) (keys_switched row Paused c.rows) a (λ held same. tt) rows sound stored
         go (Err of_state.NotRunning) is sound stored kept rows =
             rows_same (pausing row) (Refused of_state.NotRunning) (ap (λ (s : CatalogueState). s.journal) (unchanged is).0) kept (unchanged is).1 (λ held has same. (has, λ state. exactly.0 is (subst (λ (rs : List Row). HasState rs row Running) same state))) (λ failed. failed)
         go (Err of_state.NotPaused) is sound stored kept rows = absurd (never is)
         go (Err (of_state.Disk Fault)) is sound stored kept rows =
-            rows_failed (switched row Paused c.rows) (keeps_switched row Paused c.rows) named passes elsewhere opened faults (pausing row) (by (λ other. absurd (cc (is, other)))) (keys_switched row Paused c.rows) kept (next is) (fault is).0 (λ told. doubt told is) (fault is).1
-        go (Err (of_state.Disk Memory)) is sound stored kept rows = rows_same (pausing row) Spent (memory is).0 kept (memory is).1 (λ held has same. has) (λ failed. failed)
+            rows_failed (switched row Paused c.rows) (keeps_switched row Paused c.rows) ends.name passes elsewhere opened faults (pausing row) (by (λ other. absurd (cc (is, other)))) (keys_switched row Paused c.rows) kept (ends.next is) (ends.unsound is) (λ told. doubt told is) (cause is)
+        go (Err (of_state.Disk Memory)) is sound stored kept rows = rows_same (pausing row) Spent (ends.memory is) kept (untouched is) (λ held has same. has) (λ failed. failed)
 
-    pub resume_changes : (IsTrue tells → Passes (AtOwn c.journal.name (SaysEither IsCatalogue c.rows (switched row Running c.rows) c.journal.name)) (shows d).past (shows after).past) → OnOk r (made.rows ≡ switched row Running c.rows) → ((r ≡ Err of_state.NotPaused) ↔ (HasState c.rows row Paused → ⊥)) → (r ≡ Err of_state.NotRunning → ⊥)
-        → (r ≡ Err of_state.NotPaused → (made ≡ c) × (after ≡ d)) → (r ≡ Err (of_state.Disk Fault) → made.next ≡ switched row Running c.rows) → Changes tells (resuming row) before behind (end_of_switch r)
-    resume_changes passes rows exactly never unchanged next = go r refl sound stored kept rows
+    pub resume_changes : (IsTrue tells → Passes (AtOwn c.journal.name (SaysEither IsCatalogue c.rows (switched row Running c.rows) c.journal.name)) (shows d).past (shows after).past) → EndsRows r (r ≡ Err (of_state.Disk Fault)) (r ≡ Err (of_state.Disk Memory)) (switched row Running c.rows) c made → ((r ≡ Err of_state.NotPaused) ↔ (HasState c.rows row Paused → ⊥)) → (r ≡ Err of_state.NotRunning → ⊥)
+        → (r ≡ Err of_state.NotPaused → (made ≡ c) × (after ≡ d)) → Changes tells (resuming row) before behind (end_of_switch r)
+    resume_changes passes ends exactly never unchanged = go r refl ends.sound stored ends.kept ends.rows
       where
         by : (r ≡ Err of_state.NotPaused → ⊥) → (held : Stores) → held.rows ≡ c.rows → Switches row Paused Running held (with_rows held (switched row Running c.rows))
         by other held same = switches row Paused Running c.rows held same (elim (has_state c.rows row Paused within) [ inl has ↦ has | inr not ↦ absurd (other (exactly.1 not)) ])
 
         go : (x : Result (Unit {0}) StateErr) → r ≡ x → OnOk x (made.journal.sound ≡ true) → (IsTrue tells → OnOk x (catalogue.IsStored made (shows after))) → OnErr x (made.rows ≡ c.rows) → OnOk x (made.rows ≡ switched row Running c.rows) → Changes tells (resuming row) before behind (end_of_switch x)
         go (Ok a) is sound stored kept rows =
-            rows_done (switched row Running c.rows) (keeps_switched row Running c.rows) named passes elsewhere opened faults (resuming row) (by (λ other. absurd (cc (is, other)))) (keys_switched row Running c.rows) a (λ held same. tt) rows sound stored
+            rows_done (switched row Running c.rows) (keeps_switched row Running c.rows) ends.name passes elsewhere opened faults (resuming row) (by (λ other. absurd (cc (is, other)))) (keys_switched row Running c.rows) a (λ held same. tt) rows sound stored
         go (Err of_state.NotPaused) is sound stored kept rows =
             rows_same (resuming row) (Refused of_state.NotPaused) (ap (λ (s : CatalogueState). s.journal) (unchanged is).0) kept (unchanged is).1 (λ held has same. (has, λ state. exactly.0 is (subst (λ (rs : List Row). HasState rs row Paused) same state))) (λ failed. failed)
         go (Err of_state.NotRunning) is sound stored kept rows = absurd (never is)
         go (Err (of_state.Disk Fault)) is sound stored kept rows =
-            rows_failed (switched row Running c.rows) (keeps_switched row Running c.rows) named passes elsewhere opened faults (resuming row) (by (λ other. absurd (cc (is, other)))) (keys_switched row Running c.rows) kept (next is) (fault is).0 (λ told. doubt told is) (fault is).1
-        go (Err (of_state.Disk Memory)) is sound stored kept rows = rows_same (resuming row) Spent (memory is).0 kept (memory is).1 (λ held has same. has) (λ failed. failed)
+            rows_failed (switched row Running c.rows) (keeps_switched row Running c.rows) ends.name passes elsewhere opened faults (resuming row) (by (λ other. absurd (cc (is, other)))) (keys_switched row Running c.rows) kept (ends.next is) (ends.unsound is) (λ told. doubt told is) (cause is)
+        go (Err (of_state.Disk Memory)) is sound stored kept rows = rows_same (resuming row) Spent (ends.memory is) kept (untouched is) (λ held has same. has) (λ failed. failed)

@@ -13,7 +13,7 @@ pub returns-clause-changes : goal.returns-clause-changes
 returns-clause-changes g c ms has =
     let says = c.register.ensures in
     register_changes (shown_by g.D.Disk) g.D.Disk.faults g.D.Disk.tells c.args.catalogue.now c.register.new.self ms c.args.disk.now c.register.new.disk c.args.name.now c.args.about.now c.register.result
-    says.name (λ tells. (says.commits tells).any_moment) (λ tells. (says.commits tells).elsewhere) (λ tells. (says.one_file tells).opened) says.faults says.id says.rows says.sound (λ tells. (says.commits tells).made) says.refusal says.exactly says.unchanged says.kept (λ tells. (says.commits tells).doubt) says.next says.fault says.memory
+    (λ tells. (says.commits tells).any_moment) (λ tells. (says.commits tells).elsewhere) (λ tells. (says.one_file tells).opened) says.faults says.id says.ends (λ tells. (says.commits tells).made) says.refusal says.exactly says.unchanged (λ tells. (says.commits tells).doubt) says.cause says.untouched
 
 pub returns-clause-spares : goal.returns-clause-spares
 returns-clause-spares g c tells =
@@ -29,4 +29,4 @@ register-requires-clause-stored g c tells =
 pub returns-clause-ready : goal.returns-clause-ready
 returns-clause-ready g c gs ms ready =
     let says = c.register.ensures in
-    registered_ready gs c.args.catalogue.now c.register.new.self ms c.args.name.now c.args.about.now ready c.requires.named c.register.result says.exactly says.rows says.sound
+    registered_ready gs c.args.catalogue.now c.register.new.self ms c.args.name.now c.args.about.now ready c.requires.named c.register.result says.exactly says.ends.rows says.ends.sound

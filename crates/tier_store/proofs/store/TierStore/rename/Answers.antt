@@ -12,8 +12,8 @@ returns-clause-changes g c =
     let self = c.args.self.now in
     let says = c.rename.ensures in
     rename_changes (shown_by g.D.Disk) g.D.Disk.faults g.D.Disk.tells self.catalogue c.rename.new.self self.manifests.items self.disk c.rename.new.disk c.args.row c.requires.row c.args.name.now c.rename.result
-    says.name (λ tells. (says.commits tells).any_moment) (λ tells. (says.commits tells).elsewhere) (λ tells. (says.one_file tells).opened) says.faults says.exactly
-    says.id says.rows says.sound (λ tells. (says.commits tells).made) says.refusal says.kept (λ tells. (says.commits tells).doubt) says.next says.fault says.memory
+    says.ends (λ tells. (says.commits tells).any_moment) (λ tells. (says.commits tells).elsewhere) (λ tells. (says.one_file tells).opened) says.faults says.exactly
+    says.id (λ tells. (says.commits tells).made) says.refusal (λ tells. (says.commits tells).doubt) says.cause says.untouched
 
 pub returns-clause-keeps : goal.returns-clause-keeps
 returns-clause-keeps g c = rows_keep g.D.Disk.tells (renaming c.args.row c.args.name.now) _ _ (end_of_rename c.rename.result) c.requires.has (renames_on c.args.row c.args.name.now) (returns-clause-changes g c)
