@@ -76,6 +76,15 @@ element {A} [] i low = absurd (omega (arith, low))
 element {A} (x ∷ xs) zero low = (x, refl)
 element {A} (x ∷ xs) (suc i) low = element xs i (omega (arith, low))
 
+-- what is true of all of two lists is true of all of each
+pub all_first : {A : Type 0} (P : A → Type 0) (xs ys : List A) → AllByRecursion P (xs ++ ys) → AllByRecursion P xs
+all_first P [] ys all = tt
+all_first P (x ∷ xs) ys all = (all.0, all_first P xs ys all.1)
+
+pub all_rest : {A : Type 0} (P : A → Type 0) (xs ys : List A) → AllByRecursion P (xs ++ ys) → AllByRecursion P ys
+all_rest P [] ys all = all
+all_rest P (x ∷ xs) ys all = all_rest P xs ys all.1
+
 -- what is read at a place of the same list
 pub read_in : {A : Type 0} (xs ys : List A) (i : ℕ) (x : A) → ys ≡ xs → x ≡ get_or ys i x → i < length xs → slice_get xs i ≡ Some x
 read_in {A} xs ys i x same is low = read_at xs i x (is ∙ ap (λ (l : List A). get_or l i x) same) low

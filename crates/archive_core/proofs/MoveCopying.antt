@@ -19,7 +19,7 @@ use Rattle.tier_store.specs.declared.limbo.Retired.{Retired}
 use Rattle.act_model.specs.Limbo.{RowFile, files_of, put, revived, Fits}
 use Rattle.act_model.specs.Machine.{Machine, Appends, MoveState}
 use Rattle.act_model.specs.Rows.{RowState, Store, Short, deep, durable, Medium, Long, holds, next_store, tier, is_empty, window}
-use Rattle.archive_core.proofs.Lists.{all_of, contains_head, of_all, contains_cases, contains_tail}
+use Rattle.archive_core.proofs.Lists.{all_of, all_rest, contains_head, of_all, contains_cases, contains_tail}
 use Rattle.archive_core.proofs.MoveLimbo.{HaveMachine, same_back as back_of_limbo, own_is, is_of_machine, from_put, have_durable, later_same, none_put, own_free, own_part, has_file, back_at, back_inside, none_window, own_named, some_window, GoTogether, put_append, put_together, rises_before, same_filter, RevivesAs, revives, GoesWith, window_has, StartBy, put_first, holds_at}
 use Rattle.tier_store.specs.Reviving.{AreBack, past}
 use Rattle.archive_core.proofs.Batches.{told_stands}
@@ -81,10 +81,6 @@ end_by k n (x ∷ xs) low all = let first = all.0 in end_by (x.t + 1) n xs (omeg
 before_end : (k n : ℕ) (xs : List Sample) → RisesFrom k xs → end_from k xs ≤ n → AllByRecursion (λ (s : Sample). s.t < n) xs
 before_end k n [] rises low = tt
 before_end k n (x ∷ xs) rises low = let end = end_from-ge (x.t + 1) xs rises.1 in (omega (arith, end, low), before_end (x.t + 1) n xs rises.1 low)
-
-all_rest : (P : Sample → Type 0) (xs ys : List Sample) → AllByRecursion P (xs ++ ys) → AllByRecursion P ys
-all_rest P [] ys all = all
-all_rest P (x ∷ xs) ys all = all_rest P xs ys all.1
 
 -- what is true of all samples of a row is true of those of each of its files
 abbrev OfRow : (Sample → Type 0) → ℕ → Filed → Type 0

@@ -39,7 +39,7 @@ use Rattle.durable_write.specs.Flush.{with_batch, PlacesRise}
 use Rattle.act_model.specs.Flush.{batch_of}
 use Rattle.act_model.proofs.Puts.{put_plain, before-append}
 use Rattle.act_model.proofs.RowActs.{flush_may}
-use Rattle.archive_core.proofs.Lists.{element, get_front, get_last}
+use Rattle.archive_core.proofs.Lists.{all_first, all_rest, element, get_front, get_last}
 use Rattle.std.proofs.lemmas.Bool.{cases_lt}
 use Rattle.partition_names.specs.declared.part.Part.{Part}
 use Rattle.partition_names.specs.Part.{IsPart}
@@ -491,14 +491,6 @@ window_apart g rows f p is part apart = by_side (cases_lt f.entry.part.start p.s
         ap (since p.start) (before_none p.end f.entry.part.start f.samples own behind)
 
 -- LISTS
-
-pub all_rest : (P : RowFile → Type 0) (xs ys : List RowFile) → AllByRecursion P (xs ++ ys) → AllByRecursion P ys
-all_rest P [] ys all = all
-all_rest P (x ∷ xs) ys all = all_rest P xs ys all.1
-
-pub all_first : (P : RowFile → Type 0) (xs ys : List RowFile) → AllByRecursion P (xs ++ ys) → AllByRecursion P xs
-all_first P [] ys all = tt
-all_first P (x ∷ xs) ys all = (all.0, all_first P xs ys all.1)
 
 pub order_rest : (xs ys : List RowFile) → InOrder (xs ++ ys) → InOrder ys
 order_rest [] ys order = order
