@@ -89,7 +89,8 @@ impl ReadAt for FolderFile {
 /// store's folder isn't the archive's by its mark, and where a link, a pipe or a folder stands in a file's place.
 ///
 /// Where one of the four folders goes away beneath it, or another one comes in its place, a copy too, it makes none
-/// anew: each opening, making, removing, listing and sync of a file there is a fault until the folder is back.
+/// anew: each sync, removing and listing of files there is a fault until the folder is back, and so is each opening and
+/// making behind a sync.
 ///
 /// The folders of an archive that has no marks yet get them before the first change of a file of a store. Whoever makes
 /// it has found in the stores what the site lists.

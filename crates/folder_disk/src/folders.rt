@@ -59,6 +59,8 @@ struct Lock {
     path: String,
     file: File,
     inode: (u64, u64),
+    // It was seen in its place since a sync of its store.
+    was_seen: bool,
 }
 
 // A file that is kept open.
@@ -295,7 +297,7 @@ impl<R: Files<File = File> + Drop> Folders<R> {
             self.keep(name, file, true)?;
             return Ok(None);
         }
-        self.check_folder(name.store)?;
+        self.check_folder_once(name.store)?;
         let Some(size) = self.size_of(path.as_str())? else {
             return Err(ErrorKind::NotFound.into());
         };
@@ -320,7 +322,7 @@ impl<R: Files<File = File> + Drop> Folders<R> {
             self.drafts.put(name, &[])?;
             return Ok(());
         }
-        self.check_folder(name.store)?;
+        self.check_folder_once(name.store)?;
         let path = self.path(name)?;
         self.make_way(name.store, parent(path.as_str()))?;
         let file = OpenOptions::new()
@@ -499,7 +501,7 @@ impl<R: Files<File = File> + Drop> Folders<R> {
         };
         self.synced_well(written)?;
         self.sync_folders(name)?;
-        self.check_folder(name.store)
+        self.check_synced(name.store)
     }
 
     fn may_sync(&self) -> io::Result<()> {

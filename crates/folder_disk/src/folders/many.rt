@@ -125,7 +125,7 @@ impl<R: Files<File = File> + Drop> Folders<R> {
         let targets = self.targets(names)?;
         self.sync_targets(rt, &targets)?;
         self.settled.clear();
-        self.check_folders(names)
+        self.check_all_synced(names)
     }
 
     // Syncs the files that wait for it, where they are as many as may be open.
@@ -176,10 +176,10 @@ impl<R: Files<File = File> + Drop> Folders<R> {
     }
 
     // The folders of these names' stores are still those that were locked.
-    fn check_folders(&mut self, names: &[FileName]) -> io::Result<()> {
+    fn check_all_synced(&mut self, names: &[FileName]) -> io::Result<()> {
         for store in 0..4u8 {
             if names.iter().any(|name| name.store == store) {
-                self.check_folder(store)?;
+                self.check_synced(store)?;
             }
         }
         Ok(())

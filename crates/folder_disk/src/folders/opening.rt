@@ -140,7 +140,12 @@ impl<R: Files<File = File> + Drop> Folders<R> {
             Ok(()) => {
                 let path = String::from_str(self.alloc, path)?;
                 let inode = inode_of(&file.metadata()?);
-                Ok(Some(Lock { path, file, inode }))
+                Ok(Some(Lock {
+                    path,
+                    file,
+                    inode,
+                    was_seen: false,
+                }))
             }
             Err(TryLockError::WouldBlock) => {
                 let held = "lock held by another program";
@@ -170,9 +175,39 @@ impl<R: Files<File = File> + Drop> Folders<R> {
         }
     }
 
-    // Before a file of a store is opened, made or removed by its path, and behind a sync: the store's folder is still
-    // the one that was locked. Where it went away, or another one is in its place, as that beneath a mount, what is
-    // written there would be lost.
+    // The lock of a store's folder, if it has one.
+    fn lock_of(&mut self, store: u8) -> Option<&mut Lock> {
+        match &mut self.claim {
+            Claim::Taken(locks) => locks.get_mut(store as usize)?.as_mut(),
+            _ => None,
+        }
+    }
+
+    // Before a file of a store is opened or made by its path: as `check_folder`, but once between two syncs, since each
+    // sync looks before anything is told durable.
+    pub(super) fn check_folder_once(&mut self, store: u8) -> io::Result<()> {
+        if self.lock_of(store).is_some_and(|lock| lock.was_seen) {
+            return Ok(());
+        }
+        self.check_folder(store)?;
+        self.set_seen(store, true);
+        Ok(())
+    }
+
+    fn set_seen(&mut self, store: u8, was_seen: bool) {
+        if let Some(lock) = self.lock_of(store) {
+            lock.was_seen = was_seen;
+        }
+    }
+
+    // Behind a sync of a store.
+    pub(super) fn check_synced(&mut self, store: u8) -> io::Result<()> {
+        self.set_seen(store, false);
+        self.check_folder(store)
+    }
+
+    // Whether a store's folder is still the one that was locked. Where it went away, or another one is in its place, as
+    // that beneath a mount, what is written there would be lost.
     pub(super) fn check_folder(&mut self, store: u8) -> io::Result<()> {
         match self.has_locked(store) {
             Ok(true) => Ok(()),
