@@ -115,7 +115,7 @@ def is_text(data):
 def request_of(data, piece, failing):
     """What a request is answered that is read in pieces, how often it was read, and how many bytes were left.
 
-    It is looked at behind a read that brought a newline, at the end, and where no more bytes are taken.
+    It is looked at behind the first read, behind one that brought a newline, at the end, and where no more bytes are taken.
     """
     head, taken, reads = HeadReader(), 0, 0
     while True:
@@ -126,7 +126,7 @@ def request_of(data, piece, failing):
         taken += len(more)
         for byte in more:
             head.take(byte)
-        if not more or b"\n" in more or taken == MOST_TAKEN:
+        if not more or reads == 1 or b"\n" in more or taken == MOST_TAKEN:
             found = judged(head, not more, taken == MOST_TAKEN)
             if found:
                 return found, reads, len(data) - taken

@@ -328,12 +328,16 @@ READS = [
     (FLUSH * 2, 1, "1 flush", 32, 32),
     (FLUSH * 2, 7, "1 flush", 5, 29),
     (FLUSH * 2, 65_536, "1 flush", 1, 0),
-    # up to the newline behind what no head begins with
-    (b"\x00GET / HTTP/1.1\r\n\r\n", 1, "E27", 17, 2),
-    (b"\x00GET / HTTP/1.1\r\n\r\n", 7, "E27", 3, 0),
+    # no further than the bytes that no head begins with, where these come first
+    (b"\x00GET / HTTP/1.1\r\n\r\n", 1, "E27", 1, 18),
+    (b"\x00GET / HTTP/1.1\r\n\r\n", 7, "E27", 1, 12),
     (b"\x00GET / HTTP/1.1\r\n\r\n", 65_536, "E27", 1, 0),
+    (b"\x16\x03\x01\x02\x00\x01", 65_536, "E27", 1, 0),
+    # up to the newline behind them
+    (b"GET \x00/ HTTP/1.1\r\n\r\n", 1, "E27", 17, 2),
+    (b"GET \x00/ HTTP/1.1\r\n\r\n", 7, "E27", 1, 12),
     # up to the end, which is one read more
-    (b"\x00GET", 1, "E27", 5, 0),
+    (b"GET \x00", 1, "E27", 6, 0),
 ]
 
 

@@ -79,11 +79,11 @@ pub maybe_wanting : (taken : List ℕ) (why : Due) (r : Option (Result Request H
 maybe_wanting taken why None h = tt
 maybe_wanting taken why (Some a) h = λ e. absurd (none_wanting why a h e)
 
-goes_on : (taken : List ℕ) (why : Due) → IsUnfinished taken → (why ≡ due.Nothing) ⊎ (why ≡ due.Newline) → GoesOn why taken
+goes_on : (taken : List ℕ) (why : Due) → IsUnfinished taken → (why ≡ due.Nothing) ⊎ (why ≡ due.Look) → GoesOn why taken
 goes_on taken why unfinished (inl is) = subst (λ (w : Due). GoesOn w taken) (sym is) tt
 goes_on taken why unfinished (inr is) = subst (λ (w : Due). GoesOn w taken) (sym is) unfinished
 
-pub maybe_on : (taken : List ℕ) (why : Due) (r : Option (Result Request HttpErr)) → IsUnfinished taken → IfNone r ((why ≡ due.Nothing) ⊎ (why ≡ due.Newline)) → IfNone r (GoesOn why taken)
+pub maybe_on : (taken : List ℕ) (why : Due) (r : Option (Result Request HttpErr)) → IsUnfinished taken → IfNone r ((why ≡ due.Nothing) ⊎ (why ≡ due.Look)) → IfNone r (GoesOn why taken)
 maybe_on taken why None unfinished h = goes_on taken why unfinished h
 maybe_on taken why (Some a) unfinished h = tt
 

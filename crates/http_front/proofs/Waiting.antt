@@ -87,7 +87,7 @@ waits_longer taken chunk w quiet = record {
 -- after a read
 pub waits_on : (why : Due) (taken chunk all : List ℕ) (is_line : Bool) → all ≡ taken ++ chunk → Waits taken → GoesOn why all → (why ≡ due.Nothing → is_line ≡ false) → (is_line ≡ false → HasNoLine chunk) → Waits all
 waits_on due.Nothing taken chunk all is_line is w on quiet none = subst Waits (sym is) (waits_longer taken chunk w (none (quiet refl)))
-waits_on due.Newline taken chunk all is_line is w on quiet none = waits_parsed all on
+waits_on due.Look taken chunk all is_line is w on quiet none = waits_parsed all on
 waits_on due.End taken chunk all is_line is w on quiet none = absurd on
 waits_on due.Limit taken chunk all is_line is w on quiet none = absurd on
 
@@ -99,8 +99,8 @@ brought old new chunk len more within is =
     rw (count, sym (drop-take len more new), is) (drop_at (take len old) chunk len front)
 
 -- what both parses that lead on need
-pub still : (why : Due) (taken : List ℕ) (P : Type 0) → GoesOn why taken → (why ≡ due.Nothing → P) → (why ≡ due.Newline → P) → P
-still due.Nothing taken P on nothing newline = nothing refl
-still due.Newline taken P on nothing newline = newline refl
-still due.End taken P on nothing newline = absurd on
-still due.Limit taken P on nothing newline = absurd on
+pub still : (why : Due) (taken : List ℕ) (P : Type 0) → GoesOn why taken → (why ≡ due.Nothing → P) → (why ≡ due.Look → P) → P
+still due.Nothing taken P on nothing look = nothing refl
+still due.Look taken P on nothing look = look refl
+still due.End taken P on nothing look = absurd on
+still due.Limit taken P on nothing look = absurd on

@@ -1,6 +1,6 @@
--- What the bytes that a source gives are answered. At most `most_bytes` are taken. They are parsed after a read that brought a newline,
--- after the one that found the end, and where no more are taken. A head ends with a newline, so nothing is read once a whole head was.
--- What can't become a head is found with the next newline.
+-- What the bytes that a source gives are answered. At most `most_bytes` are taken. They are parsed after the first read, after each that
+-- brought a newline, after the one that found the end, and where no more are taken. A head ends with a newline, so nothing is read once a
+-- whole head was. What can't become a head is found by its first bytes, or with the next newline.
 use Rattle.std.specs.Prelude.{◌≡◌, ◌≢◌, ◌⊎◌, ℕ, ◌+◌, ◌≤◌, List, [], ◌++◌, All, length, take, Option, Result, Ok, Err, ⊤}
 use Rattle.std.specs.Io.KnownBytes.{Consumes, Keeps, IsAtEnd}
 use Rattle.edge_io.specs.declared.stream.Failed.{Failed}
@@ -70,7 +70,7 @@ ReadsBehind old new len before after (Err _) = Keeps before after
 -- the reading goes on: no parse was due, or bytes may follow that make a head
 abbrev pub GoesOn : Due → List ℕ → Type 0
 GoesOn due.Nothing taken = ⊤
-GoesOn due.Newline taken = IsUnfinished taken
+GoesOn due.Look taken = IsUnfinished taken
 GoesOn due.End taken = ⊥
 GoesOn due.Limit taken = ⊥
 

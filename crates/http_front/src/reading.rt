@@ -4,7 +4,7 @@ ghost use Rattle.std.specs.Prelude.{OnErr, IsErrOf};
 ghost use Rattle.edge_io.specs.Stream.{Rose};
 ghost use Rattle.http_front.specs.Reading.{Judges, HasRead, TookHead, AnswersHead, Waits, ReadsBehind, GoesOn};
 ghost use Rattle.http_front.specs.Reading.{NoHeadYet, most_bytes};
-ghost use Rattle.http_front.specs.declared.reading.Due.TheVariants.{Nothing, Newline, End, Limit};
+ghost use Rattle.http_front.specs.declared.reading.Due.TheVariants.{Nothing, Look, End, Limit};
 
 use crate::call::answer_of;
 use crate::head::{HeadSeen, look};
@@ -23,18 +23,17 @@ pub(crate) const MOST_FIELDS: usize = 8_192;
 #[derive(Clone, Copy)]
 enum Due {
     Nothing,
-    Newline,
+    Look,
     End,
     Limit,
 }
 
 /// Reads one request, and takes at most 16,384 bytes.
 ///
-/// The bytes are parsed after a read that brought a newline, after the one that found the end, and
-/// where no more are taken. So nothing is read once a whole head was, and what can't become a head
-/// is refused with the next newline. `SourceFault` comes only where the source's count of failed
-/// reads rose, and before a whole head was read. `Memory` comes before anything was read, or where
-/// a whole head was.
+/// The bytes are parsed after the first read, after each that brought a newline, after the one that found the end, and
+/// where no more are taken. So nothing is read once a whole head was; and what can't become a head is refused at once
+/// where its first bytes tell, or with the next newline. `SourceFault` comes only where the source's count of failed
+/// reads rose, and before a whole head was read. `Memory` comes before anything was read, or where a whole head was.
 pub fn read_request<S: Source>(alloc: Global, source: &mut S) -> Result<Request, HttpErr>
     ensures read { HasRead (S.left source.old) (S.left source.new) result }
     ensures memory { IsErrOf result HttpErr.Memory
@@ -72,9 +71,10 @@ fn read_into<S: Source>(
         let Ok(more) = read_behind(bytes, len, source) else {
             return Err(HttpErr::SourceFault);
         };
+        let is_first = len == 0;
         let is_line = bytes[len..len + more].contains(&b'\n');
         len += more;
-        let due = due_after(more, len, is_line);
+        let due = due_after(more, len, is_first, is_line);
         match judge(alloc, &bytes[..len], fields, due) {
             Some(answer) => return answer,
             None => {}
@@ -82,10 +82,10 @@ fn read_into<S: Source>(
     }
 }
 
-// What a read makes due that gave so many bytes, of so many in all, with a newline among them or not.
-fn due_after(more: usize, len: usize, is_line: bool) -> Due
+// What a read makes due that gave so many bytes, of so many in all, as the first or not, with a newline or not.
+fn due_after(more: usize, len: usize, is_first: bool, is_line: bool) -> Due
     ensures nothing { result ≡ Nothing → (is_line ≡ false) × (0 < more) × (len ≢ most_bytes) }
-    ensures newline { result ≡ Newline → (is_line ≡ true) × (0 < more) × (len ≢ most_bytes) }
+    ensures look { result ≡ Look → (0 < more) × (len ≢ most_bytes) }
     ensures end { result ≡ End → more ≡ 0 }
     ensures limit { result ≡ Limit → (0 < more) × (len ≡ most_bytes) }
 {
@@ -95,8 +95,8 @@ fn due_after(more: usize, len: usize, is_line: bool) -> Due
     if len == MOST_BYTES {
         return Due::Limit;
     }
-    if is_line {
-        return Due::Newline;
+    if is_first || is_line {
+        return Due::Look;
     }
     Due::Nothing
 }
@@ -133,10 +133,10 @@ fn judge(
 // What bytes without a head are answered, if no more come.
 fn more_or_none(due: Due) -> Option<Result<Request, HttpErr>>
     ensures some { IfSome result (NoHeadYet due) }
-    ensures none { IfNone result ((due ≡ Nothing) ⊎ (due ≡ Newline)) }
+    ensures none { IfNone result ((due ≡ Nothing) ⊎ (due ≡ Look)) }
 {
     match due {
-        Due::Nothing | Due::Newline => None,
+        Due::Nothing | Due::Look => None,
         Due::End => Some(Err(HttpErr::BadHead)),
         Due::Limit => Some(Err(HttpErr::HeadTooLong)),
     }

@@ -50,7 +50,7 @@ reads-preserved g c =
     let read = c.in-Ok.ensures.read in
     let all = take (c.reads.len + c.in-Ok.more) c.read_behind.new.bytes in
     let due = c.due_after-due.ensures in
-    let on = still c.due_after-due.result all _ c.in-None.ensures.none (λ e. (due.nothing e).2) (λ e. (due.newline e).2) in
+    let on = still c.due_after-due.result all _ c.in-None.ensures.none (λ e. (due.nothing e).2) (λ e. (due.look e).1) in
     let same = brought c.reads.bytes c.read_behind.new.bytes read.0 c.reads.len c.in-Ok.more (omega (arith, c.reads.invariant.size, c.reads.invariant.within)) read.1 in
     record {
       size = search rules;
