@@ -8,6 +8,7 @@ use Rattle.pb_messages.specs.declared.info.PayloadInfo.{PayloadInfo}
 use Rattle.partition_names.specs.declared.part.Part.{Part}
 use Rattle.partition_names.specs.Part.{HoldsMoment}
 use Rattle.pb_lines.proofs.Unique.{one_moment}
+use Rattle.pb_file.specs.declared.walk.Walked.{Walked}
 use Rattle.pb_file.specs.declared.walk.Walked.TheVariants as walked
 use Rattle.pb_file.specs.declared.check.Tally.{Tally}
 use Rattle.pb_file.specs.declared.check.Verdict.{Verdict}
@@ -18,6 +19,12 @@ use Rattle.pb_file.specs.Verdict.{AllInside, Spans, IsGood, IsDamagedBehind, IsD
 use Rattle.pb_lines.proofs.FileLines.{all-append, all_rest, bad_sample}
 use Rattle.pb_lines.proofs.FileMeaning.{StopsAt, is_cut, one_file, no_header_no_file, never_stops, not_after, some_left, whole_file}
 use Rattle.pb_file.proofs.Walking.{next_line, within_first, bad_at}
+
+-- a step of the walk over bytes that are the same still
+pub walks_on : (front : Option Front) (now bytes line : List ℕ) (r : Walked) (walk new : Walk) → now ≡ bytes → HasWalked walk bytes front → (HasWalked walk now front → Walks front now line r new) → Walks front bytes line r new
+walks_on front now bytes line r walk new same has step =
+    let H : List ℕ → Type 0 = λ b. HasWalked walk b front in
+    let W : List ℕ → Type 0 = λ b. Walks front b line r new in subst W same (step (subst H (sym same) has))
 
 -- THE SAMPLES SO FAR
 

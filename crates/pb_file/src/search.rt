@@ -281,8 +281,7 @@ fn find<H: ReadAt, L: Ledger>(
         → (at : ℕ) → result ≡ Err (Damaged at)
         → BeginsFrom (take walk.old.len (H.bytes file.old)) low middle at
         × HasNoSample info (λ t. Unit {0}) (drop at (take walk.old.len (H.bytes file.old))) }
-    ensures len { walk.new.len ≡ walk.old.len }
-    ensures info { walk.new.info ≡ walk.old.info }
+    ensures kept { (walk.new.len ≡ walk.old.len) × (walk.new.info ≡ walk.old.info) }
     ensures same { IsTrue H.tells → H.bytes file.new ≡ H.bytes file.old }
     ensures faults { H.faults file.old ≤ H.faults file.new }
     ensures cause { result ≡ Err ReadFault → Rose (H.faults file.old) (H.faults file.new) }
@@ -347,8 +346,7 @@ fn read_at<H: ReadAt, L: Ledger>(
     ensures refused { IsTrue H.tells → (head : List ℕ) (info : Info) → HasHeader walk.old (H.bytes file.old) head info
         → (bad : ℕ) → result ≡ Err (Damaged bad)
         → (bad ≡ at) × HasNoSample info (λ t. Unit {0}) (drop at (take walk.old.len (H.bytes file.old))) }
-    ensures len { walk.new.len ≡ walk.old.len }
-    ensures info { walk.new.info ≡ walk.old.info }
+    ensures kept { (walk.new.len ≡ walk.old.len) × (walk.new.info ≡ walk.old.info) }
     ensures same { IsTrue H.tells → H.bytes file.new ≡ H.bytes file.old }
     ensures faults { H.faults file.old ≤ H.faults file.new }
     ensures cause { result ≡ Err ReadFault → Rose (H.faults file.old) (H.faults file.new) }

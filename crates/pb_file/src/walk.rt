@@ -159,9 +159,8 @@ impl FileWalk {
         ensures leaves { H.leaves file.old file.new }
         ensures faults { H.faults file.old ≤ H.faults file.new }
         ensures cause { result ≡ Walked.ReadFault → Rose (H.faults file.old) (H.faults file.new) }
-        ensures first_step { steps.old ≤ steps.new }
-        ensures one_step { steps.new ≤ steps.old + 1 }
-        ensures no_step { result ≡ Walked.End → steps.new ≡ steps.old }
+        ensures steps { (steps.old ≤ steps.new) × (steps.new ≤ steps.old + 1)
+            × (result ≡ Walked.End → steps.new ≡ steps.old) }
     {
         if let Some(stop) = self.stop {
             return stop;

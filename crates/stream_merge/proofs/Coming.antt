@@ -124,7 +124,7 @@ proceeds_first {R} bytes left n q ps xs s steps is c placed = record {
 }
 
 -- the open piece came to its end
-pub proceeds_ended : {R : Type 0} (bytes : R → List ℕ) (left : List NamedBytes → Type 0) (n : ℕ) (q : Query) (ps : List NamedBytes) (xs : List Sample) (room : ℕ) (s : SampleSource R) (o : Option (OpenPiece R)) (steps steps₂ : ℕ) → o ≡ None → ((ys : List Sample) → IsOpenAs bytes s.piece ys → ys ≡ []) → steps₂ ≡ steps
+proceeds_ended : {R : Type 0} (bytes : R → List ℕ) (left : List NamedBytes → Type 0) (n : ℕ) (q : Query) (ps : List NamedBytes) (xs : List Sample) (room : ℕ) (s : SampleSource R) (o : Option (OpenPiece R)) (steps steps₂ : ℕ) → o ≡ None → ((ys : List Sample) → IsOpenAs bytes s.piece ys → ys ≡ []) → steps₂ ≡ steps
     → Proceeds bytes left n q ps xs room s steps → Proceeds bytes left n q ps xs room (record s { piece = o }) steps₂
 unfolding ended
 proceeds_ended {R} bytes left n q ps xs room s o steps steps₂ none end same p = record {
@@ -135,8 +135,10 @@ proceeds_ended {R} bytes left n q ps xs room s o steps steps₂ none end same p 
   taken = takes_more ps p.still.pieces room room (steps + early_count q.from p.still.coming.here) (steps₂ + 0) p.taken (omega (arith, same));
 }
 
-pub proceeds_at : {R : Type 0} (bytes : R → List ℕ) (left : List NamedBytes → Type 0) (n : ℕ) (q : Query) (ps : List NamedBytes) (xs : List Sample) (room : ℕ) (s s₂ : SampleSource R) (steps : ℕ) → s₂ ≡ s → Proceeds bytes left n q ps xs room s steps → Proceeds bytes left n q ps xs room s₂ steps
-proceeds_at {R} bytes left n q ps xs room s s₂ steps is p = let P : SampleSource R → Type 0 = λ x. Proceeds bytes left n q ps xs room x steps in subst P (sym is) p
+pub proceeds_past : {R : Type 0} (bytes : R → List ℕ) (left : List NamedBytes → Type 0) (n : ℕ) (q : Query) (ps : List NamedBytes) (xs : List Sample) (room : ℕ) (s s₂ : SampleSource R) (steps steps₂ : ℕ) → s₂ ≡ record s { piece = s₂.piece }
+    → s₂.piece ≡ None → ((ys : List Sample) → IsOpenAs bytes s.piece ys → ys ≡ []) → steps₂ ≡ steps → Proceeds bytes left n q ps xs room s steps → Proceeds bytes left n q ps xs room s₂ steps₂
+proceeds_past {R} bytes left n q ps xs room s s₂ steps steps₂ is none end same p =
+    let P : SampleSource R → Type 0 = λ x. Proceeds bytes left n q ps xs room x steps₂ in subst P (sym is) (proceeds_ended bytes left n q ps xs room s s₂.piece steps steps₂ none end same p)
 
 -- the next piece was opened
 pub proceeds_opened : {R : Type 0} (bytes : R → List ℕ) (left left₂ : List NamedBytes → Type 0) (n : ℕ) (q : Query) (ps : List NamedBytes) (xs : List Sample) (room : ℕ) (s : SampleSource R) (p : OpenPiece R) (m : NamedBytes) (rest : List NamedBytes) (len steps steps₂ : ℕ) → s.piece ≡ None → (a : Proceeds bytes left n q ps xs room s steps)
@@ -167,8 +169,11 @@ fails_opened {R} bytes left left₂ n q ps xs room s m rest len steps steps₂ a
     record { rest = rest; left_is = left_is; taken = takes_more ps rest room (room + 1) (steps₂ + 1) steps₂ (takes_on ps (m ∷ rest) rest room steps (steps₂ + 1) there (opens_one m rest len steps steps₂ size few)) (omega arith) }
 
 -- nothing was opened
-pub fails_there : {R : Type 0} (bytes : R → List ℕ) (left left₂ : List NamedBytes → Type 0) (n : ℕ) (q : Query) (ps : List NamedBytes) (xs : List Sample) (room : ℕ) (s : SampleSource R) (steps : ℕ) → (a : Proceeds bytes left n q ps xs room s steps) → left₂ a.still.pieces → TakesFew left₂ ps (room + 1) steps
-fails_there {R} bytes left left₂ n q ps xs room s steps a is = record { rest = a.still.pieces; left_is = is; taken = takes_more ps a.still.pieces room (room + 1) (steps + early_count q.from a.still.coming.here) steps a.taken (omega arith) }
+pub fails_past : {R : Type 0} (bytes : R → List ℕ) (left left₂ : List NamedBytes → Type 0) (n : ℕ) (q : Query) (ps : List NamedBytes) (xs : List Sample) (room : ℕ) (s s₂ : SampleSource R) (steps steps₂ : ℕ) → s₂ ≡ record s { piece = s₂.piece }
+    → s₂.piece ≡ None → ((ys : List Sample) → IsOpenAs bytes s.piece ys → ys ≡ []) → steps₂ ≡ steps → Proceeds bytes left n q ps xs room s steps → ((rest : List NamedBytes) → left rest → left₂ rest) → TakesFew left₂ ps (room + 1) steps₂
+fails_past {R} bytes left left₂ n q ps xs room s s₂ steps steps₂ is none end same p opens =
+    let a = proceeds_past bytes left n q ps xs room s s₂ steps steps₂ is none end same p in
+    record { rest = a.still.pieces; left_is = opens a.still.pieces a.still.left_is; taken = takes_more ps a.still.pieces room (room + 1) (steps₂ + early_count q.from a.still.coming.here) steps₂ a.taken (omega arith) }
 
 -- a failure says nothing but that
 -- so these are to come, none of a piece

@@ -1,5 +1,5 @@
 -- What one read of the open piece, or of the next piece's header, comes to.
-use Rattle.std.proofs.Common.{◌≡◌, ◌⊎◌, ℕ, ◌+◌, ◌≤◌, inl, inr, append_assoc, drop, Bool, List, [], ◌∷◌, ◌++◌, Option, None, Some, Result, Err, IsTrue, length, take, refl, sym, ap, ◌∙◌, subst, arith}
+use Rattle.std.proofs.Common.{◌≡◌, ◌⊎◌, ℕ, ◌+◌, ◌≤◌, inl, inr, append_assoc, drop, Bool, List, [], ◌∷◌, ◌++◌, Option, None, Some, IsTrue, length, take, refl, sym, ap, ◌∙◌, subst, arith}
 use Rattle.std.specs.Prelude.{IfNone}
 use Rattle.std.proofs.lemmas.List.{length-append, length-take, length-take-le, length-drop, take-append-drop, take-take, nil_from_length}
 use Rattle.std.proofs.lemmas.List.Elements.{Contains-push}
@@ -11,8 +11,6 @@ use Rattle.pb_messages.specs.declared.info.PayloadInfo.{PayloadInfo}
 use Rattle.pb_wire.specs.declared.payload.PayloadType.{PayloadType}
 use Rattle.pb_file.specs.declared.walk.Walked.{Walked}
 use Rattle.pb_file.specs.declared.walk.Walked.TheVariants as walked
-use Rattle.pb_file.specs.declared.search.SearchErr.{SearchErr}
-use Rattle.pb_file.specs.declared.search.SearchErr.TheVariants as refused
 use Rattle.pb_lines.specs.File.{IsFile, IsBadAt, HasNoSample, lines_of}
 use Rattle.pb_lines.proofs.FileMeaning.{begins}
 use Rattle.pb_file.specs.Walk.{Walk, Front, HasWalked, Walks, Gives, fresh, with_sample}
@@ -25,7 +23,7 @@ use Rattle.stream_merge.specs.declared.pieces.Merged.TheVariants.{Line, End, Rea
 use Rattle.stream_merge.specs.declared.source.OpenPiece.{OpenPiece}
 use Rattle.stream_merge.specs.Pieces.{NamedBytes}
 use Rattle.stream_merge.specs.Reading.{IsReadAs, IsBadFor, IsDamaged}
-use Rattle.stream_merge.specs.Beginning.{IsAtLine, MovesOn, BeginsWell, TellsAs}
+use Rattle.stream_merge.specs.Beginning.{IsAtLine, MovesOn, BeginsWell}
 use Rattle.stream_merge.specs.Source.{open_pieces, HasBegun, IsBegun, IsReady, GoesOnAs, IsOpenAs, BeginsAs, ReadsOpen, ClosesAs, HasRisen}
 use Rattle.stream_merge.proofs.Reading.{next_read, end_read, same_header, file_from}
 
@@ -257,12 +255,6 @@ head_place ty bytes head_len len w xs l same r =
     let one = same_header (take len bytes) l.head r.head l.rest (lines_of xs) l.info r.info (subst T same l.text) r.file.text l.skipped.read.whole r.file.whole l.skipped.read.header r.file.header in
     l.size ∙ ap (λ (h : List ℕ). length h + 1) one.heads
 
--- what a failed search is told as
-pub told_damaged : {R : Type 0} (p : OpenPiece R) (e : SearchErr) (r : Merged R) (name : Name) (at : ℕ) → TellsAs p e r → r ≡ Damaged name at → (e ≡ refused.Damaged at) × (name ≡ p.name)
-told_damaged {R} p refused.ReadFault r name at is bad = absurd (cc)
-told_damaged {R} p (refused.Damaged n) r name at is bad = let same : n ≡ at = cc in (ap (λ (k : ℕ). refused.Damaged k) same, cc)
-told_damaged {R} p refused.Memory r name at is bad = absurd (cc)
-
 -- the open piece has a bad line
 pub open_damaged : {R : Type 0} (bytes : R → List ℕ) (ty : PayloadType) (o : Option (OpenPiece R)) (p : OpenPiece R) (name : Name) (at : ℕ) → o ≡ Some p → name ≡ p.name → IsBadFor ty (take p.walk.len (bytes p.reader)) at → IsDamaged ty (open_pieces bytes o) name at
 open_damaged {R} bytes ty o p name at is named bad =
@@ -270,9 +262,3 @@ open_damaged {R} bytes ty o p name at is named bad =
     let here : NamedBytes = record { name = p.name; bytes = take p.walk.len (bytes p.reader) } in
     let found : IsDamaged ty (here ∷ []) name at = record { piece = here; among = Contains-push [] here; named = sym named; bad = bad } in
     subst P (sym is) found
-
-pub err_same : {R : Type 0} (a b : Merged R) → ◌≡◌ {A = Result (OpenPiece R) (Merged R)} (Err a) (Err b) → a ≡ b
-err_same {R} a b is = cc
-
-pub err_damaged : {R : Type 0} (name found : Name) (n at : ℕ) → ◌≡◌ {A = Result (OpenPiece R) (Merged R)} (Err (Damaged name n)) (Err (Damaged found at)) → (name ≡ found) × (n ≡ at)
-err_damaged {R} name found n at is = (cc, cc)

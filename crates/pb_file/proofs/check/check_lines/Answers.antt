@@ -1,8 +1,8 @@
-use Rattle.std.proofs.Common.{◌∙◌, sym, ap, subst, List, ℕ, arith, take}
+use Rattle.std.proofs.Common.{◌∙◌, sym, ap, subst, ℕ, arith, take}
 use Rattle.pb_file.specs.declared.walk.Walked.TheVariants as walked
-use Rattle.pb_file.specs.Walk.{Walk, HasWalked, Walks}
+use Rattle.pb_file.specs.Walk.{Walk}
 use Rattle.pb_file.specs.Verdict.{Says, IsDamaged}
-use Rattle.pb_file.proofs.Verdicts.{checked_sample, outside_damaged, walk_damaged, end_says}
+use Rattle.pb_file.proofs.Verdicts.{walks_on, checked_sample, outside_damaged, walk_damaged, end_says}
 use Rattle.pb_file.proofs.check.check_lines.Goals as goal
 
 pub returns-else-is_inside-clause-verdict : goal.returns-else-is_inside-clause-verdict
@@ -10,10 +10,7 @@ returns-else-is_inside-clause-verdict g c tells =
     let file = g.H.ReadAt.bytes c.args.file.now in
     let inv = c.lines.invariant in
     let h = inv.checked tells in
-    let same = inv.same tells in
-    let H : List ℕ → Type 0 = λ b. HasWalked c.lines.walk b h.front in
-    let W : List ℕ → Type 0 = λ b. Walks h.front b c.next.new.line.items (walked.Sample c.in-Sample.t) c.next.new.self in
-    let walks = subst W same (c.in-Sample.ensures.walked tells h.front (subst H (sym same) h.walked)) in
+    let walks = walks_on h.front _ file c.next.new.line.items (walked.Sample c.in-Sample.t) c.lines.walk c.next.new.self (inv.same tells) h.walked (c.in-Sample.ensures.walked tells h.front) in
     let gives = rw inv.going at c.in-Sample.ensures.gives in
     let D : ℕ → Type 0 = λ n. IsDamaged c.args.part.now (take n file) c.place-at.result in
     let P : ℕ → Type 0 = λ n. IsDamaged c.args.part.now (take c.lines.walk.len file) n in
@@ -30,10 +27,7 @@ lines-preserved g c =
     record {
       checked = λ tells.
           let h = inv.checked tells in
-          let same = inv.same tells in
-          let H : List ℕ → Type 0 = λ b. HasWalked c.lines.walk b h.front in
-          let W : List ℕ → Type 0 = λ b. Walks h.front b c.next.new.line.items (walked.Sample c.in-Sample.t) c.next.new.self in
-          let walks = subst W same (c.in-Sample.ensures.walked tells h.front (subst H (sym same) h.walked)) in
+          let walks = walks_on h.front _ file c.next.new.line.items (walked.Sample c.in-Sample.t) c.lines.walk c.next.new.self (inv.same tells) h.walked (c.in-Sample.ensures.walked tells h.front) in
           let more = c.with_moment-tally.ensures in
           checked_sample c.args.part.now c.lines.walk c.next.new.self file c.next.new.line.items c.in-Sample.t c.lines.tally c.with_moment-tally.result h walks (c.is_inside.ensures.0 c.if-is_inside.true) more.count more.begins more.goes_on more.ends;
       same = λ tells. c.in-Sample.ensures.same tells ∙ inv.same tells;
@@ -48,10 +42,7 @@ returns-in-End-clause-verdict g c tells =
     let file = g.H.ReadAt.bytes c.args.file.now in
     let inv = c.lines.invariant in
     let h = inv.checked tells in
-    let same = inv.same tells in
-    let H : List ℕ → Type 0 = λ b. HasWalked c.lines.walk b h.front in
-    let W : List ℕ → Type 0 = λ b. Walks h.front b c.next.new.line.items walked.End c.next.new.self in
-    let walks = subst W same (c.in-End.ensures.walked tells h.front (subst H (sym same) h.walked)) in
+    let walks = walks_on h.front _ file c.next.new.line.items walked.End c.lines.walk c.next.new.self (inv.same tells) h.walked (c.in-End.ensures.walked tells h.front) in
     let gives = rw inv.going at c.in-End.ensures.gives in
     let S : ℕ → Type 0 = λ n. Says c.args.part.now (take n file) c.at_end.result in
     subst S inv.len (end_says c.args.part.now c.lines.walk c.next.new.self file c.next.new.line.items c.lines.tally c.at_end.result h (omega (arith, inv.len, c.requires.file tells)) (ap (λ (w : Walk). w.len) gives.2) walks
@@ -62,10 +53,7 @@ returns-in-Damaged-clause-verdict g c tells =
     let file = g.H.ReadAt.bytes c.args.file.now in
     let inv = c.lines.invariant in
     let h = inv.checked tells in
-    let same = inv.same tells in
-    let H : List ℕ → Type 0 = λ b. HasWalked c.lines.walk b h.front in
-    let W : List ℕ → Type 0 = λ b. Walks h.front b c.next.new.line.items (walked.Damaged c.in-Damaged.at) c.next.new.self in
-    let walks = subst W same (c.in-Damaged.ensures.walked tells h.front (subst H (sym same) h.walked)) in
+    let walks = walks_on h.front _ file c.next.new.line.items (walked.Damaged c.in-Damaged.at) c.lines.walk c.next.new.self (inv.same tells) h.walked (c.in-Damaged.ensures.walked tells h.front) in
     let gives = rw inv.going at c.in-Damaged.ensures.gives in
     let D : ℕ → Type 0 = λ n. IsDamaged c.args.part.now (take n file) c.in-Damaged.at in
     subst D inv.len (walk_damaged c.args.part.now c.lines.walk c.next.new.self file c.next.new.line.items c.lines.tally c.in-Damaged.at h gives.0 (ap (λ (w : Walk). w.len) gives.1) walks)

@@ -1,8 +1,8 @@
-use Rattle.std.proofs.Common.{◌≤◌, ◌∙◌, sym, ap, subst, List, ℕ, arith, refl, take, length}
+use Rattle.std.proofs.Common.{◌≤◌, ◌∙◌, ap, subst, ℕ, arith, refl, take, length}
 use Rattle.pb_file.specs.declared.walk.Walked.TheVariants as walked
-use Rattle.pb_file.specs.Walk.{Walk, HasWalked, Walks}
+use Rattle.pb_file.specs.Walk.{Walk}
 use Rattle.pb_file.specs.Verdict.{IsDamaged}
-use Rattle.pb_file.proofs.Verdicts.{outside_damaged, walk_damaged}
+use Rattle.pb_file.proofs.Verdicts.{walks_on, outside_damaged, walk_damaged}
 use Rattle.pb_file.proofs.Fronts.{nothing_fronted, header_fronted, sample_fronted, nothing_shaped, header_shaped, sample_shaped, stops_at_bad, stops_at_end, gives_front, gives_none}
 use Rattle.pb_file.proofs.good.read_front.Goals as goal
 
@@ -29,10 +29,7 @@ lines-preserved-in-Header g c =
     record {
       fronted = λ tells.
           let h = inv.fronted tells in
-          let same = inv.same tells in
-          let H : List ℕ → Type 0 = λ b. HasWalked c.lines.walk b h.checked.front in
-          let W : List ℕ → Type 0 = λ b. Walks h.checked.front b c.next.new.line.items walked.Header c.next.new.self in
-          let walks = subst W same (c.in-Header.ensures.walked tells h.checked.front (subst H (sym same) h.checked.walked)) in
+          let walks = walks_on h.checked.front _ file c.next.new.line.items walked.Header c.lines.walk c.next.new.self (inv.same tells) h.checked.walked (c.in-Header.ensures.walked tells h.checked.front) in
           header_fronted c.args.part.now c.lines.walk c.next.new.self file c.next.new.line.items c.lines.tally c.lines.head_len c.place-head_len.result h walks (c.place-head_len.ensures.place ∙ place);
       shaped = header_shaped c.args.part.now c.lines.walk c.next.new.self c.lines.tally c.lines.head_len c.place-head_len.result gives.0 inv.shaped gives.1 (ap (λ (w : Walk). w.info) gives.4)
           (omega (arith, c.place-head_len.ensures.place, place))
@@ -58,10 +55,7 @@ lines-preserved g c =
     record {
       fronted = λ tells.
           let h = inv.fronted tells in
-          let same = inv.same tells in
-          let H : List ℕ → Type 0 = λ b. HasWalked c.lines.walk b h.checked.front in
-          let W : List ℕ → Type 0 = λ b. Walks h.checked.front b c.next.new.line.items (walked.Sample c.in-Sample.t) c.next.new.self in
-          let walks = subst W same (c.in-Sample.ensures.walked tells h.checked.front (subst H (sym same) h.checked.walked)) in
+          let walks = walks_on h.checked.front _ file c.next.new.line.items (walked.Sample c.in-Sample.t) c.lines.walk c.next.new.self (inv.same tells) h.checked.walked (c.in-Sample.ensures.walked tells h.checked.front) in
           sample_fronted c.args.part.now c.lines.walk c.next.new.self file c.next.new.line.items c.in-Sample.t c.lines.tally c.with_moment-tally.result c.lines.head_len h walks inside more.count more.begins more.goes_on more.ends;
       shaped = sample_shaped c.args.part.now c.lines.walk c.next.new.self c.in-Sample.t c.lines.tally c.with_moment-tally.result c.lines.head_len gives.0 inv.shaped gives.1 (ap (λ (w : Walk). w.info) gives.4 ∙ gives.1)
           (omega (arith, place)) gives.3 (ap (λ (w : Walk). w.earliest) gives.4) inside more.count more.begins more.goes_on more.ends;
@@ -79,10 +73,7 @@ returns-else-is_inside-clause-front g c tells =
     let file = g.H.ReadAt.bytes c.args.file.now in
     let inv = c.lines.invariant in
     let h = inv.fronted tells in
-    let same = inv.same tells in
-    let H : List ℕ → Type 0 = λ b. HasWalked c.lines.walk b h.checked.front in
-    let W : List ℕ → Type 0 = λ b. Walks h.checked.front b c.next.new.line.items (walked.Sample c.in-Sample.t) c.next.new.self in
-    let walks = subst W same (c.in-Sample.ensures.walked tells h.checked.front (subst H (sym same) h.checked.walked)) in
+    let walks = walks_on h.checked.front _ file c.next.new.line.items (walked.Sample c.in-Sample.t) c.lines.walk c.next.new.self (inv.same tells) h.checked.walked (c.in-Sample.ensures.walked tells h.checked.front) in
     let gives = rw inv.going at c.in-Sample.ensures.gives in
     let long : c.lines.walk.len ≤ length file = omega (arith, inv.len, c.requires.file tells) in
     let outside = outside_damaged c.args.part.now c.lines.walk c.next.new.self file c.next.new.line.items c.in-Sample.t c.lines.tally h.checked long
@@ -96,10 +87,7 @@ returns-else-is_inside-clause-none g c tells =
     let file = g.H.ReadAt.bytes c.args.file.now in
     let inv = c.lines.invariant in
     let h = inv.fronted tells in
-    let same = inv.same tells in
-    let H : List ℕ → Type 0 = λ b. HasWalked c.lines.walk b h.checked.front in
-    let W : List ℕ → Type 0 = λ b. Walks h.checked.front b c.next.new.line.items (walked.Sample c.in-Sample.t) c.next.new.self in
-    let walks = subst W same (c.in-Sample.ensures.walked tells h.checked.front (subst H (sym same) h.checked.walked)) in
+    let walks = walks_on h.checked.front _ file c.next.new.line.items (walked.Sample c.in-Sample.t) c.lines.walk c.next.new.self (inv.same tells) h.checked.walked (c.in-Sample.ensures.walked tells h.checked.front) in
     let gives = rw inv.going at c.in-Sample.ensures.gives in
     let long : c.lines.walk.len ≤ length file = omega (arith, inv.len, c.requires.file tells) in
     let outside = outside_damaged c.args.part.now c.lines.walk c.next.new.self file c.next.new.line.items c.in-Sample.t c.lines.tally h.checked long
@@ -113,10 +101,7 @@ returns-in-End-clause-front g c tells =
     let file = g.H.ReadAt.bytes c.args.file.now in
     let inv = c.lines.invariant in
     let h = inv.fronted tells in
-    let same = inv.same tells in
-    let H : List ℕ → Type 0 = λ b. HasWalked c.lines.walk b h.checked.front in
-    let W : List ℕ → Type 0 = λ b. Walks h.checked.front b c.next.new.line.items walked.End c.next.new.self in
-    let walks = subst W same (c.in-End.ensures.walked tells h.checked.front (subst H (sym same) h.checked.walked)) in
+    let walks = walks_on h.checked.front _ file c.next.new.line.items walked.End c.lines.walk c.next.new.self (inv.same tells) h.checked.walked (c.in-End.ensures.walked tells h.checked.front) in
     let gives = rw inv.going at c.in-End.ensures.gives in
     let long : c.lines.walk.len ≤ length file = omega (arith, inv.len, c.requires.file tells) in
     gives_front c.args.part.now c.lines.walk file c.lines.tally c.lines.head_len c.args.len c.place-at.result c.into_info-in-End.result c.front_of-in-End.result h (stops_at_end c.args.part.now c.lines.walk c.next.new.self file c.next.new.line.items c.lines.tally h.checked long gives.1 walks)
@@ -127,10 +112,7 @@ returns-in-End-clause-none g c tells =
     let file = g.H.ReadAt.bytes c.args.file.now in
     let inv = c.lines.invariant in
     let h = inv.fronted tells in
-    let same = inv.same tells in
-    let H : List ℕ → Type 0 = λ b. HasWalked c.lines.walk b h.checked.front in
-    let W : List ℕ → Type 0 = λ b. Walks h.checked.front b c.next.new.line.items walked.End c.next.new.self in
-    let walks = subst W same (c.in-End.ensures.walked tells h.checked.front (subst H (sym same) h.checked.walked)) in
+    let walks = walks_on h.checked.front _ file c.next.new.line.items walked.End c.lines.walk c.next.new.self (inv.same tells) h.checked.walked (c.in-End.ensures.walked tells h.checked.front) in
     let gives = rw inv.going at c.in-End.ensures.gives in
     let long : c.lines.walk.len ≤ length file = omega (arith, inv.len, c.requires.file tells) in
     gives_none c.args.part.now c.lines.walk file c.lines.tally c.lines.head_len c.args.len c.into_info-in-End.result c.front_of-in-End.result h (stops_at_end c.args.part.now c.lines.walk c.next.new.self file c.next.new.line.items c.lines.tally h.checked long gives.1 walks)
@@ -141,10 +123,7 @@ returns-in-Damaged-clause-front g c tells =
     let file = g.H.ReadAt.bytes c.args.file.now in
     let inv = c.lines.invariant in
     let h = inv.fronted tells in
-    let same = inv.same tells in
-    let H : List ℕ → Type 0 = λ b. HasWalked c.lines.walk b h.checked.front in
-    let W : List ℕ → Type 0 = λ b. Walks h.checked.front b c.next.new.line.items (walked.Damaged c.in-Damaged.at) c.next.new.self in
-    let walks = subst W same (c.in-Damaged.ensures.walked tells h.checked.front (subst H (sym same) h.checked.walked)) in
+    let walks = walks_on h.checked.front _ file c.next.new.line.items (walked.Damaged c.in-Damaged.at) c.lines.walk c.next.new.self (inv.same tells) h.checked.walked (c.in-Damaged.ensures.walked tells h.checked.front) in
     let gives = rw inv.going at c.in-Damaged.ensures.gives in
     let long : c.lines.walk.len ≤ length file = omega (arith, inv.len, c.requires.file tells) in
     let D : ℕ → Type 0 = λ n. IsDamaged c.args.part.now (take c.lines.walk.len file) n in
@@ -157,10 +136,7 @@ returns-in-Damaged-clause-none g c tells =
     let file = g.H.ReadAt.bytes c.args.file.now in
     let inv = c.lines.invariant in
     let h = inv.fronted tells in
-    let same = inv.same tells in
-    let H : List ℕ → Type 0 = λ b. HasWalked c.lines.walk b h.checked.front in
-    let W : List ℕ → Type 0 = λ b. Walks h.checked.front b c.next.new.line.items (walked.Damaged c.in-Damaged.at) c.next.new.self in
-    let walks = subst W same (c.in-Damaged.ensures.walked tells h.checked.front (subst H (sym same) h.checked.walked)) in
+    let walks = walks_on h.checked.front _ file c.next.new.line.items (walked.Damaged c.in-Damaged.at) c.lines.walk c.next.new.self (inv.same tells) h.checked.walked (c.in-Damaged.ensures.walked tells h.checked.front) in
     let gives = rw inv.going at c.in-Damaged.ensures.gives in
     let long : c.lines.walk.len ≤ length file = omega (arith, inv.len, c.requires.file tells) in
     let D : ℕ → Type 0 = λ n. IsDamaged c.args.part.now (take c.lines.walk.len file) n in

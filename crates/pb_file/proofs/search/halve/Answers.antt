@@ -64,8 +64,8 @@ halves-preserved-in_default g c =
     ) in
     record {
       len_is = inv.len_is;
-      same_len = e.len ∙ inv.same_len;
-      info = e.info ∙ inv.info;
+      same_len = e.kept.0 ∙ inv.same_len;
+      info = e.kept.1 ∙ inv.info;
       within = (inv.within.0, omega (arith, below, inv.within.1), inv.within.2);
       last_within = inv.last_within;
       same = λ tells. e.same tells ∙ inv.same tells;
@@ -110,8 +110,8 @@ halves-preserved-then-found-until g c =
     let at_within : IsTrue g.H.ReadAt.tells → f.at ≤ length all = λ tells. omega (arith, place.1, place.2, inv.same_len, length-take-le c.args.walk.now.len bytes (c.requires.file tells)) in
     record {
       len_is = inv.len_is;
-      same_len = e.len ∙ inv.same_len;
-      info = e.info ∙ inv.info;
+      same_len = e.kept.0 ∙ inv.same_len;
+      info = e.kept.1 ∙ inv.info;
       within = (omega (arith, place.2, inv.same_len, inv.len_is), inv.within.1, inv.within.2);
       last_within = omega (arith, place.1, place.2, inv.same_len, inv.len_is);
       same = λ tells. e.same tells ∙ inv.same tells;
@@ -159,8 +159,8 @@ halves-preserved g c =
     ) in
     record {
       len_is = inv.len_is;
-      same_len = e.len ∙ inv.same_len;
-      info = e.info ∙ inv.info;
+      same_len = e.kept.0 ∙ inv.same_len;
+      info = e.kept.1 ∙ inv.info;
       within = (inv.within.0, omega (arith, below, inv.within.1), omega (arith, place.1, place.2, inv.same_len, inv.len_is));
       last_within = inv.last_within;
       same = λ tells. e.same tells ∙ inv.same tells;

@@ -7,7 +7,7 @@ use Rattle.stream_merge.specs.Pieces.{NamedBytes, Faulted, OutOfActs, OutOfMemor
 use Rattle.stream_merge.specs.Reading.{AreSamplesOf}
 use Rattle.stream_merge.specs.Source.{CameOfPull, Pulls, RefusesAs, open_pieces}
 use Rattle.stream_merge.specs.Beginning.{early_count}
-use Rattle.stream_merge.proofs.Coming.{proceeds_first, proceeds_at, proceeds_ended, proceeds_opened, fails_opened, fails_there, pulls_tail, pulls_open, passes_end, passes_opened, passes_none, passed_all, opens_open, opens_any, less_opened}
+use Rattle.stream_merge.proofs.Coming.{proceeds_first, proceeds_past, proceeds_opened, fails_opened, fails_past, pulls_tail, pulls_open, passes_end, passes_opened, passes_none, passed_all, opens_open, opens_any, less_opened}
 use Rattle.stream_merge.proofs.Came.{came_open, came_refused, came_tail, pulls_refused, reads_refused, stays_of, stops_open, stops_refused, stops_tail}
 use Rattle.stream_merge.proofs.Went.{goes_nowhere, goes_opened, goes_none, went_open, went_begun, went_tail}
 use Rattle.stream_merge.specs.Reads.{HasRead, HasReadOpen, PullsNext}
@@ -69,7 +69,7 @@ pieces-preserved g c =
           let q = c.args.query in
           let room = c.args.steps.now + early_count q.from coming.here in
           let left = P.left c.pieces.pieces in
-          let a = proceeds_at R.bytes left k q ps xs room (record s { piece = new.piece }) new c.read_open.new.steps e.same (proceeds_ended R.bytes left k q ps xs room s new.piece c.pieces.steps c.read_open.new.steps none (e.lines tells) (e.no_step refl) (inv.lines tells ps xs is coming placed)) in
+          let a = proceeds_past R.bytes left k q ps xs room s new c.pieces.steps c.read_open.new.steps e.same none (e.lines tells) (e.no_step refl) (inv.lines tells ps xs is coming placed) in
           let over = o.opens tells a.still.pieces a.still.left_is in
           proceeds_opened R.bytes left (P.left c.open_next.new.self) k q ps xs room new p n over.rest c.in-Piece.len c.read_open.new.steps c.open_at.new.steps none a over.first over.others (opened.lines tells) (length-take-le c.in-Piece.len (R.bytes c.in-Piece.reader) (o.bytes tells)) c.in-Ok.ensures.steps;
       reads = λ tells ps read has.
@@ -131,7 +131,7 @@ returns-in-NoMore-clause-lines g c tells ps xs is coming placed =
     let q = c.args.query in
     let room = c.args.steps.now + early_count q.from coming.here in
     let left = P.left c.pieces.pieces in
-    let a = proceeds_at R.bytes left k q ps xs room (record s { piece = new.piece }) new c.read_open.new.steps e.same (proceeds_ended R.bytes left k q ps xs room s new.piece c.pieces.steps c.read_open.new.steps e.came (e.lines tells) (e.no_step refl) (c.pieces.invariant.lines tells ps xs is coming placed)) in
+    let a = proceeds_past R.bytes left k q ps xs room s new c.pieces.steps c.read_open.new.steps e.same e.came (e.lines tells) (e.no_step refl) (c.pieces.invariant.lines tells ps xs is coming placed) in
     let last = c.read_tail.new.self in
     let none : new.piece ≡ None = e.came in
     let over = c.in-NoMore.ensures.opens tells a.still.pieces a.still.left_is in
@@ -148,7 +148,7 @@ returns-in-Err-clause-lines g c tells ps xs is coming placed =
     let q = c.args.query in
     let room = c.args.steps.now + early_count q.from coming.here in
     let left = P.left c.pieces.pieces in
-    let a = proceeds_at R.bytes left k q ps xs room (record s { piece = new.piece }) new c.read_open.new.steps e.same (proceeds_ended R.bytes left k q ps xs room s new.piece c.pieces.steps c.read_open.new.steps e.came (e.lines tells) (e.no_step refl) (c.pieces.invariant.lines tells ps xs is coming placed)) in
+    let a = proceeds_past R.bytes left k q ps xs room s new c.pieces.steps c.read_open.new.steps e.same e.came (e.lines tells) (e.no_step refl) (c.pieces.invariant.lines tells ps xs is coming placed) in
     let n : NamedBytes = record { name = c.in-Piece.name; bytes = take c.in-Piece.len (R.bytes c.in-Piece.reader) } in
     let o = c.in-Piece.ensures in
     let over = o.opens tells a.still.pieces a.still.left_is in
@@ -157,45 +157,24 @@ returns-in-Err-clause-lines g c tells ps xs is coming placed =
 
 pub returns-in-ReadFault-clause-lines : goal.returns-in-ReadFault-clause-lines
 returns-in-ReadFault-clause-lines g c tells ps xs is coming placed =
-    let R = g.R.ReadAt in
     let P = g.P.Pieces in
     let e = c.in-End.ensures in
-    let s = c.pieces.self in
-    let new = c.read_open.new.self in
-    let k = behind c.args.last in
-    let q = c.args.query in
-    let room = c.args.steps.now + early_count q.from coming.here in
-    let left = P.left c.pieces.pieces in
-    let a = proceeds_at R.bytes left k q ps xs room (record s { piece = new.piece }) new c.read_open.new.steps e.same (proceeds_ended R.bytes left k q ps xs room s new.piece c.pieces.steps c.read_open.new.steps e.came (e.lines tells) (e.no_step refl) (c.pieces.invariant.lines tells ps xs is coming placed)) in
-    fails_there R.bytes left (P.left c.open_next.new.self) k q ps xs room new c.read_open.new.steps a (c.in-ReadFault.ensures.opens tells a.still.pieces a.still.left_is)
+    fails_past g.R.ReadAt.bytes (P.left c.pieces.pieces) (P.left c.open_next.new.self) (behind c.args.last) c.args.query ps xs (c.args.steps.now + early_count c.args.query.from coming.here) c.pieces.self c.read_open.new.self c.pieces.steps
+    c.read_open.new.steps e.same e.came (e.lines tells) (e.no_step refl) (c.pieces.invariant.lines tells ps xs is coming placed) (c.in-ReadFault.ensures.opens tells)
 
 pub returns-in-Spent-clause-lines : goal.returns-in-Spent-clause-lines
 returns-in-Spent-clause-lines g c tells ps xs is coming placed =
-    let R = g.R.ReadAt in
     let P = g.P.Pieces in
     let e = c.in-End.ensures in
-    let s = c.pieces.self in
-    let new = c.read_open.new.self in
-    let k = behind c.args.last in
-    let q = c.args.query in
-    let room = c.args.steps.now + early_count q.from coming.here in
-    let left = P.left c.pieces.pieces in
-    let a = proceeds_at R.bytes left k q ps xs room (record s { piece = new.piece }) new c.read_open.new.steps e.same (proceeds_ended R.bytes left k q ps xs room s new.piece c.pieces.steps c.read_open.new.steps e.came (e.lines tells) (e.no_step refl) (c.pieces.invariant.lines tells ps xs is coming placed)) in
-    fails_there R.bytes left (P.left c.open_next.new.self) k q ps xs room new c.read_open.new.steps a (c.in-Spent.ensures.opens tells a.still.pieces a.still.left_is)
+    fails_past g.R.ReadAt.bytes (P.left c.pieces.pieces) (P.left c.open_next.new.self) (behind c.args.last) c.args.query ps xs (c.args.steps.now + early_count c.args.query.from coming.here) c.pieces.self c.read_open.new.self c.pieces.steps
+    c.read_open.new.steps e.same e.came (e.lines tells) (e.no_step refl) (c.pieces.invariant.lines tells ps xs is coming placed) (c.in-Spent.ensures.opens tells)
 
 pub returns-in-Memory-clause-lines : goal.returns-in-Memory-clause-lines
 returns-in-Memory-clause-lines g c tells ps xs is coming placed =
-    let R = g.R.ReadAt in
     let P = g.P.Pieces in
     let e = c.in-End.ensures in
-    let s = c.pieces.self in
-    let new = c.read_open.new.self in
-    let k = behind c.args.last in
-    let q = c.args.query in
-    let room = c.args.steps.now + early_count q.from coming.here in
-    let left = P.left c.pieces.pieces in
-    let a = proceeds_at R.bytes left k q ps xs room (record s { piece = new.piece }) new c.read_open.new.steps e.same (proceeds_ended R.bytes left k q ps xs room s new.piece c.pieces.steps c.read_open.new.steps e.came (e.lines tells) (e.no_step refl) (c.pieces.invariant.lines tells ps xs is coming placed)) in
-    fails_there R.bytes left (P.left c.open_next.new.self) k q ps xs room new c.read_open.new.steps a (c.in-Memory.ensures.opens tells a.still.pieces a.still.left_is)
+    fails_past g.R.ReadAt.bytes (P.left c.pieces.pieces) (P.left c.open_next.new.self) (behind c.args.last) c.args.query ps xs (c.args.steps.now + early_count c.args.query.from coming.here) c.pieces.self c.read_open.new.self c.pieces.steps
+    c.read_open.new.steps e.same e.came (e.lines tells) (e.no_step refl) (c.pieces.invariant.lines tells ps xs is coming placed) (c.in-Memory.ensures.opens tells)
 
 pub returns-in-NoMore-clause-reads : goal.returns-in-NoMore-clause-reads
 returns-in-NoMore-clause-reads g c tells ps read has =

@@ -83,7 +83,7 @@ returns g c =
           (λ is.
           let W : Walked → Type 0 = λ k. (at : ℕ) (front : Front) → HasSkipped p.walk (R.bytes p.reader) at front → GoesOnFrom at front (R.bytes p.reader) line k c.next-walked.new.self in
           end_of_open R.bytes ty o p read c.in-Some.is (end_is_read R.bytes ty p c.next-walked.new.self line read (same_len p.walk c.next-walked.new.self line w gives) (subst W (closed_end q w r c.close.ensures is) (e.skipped tells)) (read_of R.bytes ty o p read c.in-Some.is now)));
-      counts = e.first_step;
-      one_step = e.one_step;
-      no_step = λ is. e.no_step (closed_end q w r c.close.ensures is);
+      counts = e.steps.0;
+      one_step = e.steps.1;
+      no_step = λ is. e.steps.2 (closed_end q w r c.close.ensures is);
     }
