@@ -4,17 +4,17 @@ use Rattle.std.proofs.lemmas.Result.{on_ok_weaker, IfErr-at_err}
 use Rattle.std.specs.Int.{to_le_bytes, w64}
 use Rattle.disk_model.specs.declared.disk.DiskErr.{DiskErr}
 use Rattle.disk_model.specs.declared.disk.DiskErr.TheVariants.{Fault, Memory}
-use Rattle.disk_model.specs.Files.{Name, Content, Files, HasFile}
+use Rattle.disk_model.specs.Files.{Name, Content, Files, HasFile, At, KeptOr}
 use Rattle.disk_model.specs.Past.{Past, MayLeave, Passes, Only}
 use Rattle.disk_model.proofs.Passing.{passes_none, passes_then, passes_weaker}
 use Rattle.gate_journal.specs.Batches.{open_gates, framed_bytes, Reads, HasBatches}
 use Rattle.gate_journal.specs.Commits.{CommitsBatches, GoesOver}
-use Rattle.gate_journal.specs.Journal.{JournalState, state_of, IsThere, IsSettledWith, IsUndecided, Switches, IsLeft, IsTold, OnlyGoesOn, OnlyMakes}
+use Rattle.gate_journal.specs.Journal.{JournalState, state_of, IsThere, IsSettledWith, IsUndecided, Switches, SwitchesTo, IsLeft, IsTold, OnlyGoesOn, OnlyMakes}
 use Rattle.gate_journal.specs.declared.journal.Pending.{Pending}
 use Rattle.gate_journal.specs.declared.journal.Pending.TheVariants.{Nothing, Switch, Removal}
 use Rattle.gate_journal.specs.Generations.{generation_name, IsOwn, AtOwn, HasOneOf, generation_batches}
 use Rattle.gate_journal.specs.Plain.{PlainState, IsSettled, IsInDoubt}
-use Rattle.gate_journal.specs.DiskShown.{DiskShown}
+use Rattle.gate_journal.specs.DiskShown.{DiskShown, ChangesUnopened}
 use Rattle.gate_journal.proofs.Bytes.{one, length-framed_bytes}
 use Rattle.gate_journal.proofs.Elsewhere.{settled_stays}
 use Rattle.gate_journal.proofs.FileNames.{at_apart, one_generation, is_next}
@@ -71,17 +71,16 @@ module _ (journal : JournalState) (disk : DiskShown) (bs : List (List ℕ)) (s :
         passes_weaker (Switches journal.at.name next cs batch bytes) (OnlyGoesOn journal.name k) disk.past mid passes (λ a c was step. goes_on a c (λ m not_at not_current not_next. step.elsewhere m not_at not_next))
 
     -- and then the old file is removed
-    pub removal_goes_on : (mid new : Past) → Passes (OnlyGoesOn journal.name k) disk.past mid → Passes (Anyhow journal.current.name) mid new → Passes (OnlyGoesOn journal.name k) disk.past new
+    pub removal_goes_on : (mid new : Past) → Passes (OnlyGoesOn journal.name k) disk.past mid → Passes (At journal.current.name (KeptOr None)) mid new → Passes (OnlyGoesOn journal.name k) disk.past new
     removal_goes_on mid new first second =
-        passes_then (OnlyGoesOn journal.name k) (Anyhow journal.current.name) disk.past mid new first second
+        passes_then (OnlyGoesOn journal.name k) (At journal.current.name (KeptOr None)) disk.past mid new first second
         (λ a b c was before now step m not_at not_current not_next. step.elsewhere m (λ is. not_current (is ∙ current)) ∙ before m not_at not_current not_next)
 
     pub only_makes : (mid : Past) → Passes (Anyhow next) disk.past mid → Passes (OnlyMakes journal.name k) disk.past mid
     only_makes mid passes = passes_weaker (Anyhow next) (OnlyMakes journal.name k) disk.past mid passes (λ a c was step. makes a c step.elsewhere)
 
   module _ (batch bytes : List ℕ) (long : length batch ≤ 1073741824) (is_file : bytes ≡ open_gates (batch ∷ []) ++ 0 ∷ []) (new : DiskShown)
-      (passes : Passes (Switches journal.at.name next (generation_batches s.generation) (to_le_bytes w64 n) bytes) disk.past new.past)
-      (elsewhere : (m : Name) → m ≢ journal.at.name → m ≢ next → new.files m ≡ disk.files m) (others_opened : (m : Name) → m ≢ next → new.opened m ≡ disk.opened m) (next_unopened : new.opened next ≡ 0) where
+      (came : Result (Unit {0}) DiskErr) (at : PlainState) (switched : SwitchesTo next (generation_batches s.generation) (to_le_bytes w64 n) bytes came journal.at at disk new) where
     short : length batch < 2 ^ 32
     short = omega (arith, long)
 
@@ -89,7 +88,7 @@ module _ (journal : JournalState) (disk : DiskShown) (bs : List (List ℕ)) (s :
     S = Switches journal.at.name next (generation_batches s.generation) (to_le_bytes w64 n) bytes
 
     current_same : new.files journal.current.name ≡ disk.files journal.current.name
-    current_same = elsewhere journal.current.name (λ is. names_apart journal disk bs s (sym is)) current_not_next
+    current_same = switched.elsewhere journal.current.name (λ is. names_apart journal disk bs s (sym is)) current_not_next
 
     not_at : (m : Name) → (IsOwn journal.name m → ⊥) → m ≢ journal.at.name
     not_at m other is = other (subst (IsOwn journal.name) (sym is) (at_is_own journal disk bs s))
@@ -108,13 +107,13 @@ module _ (journal : JournalState) (disk : DiskShown) (bs : List (List ℕ)) (s :
 
     pub all_unopened : (m : Name) → IsOwn journal.name m → new.opened m ≡ 0
     all_unopened m own = elim (is_next journal.name m n small own) [
-      | inl is ↦ ap new.opened (is ∙ sym named) ∙ next_unopened
-      | inr other ↦ others_opened m (λ is. other (is ∙ named)) ∙ s.named.unopened m own
+      | inl is ↦ ap new.opened (is ∙ sym named) ∙ switched.unopened
+      | inr other ↦ switched.opened m (λ is. other (is ∙ named)) ∙ s.named.unopened m own
     ]
 
     pub current_settled : IsSettled journal.current new bs
     current_settled =
-        settled_stays journal.current disk new bs S s.current passes current_stays current_same
+        settled_stays journal.current disk new bs S s.current switched.any_moment current_stays current_same
         (let none = all_unopened journal.current.name (current_is_own journal disk bs s) in omega (arith, none))
 
     current_there : IsThere s.generation (new.files journal.current.name)
@@ -139,12 +138,12 @@ module _ (journal : JournalState) (disk : DiskShown) (bs : List (List ℕ)) (s :
 
     pub switch_passes_own : Passes (AtOwn journal.name (HasOneOf journal.name bs (batch ∷ []))) disk.past new.past
     switch_passes_own =
-        own_first journal.name (HasOneOf journal.name bs (batch ∷ [])) S disk.past new.past passes here_after
+        own_first journal.name (HasOneOf journal.name bs (batch ∷ [])) S disk.past new.past switched.any_moment here_after
         (λ b c step m other. step.elsewhere m (not_at m other) (not_the_next m other))
 
     -- at Memory it is as it was
-    pub left_commits : (at : PlainState) (after : JournalState) → after ≡ journal → IsLeft journal.at at new (generation_batches s.generation) → CommitsBatches bs (batch ∷ []) (Err Memory) journal after disk new
-    left_commits at after same left = record {
+    pub left_commits : (after : JournalState) → after ≡ journal → IsLeft journal.at at new (generation_batches s.generation) → CommitsBatches bs (batch ∷ []) (Err Memory) journal after disk new
+    left_commits after same left = record {
       made = tt;
       doubt = λ failed. absurd (cc failed);
       unchanged = λ failed. subst (λ (j : JournalState). IsSettledWith j new bs) (sym same) (record {
@@ -155,14 +154,14 @@ module _ (journal : JournalState) (disk : DiskShown) (bs : List (List ℕ)) (s :
         there = current_there;
       });
       any_moment = switch_passes_own;
-      elsewhere = λ m other. elsewhere m (not_at m other) (not_the_next m other);
-      opened = λ m other. others_opened m (not_the_next m other);
+      elsewhere = λ m other. switched.elsewhere m (not_at m other) (not_the_next m other);
+      opened = λ m other. switched.opened m (not_the_next m other);
     }
 
-    module _ (at first : PlainState) (at_same_name : at.name ≡ journal.at.name) (first_name : first.name ≡ next) (first_place : first.place ≡ length batch + 5) where
+    module _ (first : PlainState) (at_same_name : at.name ≡ journal.at.name) (first_name : first.name ≡ next) (first_place : first.place ≡ length batch + 5) where
       pub next_settled : new.files next ≡ Some bytes → Only new.past next (Some bytes) → IsSettled first new (batch ∷ [])
       next_settled made durable =
-          first_settled first new batch bytes short is_file first_place (ap new.files first_name ∙ made) (λ image left. ap image first_name ∙ durable image left) (ap new.opened first_name ∙ next_unopened)
+          first_settled first new batch bytes short is_file first_place (ap new.files first_name ∙ made) (λ image left. ap image first_name ∙ durable image left) (ap new.opened first_name ∙ switched.unopened)
 
       -- the file tells the next generation
       abbrev pub gone_over : (pending : Pending) → IsSettled at new (generation_batches s.generation ++ to_le_bytes w64 n ∷ []) → new.files next ≡ Some bytes → Only new.past next (Some bytes)
@@ -203,19 +202,18 @@ module _ (journal : JournalState) (disk : DiskShown) (bs : List (List ℕ)) (s :
         doubt = λ fault. switch_open failed was_sound;
         unchanged = λ failed. absurd (cc failed);
         any_moment = switch_passes_own;
-        elsewhere = λ m other. elsewhere m (not_at m other) (not_the_next m other);
-        opened = λ m other. others_opened m (not_the_next m other);
+        elsewhere = λ m other. switched.elsewhere m (not_at m other) (not_the_next m other);
+        opened = λ m other. switched.opened m (not_the_next m other);
       }
 
       -- and then the old file is removed
       module _ (told : IsSettled at new (generation_batches s.generation ++ to_le_bytes w64 n ∷ [])) (made : new.files next ≡ Some bytes) (durable : Only new.past next (Some bytes))
-          (last : DiskShown) (removal : Passes (Anyhow journal.current.name) new.past last.past) (only_it : (m : Name) → m ≢ journal.current.name → last.files m ≡ new.files m)
-          (only_opened : (m : Name) → m ≢ journal.current.name → last.opened m ≡ new.opened m) (none_opened : last.opened journal.current.name ≡ 0) where
+          (last : DiskShown) (removal : ChangesUnopened journal.current.name (KeptOr None) new last) where
         abbrev over : Pending → JournalState
         over pending = state_of journal.name at first pending
 
         abbrev behind : (pending : Pending) → IsSettledWith (over pending) last (batch ∷ [])
-        behind pending = removed (over pending) new (batch ∷ []) (gone_over pending told made durable) s.generation (sym counted) journal.current.name s.named.current last removal only_it only_opened none_opened
+        behind pending = removed (over pending) new (batch ∷ []) (gone_over pending told made durable) s.generation (sym counted) journal.current.name s.named.current last removal
 
         pub gone_commits : (result : Result (Unit {0}) DiskErr) (after : JournalState) → OnOk result (after ≡ over Nothing) → OnErr result (after ≡ over (Removal journal.current)) → (IsErrOf result Memory → ⊥)
             → CommitsBatches bs (batch ∷ []) result journal after disk last
@@ -226,10 +224,10 @@ module _ (journal : JournalState) (disk : DiskShown) (bs : List (List ℕ)) (s :
               (record { settled = behind (Removal journal.current); generation = s.generation; before = sym counted; named = s.named.current });
           unchanged = λ failed. absurd (no_memory failed);
           any_moment =
-              removal_passes (over Nothing) new (batch ∷ []) (gone_over Nothing told made durable) s.generation (sym counted) journal.current.name s.named.current (HasOneOf journal.name bs (batch ∷ [])) disk.past last.past switch_passes_own removal
+              removal_passes (over Nothing) new (batch ∷ []) (gone_over Nothing told made durable) s.generation (sym counted) journal.current.name s.named.current (HasOneOf journal.name bs (batch ∷ [])) disk.past last.past switch_passes_own removal.any_moment
               (λ a b d so_far was has. inr has);
-          elsewhere = λ m other. only_it m (not_current m other) ∙ elsewhere m (not_at m other) (not_the_next m other);
-          opened = λ m other. only_opened m (not_current m other) ∙ others_opened m (not_the_next m other);
+          elsewhere = λ m other. removal.files.elsewhere m (not_current m other) ∙ switched.elsewhere m (not_at m other) (not_the_next m other);
+          opened = λ m other. removal.opened m (not_current m other) ∙ switched.opened m (not_the_next m other);
         }
 
         pub gone_over_goes : (k : ℕ) (small_k : k < 2 ^ 64) (current : journal.current.name ≡ generation_name journal.name k) (result : Result (Unit {0}) DiskErr) (after : JournalState) → OnOk result (after ≡ over Nothing) → (IsErrOf result Memory → ⊥)
@@ -237,8 +235,8 @@ module _ (journal : JournalState) (disk : DiskShown) (bs : List (List ℕ)) (s :
         gone_over_goes k small_k current result after is_over no_memory gone = record {
           next = on_ok_weaker result (λ is. ap (λ (j : JournalState). j.current.name) is ∙ first_name ∙ next_behind k small_k current) is_over;
           gone = gone;
-          files = goes_on k small_k current disk.files last.files (λ m other_at other_current other_next. only_it m other_current ∙ elsewhere m other_at other_next);
-          any_moment = removal_goes_on k small_k current new.past last.past (switch_goes_on k small_k current (generation_batches s.generation) (to_le_bytes w64 n) bytes new.past passes) removal;
+          files = goes_on k small_k current disk.files last.files (λ m other_at other_current other_next. removal.files.elsewhere m other_current ∙ switched.elsewhere m other_at other_next);
+          any_moment = removal_goes_on k small_k current new.past last.past (switch_goes_on k small_k current (generation_batches s.generation) (to_le_bytes w64 n) bytes new.past switched.any_moment) removal.any_moment;
           untold = λ failed. absurd (no_memory failed);
         }
 
@@ -247,8 +245,8 @@ module _ (journal : JournalState) (disk : DiskShown) (bs : List (List ℕ)) (s :
     left_goes k small_k current after same made = record {
       next = tt;
       gone = tt;
-      files = goes_on k small_k current disk.files new.files (λ m other_at other_current other_next. elsewhere m other_at other_next);
-      any_moment = switch_goes_on k small_k current (generation_batches s.generation) (to_le_bytes w64 n) bytes new.past passes;
+      files = goes_on k small_k current disk.files new.files (λ m other_at other_current other_next. switched.elsewhere m other_at other_next);
+      any_moment = switch_goes_on k small_k current (generation_batches s.generation) (to_le_bytes w64 n) bytes new.past switched.any_moment;
       untold = λ failed. (makes k small_k current disk.files new.files same, only_makes k small_k current new.past made);
     }
 
@@ -256,8 +254,8 @@ module _ (journal : JournalState) (disk : DiskShown) (bs : List (List ℕ)) (s :
     open_goes k small_k current after = record {
       next = tt;
       gone = tt;
-      files = goes_on k small_k current disk.files new.files (λ m other_at other_current other_next. elsewhere m other_at other_next);
-      any_moment = switch_goes_on k small_k current (generation_batches s.generation) (to_le_bytes w64 n) bytes new.past passes;
+      files = goes_on k small_k current disk.files new.files (λ m other_at other_current other_next. switched.elsewhere m other_at other_next);
+      any_moment = switch_goes_on k small_k current (generation_batches s.generation) (to_le_bytes w64 n) bytes new.past switched.any_moment;
       untold = λ failed. absurd (cc failed);
     }
 

@@ -1,9 +1,9 @@
 -- What a crash may leave of a journal in doubt, and what a review finds.
-use Rattle.std.proofs.Common.{◌≡◌, ◌≢◌, ◌⊎◌, inl, inr, ℕ, ◌+◌, List, [], ◌∷◌, ◌++◌, Bool, IsTrue, true, false, Result, Ok, Err, IfOk, OnErr, refl, sym, ◌∙◌, ap, subst, arith}
+use Rattle.std.proofs.Common.{◌≡◌, ◌≢◌, ◌⊎◌, inl, inr, ℕ, ◌+◌, List, [], ◌∷◌, ◌++◌, Bool, IsTrue, true, false, None, Result, Ok, Err, IfOk, OnErr, refl, sym, ◌∙◌, ap, subst, arith}
 use Rattle.std.proofs.lemmas.Result.{on_err_weaker}
 use Rattle.std.specs.Int.{to_le_bytes, w64}
 use Rattle.disk_model.specs.declared.disk.DiskErr.{DiskErr}
-use Rattle.disk_model.specs.Files.{Name, Files}
+use Rattle.disk_model.specs.Files.{Name, Files, KeptOr}
 use Rattle.disk_model.specs.Past.{Past, MayLeave, Passes}
 use Rattle.gate_journal.specs.Batches.{HasBatches, IsShort}
 use Rattle.gate_journal.specs.Commits.{Reviews}
@@ -12,10 +12,9 @@ use Rattle.gate_journal.specs.declared.journal.Pending.{Pending}
 use Rattle.gate_journal.specs.declared.journal.Pending.TheVariants.{Nothing, Switch, Removal}
 use Rattle.gate_journal.specs.Generations.{IsOwn, AtOwn, HasOneOf, HasBatchesOf, generation_batches}
 use Rattle.gate_journal.specs.Plain.{PlainState, IsSettled, IsInDoubt}
-use Rattle.gate_journal.specs.DiskShown.{DiskShown}
+use Rattle.gate_journal.specs.DiskShown.{DiskShown, ChangesUnopened}
 use Rattle.gate_journal.proofs.Results.{if_ok}
 use Rattle.gate_journal.proofs.Elsewhere.{settled_stays, journal_left}
-use Rattle.gate_journal.proofs.Files.{Anyhow}
 use Rattle.gate_journal.proofs.Holding.{holds_at, same_left, holds_left, settled_as}
 use Rattle.gate_journal.proofs.Begin.{journal_has}
 use Rattle.gate_journal.proofs.Owned.{own_none, own_first, leaves_all, left_now}
@@ -228,17 +227,16 @@ module _ (journal : JournalState) (disk : DiskShown) (before after : List (List 
 
       -- and then the old file is removed
       module _ (told : IsSettled at new (generation_batches w.generation ++ to_le_bytes w64 (w.generation + 1) ∷ []))
-          (last : DiskShown) (removal : Passes (Anyhow journal.current.name) new.past last.past) (only_it : (m : Name) → m ≢ journal.current.name → last.files m ≡ new.files m)
-          (only_opened : (m : Name) → m ≢ journal.current.name → last.opened m ≡ new.opened m) (none_opened : last.opened journal.current.name ≡ 0) where
+          (last : DiskShown) (gone : ChangesUnopened journal.current.name (KeptOr None) new last) where
         abbrev over : Pending → JournalState
         over pending = state_of journal.name at next pending
 
         abbrev behind : (pending : Pending) → IsSettledWith (over pending) last after
-        behind pending = removed (over pending) new after (is_switched pending told) w.generation refl journal.current.name w.named.current last removal only_it only_opened none_opened
+        behind pending = removed (over pending) new after (is_switched pending told) w.generation refl journal.current.name w.named.current last gone
 
         over_passes : Passes (AtOwn journal.name (HasOneOf journal.name before after)) disk.past last.past
         over_passes =
-            removal_passes (over Nothing) new after (is_switched Nothing told) w.generation refl journal.current.name w.named.current (HasOneOf journal.name before after) disk.past last.past (undecided_passes new.past (open_switch is) passes) removal
+            removal_passes (over Nothing) new after (is_switched Nothing told) w.generation refl journal.current.name w.named.current (HasOneOf journal.name before after) disk.past last.past (undecided_passes new.past (open_switch is) passes) gone.any_moment
             (λ a b e so_far was has. inr has)
 
         not_current : (m : Name) → (IsOwn journal.name m → ⊥) → m ≢ journal.current.name
@@ -250,8 +248,8 @@ module _ (journal : JournalState) (disk : DiskShown) (before after : List (List 
           unmade = λ no. absurd (cc no);
           doubtful = tt;
           any_moment = over_passes;
-          elsewhere = λ m other. only_it m (not_current m other) ∙ ap (λ (f : Files). f m) same;
-          opened = λ m other. only_opened m (not_current m other) ∙ ap (λ (f : Name → ℕ). f m) same_opened;
+          elsewhere = λ m other. gone.files.elsewhere m (not_current m other) ∙ ap (λ (f : Files). f m) same;
+          opened = λ m other. gone.opened m (not_current m other) ∙ ap (λ (f : Name → ℕ). f m) same_opened;
         }
 
         pub half_over_reviews : (final : JournalState) (result : Result Bool DiskErr) (e : DiskErr) → result ≡ Err e → final ≡ over (Removal journal.current) → Reviews before after result journal final disk last
@@ -261,19 +259,19 @@ module _ (journal : JournalState) (disk : DiskShown) (before after : List (List 
           doubtful =
               subst (λ (j : JournalState). IsUndecided j last before after) (sym is_left) (record { settled = behind (Removal journal.current); generation = w.generation; before = refl; named = w.named.current });
           any_moment = over_passes;
-          elsewhere = λ m other. only_it m (not_current m other) ∙ ap (λ (f : Files). f m) same;
-          opened = λ m other. only_opened m (not_current m other) ∙ ap (λ (f : Name → ℕ). f m) same_opened;
+          elsewhere = λ m other. gone.files.elsewhere m (not_current m other) ∙ ap (λ (f : Files). f m) same;
+          opened = λ m other. gone.opened m (not_current m other) ∙ ap (λ (f : Name → ℕ). f m) same_opened;
         })
 
   -- the file of the generation before is removed once more
   module _ (old : PlainState) (r : IsRemoving journal old disk after) (file : Name) (is_file : file ≡ old.name) (new : DiskShown) (doubt : IsUndecided journal disk before after)
-      (removal : Passes (Anyhow file) disk.past new.past) (only_it : (n : Name) → n ≢ file → new.files n ≡ disk.files n) (only_opened : (n : Name) → n ≢ file → new.opened n ≡ disk.opened n) (none_opened : new.opened file ≡ 0) where
+      (gone : ChangesUnopened file (KeptOr None) disk new) where
     abbrev removed_still : IsSettledWith journal new after
-    removed_still = removed journal disk after r.settled r.generation r.before file (is_file ∙ r.named) new removal only_it only_opened none_opened
+    removed_still = removed journal disk after r.settled r.generation r.before file (is_file ∙ r.named) new gone
 
     removing_passes : Passes (AtOwn journal.name (HasOneOf journal.name before after)) disk.past new.past
     removing_passes =
-        removal_passes journal disk after r.settled r.generation r.before file (is_file ∙ r.named) (HasOneOf journal.name before after) disk.past new.past (undecided_none doubt) removal
+        removal_passes journal disk after r.settled r.generation r.before file (is_file ∙ r.named) (HasOneOf journal.name before after) disk.past new.past (undecided_none doubt) gone.any_moment
         (λ a b e so_far was has. inr has)
 
     not_file : (n : Name) → (IsOwn journal.name n → ⊥) → n ≢ file
@@ -285,8 +283,8 @@ module _ (journal : JournalState) (disk : DiskShown) (before after : List (List 
       unmade = λ no. absurd (cc no);
       doubtful = tt;
       any_moment = removing_passes;
-      elsewhere = λ n other. only_it n (not_file n other);
-      opened = λ n other. only_opened n (not_file n other);
+      elsewhere = λ n other. gone.files.elsewhere n (not_file n other);
+      opened = λ n other. gone.opened n (not_file n other);
     }
 
     pub removing_reviews : (result : Result Bool DiskErr) (e : DiskErr) → result ≡ Err e → journal.pending ≡ Removal old → Reviews before after result journal journal disk new
@@ -296,6 +294,6 @@ module _ (journal : JournalState) (disk : DiskShown) (before after : List (List 
       doubtful =
           subst (λ (p : Pending). IsOpen p journal new before after) (sym is) (record { settled = removed_still; generation = r.generation; before = r.before; named = r.named });
       any_moment = removing_passes;
-      elsewhere = λ n other. only_it n (not_file n other);
-      opened = λ n other. only_opened n (not_file n other);
+      elsewhere = λ n other. gone.files.elsewhere n (not_file n other);
+      opened = λ n other. gone.opened n (not_file n other);
     })

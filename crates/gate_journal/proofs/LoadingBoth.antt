@@ -1,38 +1,17 @@
 -- A journal with checkpoints is loaded: the file that tells the generation, that generation's file, and the removal of the one before.
 use Rattle.std.proofs.Common.{◌≡◌, ◌≢◌, ◌⊎◌, inl, inr, ℕ, zero, suc, ◌+◌, ◌-◌, ◌<◌, ◌≤◌, ◌^◌, List, length, Some, None, refl, sym, ◌∙◌, ap, subst, arith}
 use Rattle.disk_model.specs.Files.{Name, Content, Files, At, size_of}
-use Rattle.disk_model.specs.Past.{Past, MayLeave, Passes, Only}
-use Rattle.disk_model.proofs.Passing.{passes_none, passes_then, passes_weaker}
+use Rattle.disk_model.specs.Past.{Passes, Only}
 use Rattle.gate_journal.specs.Batches.{HasBatches, IsBadJournal, IsShort}
 use Rattle.gate_journal.specs.Journal.{JournalState, state_of, IsThere, IsSettledWith, HasNoneBefore}
 use Rattle.gate_journal.specs.declared.journal.Pending.{Pending}
-use Rattle.gate_journal.specs.Generations.{at_name, generation_name, generation_batches, IsOwn, HasBatchesOf, IsBadOf, AtOwn, KeepsBatches, IsBefore}
-use Rattle.gate_journal.specs.Load.{StaysOrShort}
+use Rattle.gate_journal.specs.Generations.{at_name, generation_name, generation_batches, IsOwn, HasBatchesOf, IsBadOf, IsBefore}
+use Rattle.gate_journal.specs.Load.{StaysOrShort, OnlyClears}
 use Rattle.gate_journal.specs.Plain.{PlainState, IsSettled}
-use Rattle.gate_journal.specs.DiskShown.{DiskShown}
-use Rattle.gate_journal.proofs.Elsewhere.{settled_stays, journal_left}
+use Rattle.gate_journal.specs.DiskShown.{DiskShown, ChangesUnopened}
+use Rattle.gate_journal.proofs.Elsewhere.{settled_stays}
 use Rattle.gate_journal.proofs.FileNames.{at_apart, one_generation, is_next}
-use Rattle.gate_journal.proofs.Files.{Anyhow}
-use Rattle.gate_journal.proofs.Holding.{settled_seen}
-use Rattle.gate_journal.proofs.Owned.{own_none, own_first, leaves_at}
-use Rattle.gate_journal.proofs.Synced.{own_decides, keeps_at, keeps_then, stays_then, stays_there, synced_same}
-use Rattle.gate_journal.proofs.Telling.{one_generation_told}
-
--- only the file of the generation before is changed
-abbrev pub Clears : Name → ℕ → Files → Files → Type 0
-Clears name g a b = (n : Name) → (IsBefore name g n → ⊥) → b n ≡ a n
-
-abbrev pub Keeps : Name → Files → Files → Type 0
-Keeps name = AtOwn name (KeepsBatches name)
-
-pub keeps_same : (name : Name) (a : Files) → Keeps name a a
-keeps_same name a = record { here = record { batches = λ bs. (λ has. has, λ has. has); told = λ g has. has }; elsewhere = λ n other. refl }
-
-pub keeps_none : (name : Name) (past : Past) → Passes (Keeps name) past past
-keeps_none name past = own_none name (KeepsBatches name) past (λ a was. record { batches = λ bs. (λ has. has, λ has. has); told = λ g has. has })
-
-pub keeps_first : (name file : Name) (old new : Past) → IsOwn name file → Passes (At file StaysOrShort) old new → Passes (Keeps name) old new
-keeps_first name file old new own passes = own_first name (KeepsBatches name) (At file StaysOrShort) old new passes (λ a c was step. (keeps_at name file a c own step).here) (leaves_at name file StaysOrShort own)
+use Rattle.gate_journal.proofs.Synced.{own_decides, stays_there}
 
 pub opened_none : (name file : Name) (opened later : Name → ℕ) → IsOwn name file → ((n : Name) → n ≢ file → later n ≡ opened n) → later file ≡ 0 → ((n : Name) → IsOwn name n → opened n ≡ 0) → (n : Name) → IsOwn name n → later n ≡ 0
 opened_none name file opened later own others here none n too = elim (own_decides name file n own too) [ inl same ↦ ap later same ∙ here | inr other ↦ others n other ∙ none n too ]
@@ -64,71 +43,31 @@ module _ (name : Name) (g : ℕ) (small : g < 2 ^ 64) where
       go zero is = others n (λ before. let less = before.before in omega (arith, less, is)) ∙ none n own
       go (suc h) is = elim (before_from h (omega (arith, is)) n own) [ inl before ↦ here n before | inr other ↦ others n other ∙ none n own ]
 
-  -- two images that tell this generation, and have the same of its file
-  same_current : (b c : Files) → HasBatches (b (at_name name)) (generation_batches g) → HasBatches (c (at_name name)) (generation_batches g) → c (generation_name name g) ≡ b (generation_name name g) → (bs : List (List ℕ)) → HasBatchesOf name b bs → HasBatchesOf name c bs
-  same_current b c told still current bs has =
-      let same = one_generation_told (b (at_name name)) has.generation g has.told told in
-      record {
-        generation = g;
-        small = small;
-        told = still;
-        batches = subst (λ (x : Content). HasBatches x bs) (sym current) (subst (λ (k : ℕ). HasBatches (b (generation_name name k)) bs) same has.batches);
-        there = subst (λ (x : Content). IsThere g x) (sym current) (subst (λ (k : ℕ). IsThere k (b (generation_name name k))) same has.there);
-      }
-
-  -- an image in which the file that tells the generation has this one
-  pub clears_keeps : (b c : Files) → HasBatches (b (at_name name)) (generation_batches g) → Clears name g b c → Keeps name b c
-  clears_keeps b c told clears =
-      let at = clears (at_name name) at_not_before in
-      let current = clears (generation_name name g) current_not_before in
-      let still : HasBatches (c (at_name name)) (generation_batches g) = subst (λ (x : Content). HasBatches x (generation_batches g)) (sym at) told in
-      record {
-        here = record {
-          batches = λ bs. (same_current b c told still current bs, same_current c b still told (sym current) bs);
-          told = λ h has. subst (λ (x : Content). HasBatches x (generation_batches h)) (sym at) has;
-        };
-        elsewhere = λ n other. clears n (λ before. other (before_own n before));
-      }
-
-  module _ (at current : PlainState) (pending : Pending) (is_at : at.name ≡ at_name name) (is_current : current.name ≡ generation_name name g) (first mid last : DiskShown)
-      (bs : List (List ℕ)) (at_settled : IsSettled at first (generation_batches g)) (loaded : At (generation_name name g) StaysOrShort first.files mid.files) (loads : Passes (At (generation_name name g) StaysOrShort) first.past mid.past)
-      (opened_current : (n : Name) → n ≢ generation_name name g → mid.opened n ≡ first.opened n) where
+  -- while the current generation's file is loaded, the file that tells the generation stays
+  module _ (at : PlainState) (is_at : at.name ≡ at_name name) (first mid : DiskShown) (at_first : IsSettled at first (generation_batches g)) (two : ChangesUnopened (generation_name name g) StaysOrShort first mid) where
     at_not_current : at.name ≢ generation_name name g
     at_not_current same = at_apart name g small (sym same ∙ is_at)
 
-    -- while the current generation's file is loaded, the file that tells the generation stays
     pub at_mid : IsSettled at mid (generation_batches g)
     at_mid =
-        settled_stays at first mid (generation_batches g) (At (generation_name name g) StaysOrShort) at_settled loads (λ a c step. step.elsewhere at.name at_not_current) (loaded.elsewhere at.name at_not_current)
-        (let fewer = opened_current at.name at_not_current in omega (arith, fewer))
+        settled_stays at first mid (generation_batches g) (At (generation_name name g) StaysOrShort) at_first two.any_moment (λ a c step. step.elsewhere at.name at_not_current) (two.files.elsewhere at.name at_not_current)
+        (let fewer = two.opened at.name at_not_current in omega (arith, fewer))
 
-    pub told_mid : (b : Files) → MayLeave mid.past b → HasBatches (b (at_name name)) (generation_batches g)
-    told_mid b left = subst (λ (n : Name). HasBatches (b n) (generation_batches g)) is_at (journal_left at mid (generation_batches g) at_mid b left)
-
-    told_seen : HasBatches (mid.files (at_name name)) (generation_batches g)
-    told_seen = subst (λ (n : Name). HasBatches (mid.files n) (generation_batches g)) is_at (settled_seen at mid (generation_batches g) at_mid)
-
-    pub cleared_keeps : (start : Files) → Keeps name start mid.files → Clears name g mid.files last.files → Keeps name start last.files
-    cleared_keeps start before clears = keeps_then name start mid.files last.files before (clears_keeps mid.files last.files told_seen clears)
-
-    pub cleared_passes : (start : Past) → Passes (Keeps name) start mid.past → Passes (Clears name g) mid.past last.past → Passes (Keeps name) start last.past
-    cleared_passes start before clears = passes_then (Keeps name) (Clears name g) start mid.past last.past before clears (λ a b c was so_far now step. keeps_then name a b c so_far (clears_keeps b c (told_mid b now) step))
-
-    pub all_loaded : IsSettled current mid bs → IsThere g (first.files (generation_name name g)) → Clears name g mid.files last.files → Passes (Clears name g) mid.past last.past → ((n : Name) → IsOwn name n → last.opened n ≡ 0)
-        → IsSettledWith (state_of name at current pending) last bs
-    all_loaded current_settled there clears passes unopened =
-        let at_stays = λ (a c : Files) (step : Clears name g a c). step at.name (λ before. at_not_before (subst (IsBefore name g) is_at before)) in
-        let current_stays = λ (a c : Files) (step : Clears name g a c). step current.name (λ before. current_not_before (subst (IsBefore name g) is_current before)) in
+    pub all_loaded : (current : PlainState) (pending : Pending) (last : DiskShown) (bs : List (List ℕ)) → current.name ≡ generation_name name g → IsSettled current mid bs → IsThere g (first.files (generation_name name g))
+        → OnlyClears name g mid.files last.files → Passes (OnlyClears name g) mid.past last.past → ((n : Name) → IsOwn name n → last.opened n ≡ 0) → IsSettledWith (state_of name at current pending) last bs
+    all_loaded current pending last bs is_current current_settled there clears passes unopened =
+        let at_stays = λ (a c : Files) (step : OnlyClears name g a c). (step at.name).1 (λ before. at_not_before (subst (IsBefore name g) is_at before)) in
+        let current_stays = λ (a c : Files) (step : OnlyClears name g a c). (step current.name).1 (λ before. current_not_before (subst (IsBefore name g) is_current before)) in
         let none_at = unopened at.name (inl is_at) in
         let none_current = unopened current.name (inr (g, small, is_current)) in
         record {
           generation = g;
           named = record { small = small; at = is_at; current = is_current; unopened = unopened };
-          at = settled_stays at mid last (generation_batches g) (Clears name g) at_mid passes at_stays (at_stays mid.files last.files clears) (omega (arith, none_at));
-          current = settled_stays current mid last bs (Clears name g) current_settled passes current_stays (current_stays mid.files last.files clears) (omega (arith, none_current));
+          at = settled_stays at mid last (generation_batches g) (OnlyClears name g) at_mid passes at_stays (at_stays mid.files last.files clears) (omega (arith, none_at));
+          current = settled_stays current mid last bs (OnlyClears name g) current_settled passes current_stays (current_stays mid.files last.files clears) (omega (arith, none_current));
           there =
               let same = current_stays mid.files last.files clears ∙ ap mid.files is_current in
-              subst (λ (x : Content). IsThere g x) (sym same) (stays_there g (first.files (generation_name name g)) (mid.files (generation_name name g)) loaded.here there);
+              subst (λ (x : Content). IsThere g x) (sym same) (stays_there g (first.files (generation_name name g)) (mid.files (generation_name name g)) two.files.here there);
         }
 
 -- the journal that is loaded has none before
@@ -150,12 +89,6 @@ before_is name g old n is before =
 
 pub is_before : (name : Name) (g : ℕ) (old : Name) → 0 < g → old ≡ generation_name name (g - 1) → IsBefore name g old
 is_before name g old some is = record { number = g - 1; before = omega (arith, some); is = is }
-
-pub clears_none : (name : Name) (g : ℕ) (past : Past) → Passes (Clears name g) past past
-clears_none name g past = passes_none (Clears name g) past (λ a was n other. refl)
-
-pub clears_at : (name : Name) (g : ℕ) (old : Name) (was now : Past) → IsBefore name g old → Passes (Anyhow old) was now → Passes (Clears name g) was now
-clears_at name g old was now before passes = passes_weaker (Anyhow old) (Clears name g) was now passes (λ a c left step n other. step.elsewhere n (λ is. other (subst (IsBefore name g) (sym is) before)))
 
 -- how many bytes tell of a file
 pub sized_long : (c : Content) (n : ℕ) → size_of c ≡ Some n → 2 ≤ n → IsShort c → ⊥
@@ -179,17 +112,3 @@ pub bad_read : (name : Name) (g : ℕ) (files first : Files) (file : Name) (plac
 bad_read name g files first file place small kept told is bad =
     let same = kept.elsewhere file (λ at. at_apart name g small (sym is ∙ at)) in
     inr (record { generation = g; small = small; told = told; is = is; bad = subst (λ (x : Content). IsBadJournal x place ⊎ ((1 ≤ g) × IsShort x × (place ≡ 0))) same bad })
-
--- a look at a file changes nothing before it is loaded
-pub seen_stays : (file : Name) (files mid new : Files) → mid ≡ files → At file StaysOrShort mid new → At file StaysOrShort files new
-seen_stays file files mid new same step = record {
-  here = stays_then (files file) (mid file) (new file) (inl (ap (λ (f : Files). f file) same)) step.here;
-  elsewhere = λ n other. step.elsewhere n other ∙ ap (λ (f : Files). f n) same;
-}
-
-pub seen_passes : (file : Name) (old mid new : Past) → Passes (λ a b. b ≡ a) old mid → Passes (At file StaysOrShort) mid new → Passes (At file StaysOrShort) old new
-seen_passes file old mid new first second =
-    passes_then (At file StaysOrShort) (At file StaysOrShort) old mid new (synced_same file old mid first) second (λ a b c was before now step. record {
-      here = stays_then (a file) (b file) (c file) before.here step.here;
-      elsewhere = λ n other. step.elsewhere n other ∙ before.elsewhere n other;
-    })

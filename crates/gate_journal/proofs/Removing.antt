@@ -1,12 +1,11 @@
 -- The file of the generation before is removed.
 use Rattle.std.proofs.Common.{◌≡◌, ◌≢◌, inl, inr, ℕ, ◌+◌, ◌<◌, ◌^◌, List, None, sym, ◌∙◌, ap, subst, arith}
-use Rattle.disk_model.specs.Files.{Name, Files}
+use Rattle.disk_model.specs.Files.{Name, Files, At, KeptOr}
 use Rattle.disk_model.specs.Past.{Past, MayLeave, Passes, Only}
 use Rattle.gate_journal.specs.Journal.{JournalState, IsSettledWith, HasNoneBefore}
 use Rattle.gate_journal.specs.Generations.{generation_name, IsOwn, AtOwn, HasBatchesOf}
-use Rattle.gate_journal.specs.DiskShown.{DiskShown}
+use Rattle.gate_journal.specs.DiskShown.{DiskShown, ChangesUnopened}
 use Rattle.gate_journal.proofs.FileNames.{at_apart, one_generation, is_next}
-use Rattle.gate_journal.proofs.Files.{Anyhow}
 use Rattle.gate_journal.proofs.Holding.{holds_behind, settled_with_stays}
 use Rattle.gate_journal.proofs.Owned.{own_then, leaves_at}
 
@@ -24,25 +23,24 @@ module _ (journal : JournalState) (disk : DiskShown) (bs : List (List ℕ)) (s :
   pub old_is_own : IsOwn journal.name old
   old_is_own = inr (g, small, named)
 
-  pub removal_passes : (R : Files → Files → Type 0) (start new : Past) → Passes (AtOwn journal.name R) start disk.past → Passes (Anyhow old) disk.past new
+  pub removal_passes : (R : Files → Files → Type 0) (start new : Past) → Passes (AtOwn journal.name R) start disk.past → Passes (At old (KeptOr None)) disk.past new
       → ((a b c : Files) → R a b → MayLeave disk.past b → HasBatchesOf journal.name c bs → R a c) → Passes (AtOwn journal.name R) start new
   removal_passes R start new first second keeps =
-      own_then journal.name R (Anyhow old) start disk.past new first second
+      own_then journal.name R (At old (KeptOr None)) start disk.past new first second
       (λ a b c so_far was step. keeps a b c so_far was (holds_behind journal disk bs s b c was (step.elsewhere journal.at.name at_not_old) (step.elsewhere journal.current.name current_not_old)))
-      (leaves_at journal.name old (λ a b. Unit {0}) old_is_own)
+      (leaves_at journal.name old (KeptOr None) old_is_own)
 
-  module _ (new : DiskShown) (passes : Passes (Anyhow old) disk.past new.past) (elsewhere : (n : Name) → n ≢ old → new.files n ≡ disk.files n)
-      (others_opened : (n : Name) → n ≢ old → new.opened n ≡ disk.opened n) (old_unopened : new.opened old ≡ 0) where
+  module _ (new : DiskShown) (gone : ChangesUnopened old (KeptOr None) disk new) where
     pub all_unopened : (n : Name) → IsOwn journal.name n → new.opened n ≡ 0
     all_unopened n own = elim (is_next journal.name n g small own) [
-      | inl is ↦ ap new.opened (is ∙ sym named) ∙ old_unopened
-      | inr other ↦ others_opened n (λ is. other (is ∙ named)) ∙ s.named.unopened n own
+      | inl is ↦ ap new.opened (is ∙ sym named) ∙ gone.unopened
+      | inr other ↦ gone.opened n (λ is. other (is ∙ named)) ∙ s.named.unopened n own
     ]
 
     abbrev pub removed : IsSettledWith journal new bs
     removed =
-        settled_with_stays journal disk bs s new (Anyhow old) passes (λ a c step. step.elsewhere journal.at.name at_not_old) (λ a c step. step.elsewhere journal.current.name current_not_old)
-        (elsewhere journal.at.name at_not_old) (elsewhere journal.current.name current_not_old) all_unopened
+        settled_with_stays journal disk bs s new (At old (KeptOr None)) gone.any_moment (λ a c step. step.elsewhere journal.at.name at_not_old) (λ a c step. step.elsewhere journal.current.name current_not_old)
+        (gone.files.elsewhere journal.at.name at_not_old) (gone.files.elsewhere journal.current.name current_not_old) all_unopened
 
 -- the file of the generation before is gone
 pub none_before : (journal : JournalState) (disk : DiskShown) (g : ℕ) (old : Name) → g + 1 < 2 ^ 64 → journal.current.name ≡ generation_name journal.name (g + 1) → old ≡ generation_name journal.name g

@@ -1,9 +1,10 @@
 -- The next generation's file is made, and then the file that tells the generation tells it.
-use Rattle.std.proofs.Common.{◌≡◌, ◌≢◌, inl, inr, ℕ, List, Some, sym, ◌∙◌, ap, subst, arith}
+use Rattle.std.proofs.Common.{◌≡◌, ◌≢◌, inl, inr, ℕ, List, Some, Result, Err, refl, sym, ◌∙◌, ap, subst, arith}
 use Rattle.disk_model.specs.Files.{Name, Files, At}
 use Rattle.disk_model.specs.Past.{Past, MayLeave, Passes, Only}
 use Rattle.disk_model.proofs.Passing.{passes_then, passes_weaker, only_elsewhere}
-use Rattle.gate_journal.specs.Journal.{Switches, IsLeft}
+use Rattle.disk_model.specs.declared.disk.DiskErr.{DiskErr}
+use Rattle.gate_journal.specs.Journal.{Switches, SwitchesTo, IsLeft}
 use Rattle.gate_journal.specs.Plain.{PlainState, IsJournal, BeforeOrAfter, IsSettled}
 use Rattle.gate_journal.specs.DiskShown.{DiskShown}
 use Rattle.gate_journal.proofs.Elsewhere.{settled_stays}
@@ -13,7 +14,7 @@ pub settled_journal : (journal : PlainState) (disk : DiskShown) (bs : List (List
 settled_journal journal disk bs settled image left = subst (IsJournal bs) (sym (settled.durable image left)) settled.reads
 
 module _ (at : PlainState) (disk : DiskShown) (bs : List (List ℕ)) (settled : IsSettled at disk bs) (next : Name) (apart : at.name ≢ next) (batch bytes : List ℕ) (mid : DiskShown) (one : Passes (Anyhow next) disk.past mid.past) where
-  pub making_passes : Passes (Switches at.name next bs batch bytes) disk.past mid.past
+  making_passes : Passes (Switches at.name next bs batch bytes) disk.past mid.past
   making_passes = passes_weaker (Anyhow next) (Switches at.name next bs batch bytes) disk.past mid.past one (λ a c was step. record {
     here = inl (subst (IsJournal bs) (sym (step.elsewhere at.name apart)) (settled_journal at disk bs settled a was));
     elsewhere = λ n not_at not_next. step.elsewhere n not_next;
@@ -24,8 +25,22 @@ module _ (at : PlainState) (disk : DiskShown) (bs : List (List ℕ)) (settled : 
   made_settled same same_opened =
       settled_stays at disk mid bs (Anyhow next) settled one (λ a c step. step.elsewhere at.name apart) same (omega (arith, same_opened))
 
-  pub making_left : (after : PlainState) → after ≡ at → mid.files at.name ≡ disk.files at.name → mid.opened at.name ≡ disk.opened at.name → IsLeft at after mid bs
-  making_left after same_state same same_opened = record { same = same_state; settled = subst (λ (j : PlainState). IsSettled j mid bs) (sym same_state) (made_settled same same_opened) }
+  -- it wasn't made, and nothing was committed
+  pub not_made : (result : Result (Unit {0}) DiskErr) (e : DiskErr) → result ≡ Err e → ((n : Name) → n ≢ next → mid.files n ≡ disk.files n) → ((n : Name) → n ≢ next → mid.opened n ≡ disk.opened n) → mid.opened next ≡ 0
+      → SwitchesTo next bs batch bytes result at at disk mid
+  not_made result e failed elsewhere opened unopened =
+      let left : IsLeft at at mid bs = record { same = refl; settled = made_settled (elsewhere at.name apart) (opened at.name apart) } in
+      rw failed (record {
+        told = tt;
+        made = tt;
+        any_moment = making_passes;
+        left = λ memory. left;
+        in_doubt = λ fault. inl left;
+        elsewhere = λ n not_at not_next. elsewhere n not_next;
+        untold = λ memory. (elsewhere, one);
+        opened = opened;
+        unopened = unopened;
+      })
 
   module _ (durable : Only mid.past next (Some bytes)) (new : Past) (two : Passes (At at.name (BeforeOrAfter bs batch)) mid.past new) where
     pub switch_passes : Passes (Switches at.name next bs batch bytes) disk.past new

@@ -1,8 +1,8 @@
 -- What a call does that commits, and what a review of it does, said once for all that is kept in journals.
-use Rattle.std.specs.Prelude.{◌≡◌, ◌≢◌, ◌+◌, ℕ, Bool, Result, IsTrue, OnOk, OnErr, IfOk, IsErrOf, false, List, None}
+use Rattle.std.specs.Prelude.{◌≡◌, ◌+◌, ℕ, Bool, Result, IsTrue, OnOk, OnErr, IfOk, IsErrOf, false, List, None}
 use Rattle.disk_model.specs.declared.disk.DiskErr.{DiskErr}
 use Rattle.disk_model.specs.declared.disk.DiskErr.TheVariants.{Fault, Memory}
-use Rattle.disk_model.specs.Files.{Name, Content, Files, At}
+use Rattle.disk_model.specs.Files.{Name, Files}
 use Rattle.disk_model.specs.Past.{Passes, Only}
 use Rattle.gate_journal.specs.Generations.{generation_name, IsOwn, AtOwn, HasOneOf}
 use Rattle.gate_journal.specs.Journal.{JournalState, IsSettledWith, IsUndecided, OnlyGoesOn, OnlyMakes}
@@ -32,12 +32,6 @@ pub record Reviews (before after : List (List ℕ)) (result : Result Bool DiskEr
   pub any_moment : Passes (AtOwn was.name (HasOneOf was.name before after)) old.past new.past
   pub elsewhere : (n : Name) → (IsOwn was.name n → ⊥) → new.files n ≡ old.files n
   pub opened : (n : Name) → (IsOwn was.name n → ⊥) → new.opened n ≡ old.opened n
-
--- one file alone changes, by R at each moment, and none is opened
-pub record ChangesOne (name : Name) (R : Content → Content → Type 0) (old new : DiskShown) : Type 0 where
-  pub files : (n : Name) → n ≢ name → new.files n ≡ old.files n
-  pub any_moment : Passes (At name R) old.past new.past
-  pub opened : new.opened ≡ old.opened
 
 -- A checkpoint of a journal whose current generation is this one: the next one's file is the current one then, and the old one is gone.
 -- Of its own files too it changes only three, and at want of memory only the next generation's.

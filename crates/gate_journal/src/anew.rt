@@ -2,6 +2,7 @@
 ghost use Rattle.std.specs.Prelude.{◌≡◌, ◌≢◌, ◌≤◌, ℕ, List, [], OnOk, IsErr, IsErrOf, IsTrue, Some, None};
 ghost use Rattle.disk_model.specs.Files.{Name, Rose, HasFile, At, KeptOr};
 ghost use Rattle.disk_model.specs.Past.{Passes, Only};
+ghost use Rattle.gate_journal.specs.DiskShown.{ChangesUnopened, shown_by};
 
 use disk_model::{Disk, DiskErr, FileName, write_synced};
 
@@ -42,14 +43,10 @@ fn empty<D: Disk>(disk: &mut D, name: &FileName) -> Result<(), DiskErr>
 pub(crate) fn remove_synced<D: Disk>(disk: &mut D, name: &FileName) -> Result<(), DiskErr>
     requires file { IsTrue D.tells → HasFile (D.files disk.old) name.now (λ b. Unit {0}) }
     requires unopened { IsTrue D.tells → D.opened disk.old name.now ≡ 0 }
-    ensures elsewhere { IsTrue D.tells → (n : Name) → n ≢ name.now → D.files disk.new n ≡ D.files disk.old n }
-    ensures gone { IsTrue D.tells → OnOk result (D.files disk.new name.now ≡ None) }
-    ensures durable { IsTrue D.tells → OnOk result (Only (D.past disk.new) name.now None) }
-    ensures any_moment { IsTrue D.tells → Passes (At name.now (λ a b. Unit {0})) (D.past disk.old) (D.past disk.new) }
-    ensures stays_or_goes { IsTrue D.tells → KeptOr None (D.files disk.old name.now) (D.files disk.new name.now) }
-    ensures goes_at_most { IsTrue D.tells → Passes (At name.now (KeptOr None)) (D.past disk.old) (D.past disk.new) }
-    ensures opened { IsTrue D.tells → (n : Name) → n ≢ name.now → D.opened disk.new n ≡ D.opened disk.old n }
-    ensures unopened { IsTrue D.tells → D.opened disk.new name.now ≡ 0 }
+    ensures removes { IsTrue D.tells
+        → ChangesUnopened name.now (KeptOr None) (shown_by D.Disk disk.old) (shown_by D.Disk disk.new) }
+    ensures gone { IsTrue D.tells
+        → OnOk result ((D.files disk.new name.now ≡ None) × Only (D.past disk.new) name.now None) }
     ensures faults { D.faults disk.old ≤ D.faults disk.new }
     ensures cause { IsErr result → Rose (D.faults disk.old) (D.faults disk.new) }
     ensures no_memory { IsErrOf result DiskErr.Memory → ⊥ }
@@ -61,14 +58,10 @@ pub(crate) fn remove_synced<D: Disk>(disk: &mut D, name: &FileName) -> Result<()
 // The same, where the file may be gone.
 pub(crate) fn clear<D: Disk>(disk: &mut D, name: &FileName) -> Result<(), DiskErr>
     requires unopened { IsTrue D.tells → D.opened disk.old name.now ≡ 0 }
-    ensures elsewhere { IsTrue D.tells → (n : Name) → n ≢ name.now → D.files disk.new n ≡ D.files disk.old n }
-    ensures gone { IsTrue D.tells → OnOk result (D.files disk.new name.now ≡ None) }
-    ensures durable { IsTrue D.tells → OnOk result (Only (D.past disk.new) name.now None) }
-    ensures any_moment { IsTrue D.tells → Passes (At name.now (λ a b. Unit {0})) (D.past disk.old) (D.past disk.new) }
-    ensures stays_or_goes { IsTrue D.tells → KeptOr None (D.files disk.old name.now) (D.files disk.new name.now) }
-    ensures goes_at_most { IsTrue D.tells → Passes (At name.now (KeptOr None)) (D.past disk.old) (D.past disk.new) }
-    ensures opened { IsTrue D.tells → (n : Name) → n ≢ name.now → D.opened disk.new n ≡ D.opened disk.old n }
-    ensures unopened { IsTrue D.tells → D.opened disk.new name.now ≡ 0 }
+    ensures removes { IsTrue D.tells
+        → ChangesUnopened name.now (KeptOr None) (shown_by D.Disk disk.old) (shown_by D.Disk disk.new) }
+    ensures gone { IsTrue D.tells
+        → OnOk result ((D.files disk.new name.now ≡ None) × Only (D.past disk.new) name.now None) }
     ensures faults { D.faults disk.old ≤ D.faults disk.new }
     ensures cause { IsErrOf result DiskErr.Fault → Rose (D.faults disk.old) (D.faults disk.new) }
 {

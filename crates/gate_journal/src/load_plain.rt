@@ -11,7 +11,7 @@ ghost use Rattle.gate_journal.specs.Plain.{IsSettled};
 ghost use Rattle.gate_journal.specs.Load.{StaysOrShort};
 ghost use Rattle.gate_journal.specs.Window.{IsPiece};
 ghost use Rattle.gate_journal.specs.declared.load_plain.PlainErr.TheVariants.{Disk as OfDisk, BadJournal};
-ghost use Rattle.gate_journal.specs.DiskShown.{shown_by};
+ghost use Rattle.gate_journal.specs.DiskShown.{ReadsDisk, shown_by};
 
 use crate::BatchFold;
 use crate::plain::{CLOSED, OPEN, PlainJournal};
@@ -142,9 +142,7 @@ fn walk<D: Disk, F: BatchFold>(
     ensures bad { IsTrue D.tells → (b : List ℕ) → D.files disk.old name.now ≡ Some b → (at : ℕ)
         → result ≡ Err (BadJournal at) → IsBadAt b at }
     ensures fits { IfOk result (λ place. place < size) }
-    ensures same { IsTrue D.tells → D.files disk.new ≡ D.files disk.old }
-    ensures crash { IsTrue D.tells → Passes (λ a b. b ≡ a) (D.past disk.old) (D.past disk.new) }
-    ensures opened { IsTrue D.tells → D.opened disk.new ≡ D.opened disk.old }
+    ensures reads { IsTrue D.tells → ReadsDisk (shown_by D.Disk disk.old) (shown_by D.Disk disk.new) }
     ensures faults { D.faults disk.old ≤ D.faults disk.new }
     ensures cause { result ≡ Err (OfDisk Fault) → Rose (D.faults disk.old) (D.faults disk.new) }
 {
@@ -183,9 +181,7 @@ fn next<D: Disk>(
     ensures piece { IsTrue D.tells → (b : List ℕ) → D.files disk.old name.now ≡ Some b
         → OnOk result (IsPiece window.new b) }
     ensures size { window.new.size ≡ window.old.size }
-    ensures same { IsTrue D.tells → D.files disk.new ≡ D.files disk.old }
-    ensures crash { IsTrue D.tells → Passes (λ a b. b ≡ a) (D.past disk.old) (D.past disk.new) }
-    ensures opened { IsTrue D.tells → D.opened disk.new ≡ D.opened disk.old }
+    ensures reads { IsTrue D.tells → ReadsDisk (shown_by D.Disk disk.old) (shown_by D.Disk disk.new) }
     ensures faults { D.faults disk.old ≤ D.faults disk.new }
     ensures cause { result ≡ Err (OfDisk Fault) → Rose (D.faults disk.old) (D.faults disk.new) }
 {

@@ -1,11 +1,11 @@
 // A batch counts where the gate before it is open, and a gate is opened only when all behind it is on the disk.
-ghost use Rattle.std.specs.Prelude.{◌≡◌, ◌≢◌, ◌≤◌, ◌<◌, ◌+◌, ◌^◌, ◌++◌, [], ◌∷◌, List, ℕ, length, IfOk, OnOk, OnErr};
+ghost use Rattle.std.specs.Prelude.{◌≡◌, ◌≤◌, ◌<◌, ◌+◌, ◌^◌, ◌++◌, [], ◌∷◌, List, ℕ, length, IfOk, OnOk, OnErr};
 ghost use Rattle.std.specs.Prelude.{IsErr, IsErrOf, IsTrue, true, false, Some, ◌↔◌, slice_index};
-ghost use Rattle.disk_model.specs.Files.{Name, Rose, HasFile, At, Overwritten, Torn};
+ghost use Rattle.disk_model.specs.Files.{Rose, HasFile, At, Overwritten, Torn};
 ghost use Rattle.disk_model.specs.Past.{Passes};
 ghost use Rattle.gate_journal.specs.Batches.{framed_bytes, committed, greatest_batch};
 ghost use Rattle.gate_journal.specs.Plain.{PlainState, BeforeOrAfter, NoShorter, IsSettled, IsInDoubt};
-ghost use Rattle.gate_journal.specs.DiskShown.{shown_by};
+ghost use Rattle.gate_journal.specs.DiskShown.{ChangesOne, ReadsDisk, shown_by};
 
 use disk_model::{Disk, DiskErr, FileName, write_synced};
 use std::alloc::{AllocError, Global};
@@ -87,22 +87,20 @@ impl PlainJournal {
             → OnOk result (IsSettled self.new (shown_by D.Disk disk.new) (bs ++ batch.now ∷ [])) }
 
         // A crash at any moment of the call leaves the batches from before it, without the new one or with it, and of
-        // every other name what it might have left before.
+        // every other name what it might have left before. The file gets no shorter.
         ensures any_moment { IsTrue D.tells → (bs : List (List ℕ)) → IsSettled self.old (shown_by D.Disk disk.old) bs
             → Passes (At self.old.name (BeforeOrAfter bs batch.now)) (D.past disk.old) (D.past disk.new) }
 
-        ensures no_shorter { IsTrue D.tells → Passes (At self.old.name NoShorter) (D.past disk.old) (D.past disk.new) }
-
+        ensures one_file { IsTrue D.tells
+            → ChangesOne self.old.name NoShorter (shown_by D.Disk disk.old) (shown_by D.Disk disk.new) }
         ensures in_doubt { IsTrue D.tells → (bs : List (List ℕ)) → IsSettled self.old (shown_by D.Disk disk.old) bs
             → IsErrOf result DiskErr.Fault → IsInDoubt self.new (shown_by D.Disk disk.new) bs batch.now }
         ensures bytes { IsTrue D.tells → (b : List ℕ) → D.files disk.old self.old.name ≡ Some b
             → OnOk result (D.files disk.new self.old.name ≡ Some (committed self.old.place batch.now b)) }
-        ensures elsewhere { IsTrue D.tells → (n : Name) → n ≢ self.old.name → D.files disk.new n ≡ D.files disk.old n }
-        ensures opened { IsTrue D.tells → D.opened disk.new ≡ D.opened disk.old }
 
         ensures name { self.new.name ≡ self.old.name }
-        ensures placed { OnOk result (self.new.place ≡ self.old.place + (5 + length batch.now)) }
-        ensures sound { OnOk result (self.new.sound ≡ true) }
+        ensures placed { OnOk result
+            ((self.new.place ≡ self.old.place + (5 + length batch.now)) × (self.new.sound ≡ true)) }
         ensures fault { IsErrOf result DiskErr.Fault
             → (self.new.sound ≡ false) × Rose (D.faults disk.old) (D.faults disk.new) }
         ensures memory { IsErrOf result DiskErr.Memory → (self.new ≡ self.old) × (disk.new ≡ disk.old) }
@@ -139,9 +137,7 @@ impl PlainJournal {
             → IsInDoubt self.old (shown_by D.Disk disk.old) bs batch
             → OnErr result (IsInDoubt self.new (shown_by D.Disk disk.new) bs batch) }
 
-        ensures any_moment { IsTrue D.tells → Passes (λ a b. b ≡ a) (D.past disk.old) (D.past disk.new) }
-        ensures same { IsTrue D.tells → D.files disk.new ≡ D.files disk.old }
-        ensures opened { IsTrue D.tells → D.opened disk.new ≡ D.opened disk.old }
+        ensures reads { IsTrue D.tells → ReadsDisk (shown_by D.Disk disk.old) (shown_by D.Disk disk.new) }
 
         ensures name { self.new.name ≡ self.old.name }
         ensures sound { OnOk result (self.new.sound ≡ true) }
@@ -180,9 +176,7 @@ fn is_open<D: Disk>(disk: &mut D, name: &FileName, place: u64, behind: u64) -> R
     ensures answer { IsTrue D.tells → (b : List ℕ) → D.files disk.old name.now ≡ Some b
         → IfOk result (λ found. IsTrue found ↔ ((slice_index b place ≡ 1) × (place + behind < length b))) }
     ensures fits { IfOk result (λ found. IsTrue found → place + behind + 1 < 2 ^ 64) }
-    ensures same { IsTrue D.tells → D.files disk.new ≡ D.files disk.old }
-    ensures crash { IsTrue D.tells → Passes (λ a b. b ≡ a) (D.past disk.old) (D.past disk.new) }
-    ensures opened { IsTrue D.tells → D.opened disk.new ≡ D.opened disk.old }
+    ensures reads { IsTrue D.tells → ReadsDisk (shown_by D.Disk disk.old) (shown_by D.Disk disk.new) }
     ensures faults { D.faults disk.old ≤ D.faults disk.new }
     ensures cause { IsErrOf result DiskErr.Fault → Rose (D.faults disk.old) (D.faults disk.new) }
 {

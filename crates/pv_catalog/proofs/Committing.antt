@@ -5,13 +5,14 @@ use Rattle.disk_model.specs.declared.disk.DiskErr.{DiskErr}
 use Rattle.disk_model.specs.declared.disk.DiskErr.TheVariants.{Fault, Memory}
 use Rattle.disk_model.specs.Files.{Name, Content, At}
 use Rattle.disk_model.proofs.Passing.{passes_none}
-use Rattle.gate_journal.specs.Commits.{CommitsBatches, ChangesOne}
+use Rattle.gate_journal.specs.Commits.{CommitsBatches}
 use Rattle.gate_journal.specs.Journal.{JournalState, is_of_commit}
 use Rattle.gate_journal.specs.Kept.{CommitsValue}
 use Rattle.gate_journal.specs.Plain.{NoShorter}
-use Rattle.gate_journal.specs.DiskShown.{DiskShown}
-use Rattle.gate_journal.proofs.Keeping.{commits_mean}
+use Rattle.gate_journal.specs.DiskShown.{DiskShown, ChangesOne}
+use Rattle.gate_journal.proofs.Keeping.{commits_mean, commits_as}
 use Rattle.pv_catalog.specs.declared.row.Row.{Row}
+use Rattle.pv_catalog.specs.Catalogue.{CatalogueState, CommitsRows}
 use Rattle.pv_catalog.specs.Rows.{IsCatalogue, IsBatch}
 use Rattle.pv_catalog.proofs.Meaning.{more}
 
@@ -24,6 +25,16 @@ change_commits rows next batch bs journal now after later result old new means i
     let OfCommit : Bool → Type 0 = λ b. IsCatalogue (bs ++ batch ∷ []) (cond b later after) in
     commits_mean IsCatalogue rows next after later journal now bs (bs ++ batch ∷ []) result old new means with_it done (on_err_weaker result (λ still. still.0) failed)
     (λ fault. subst OfCommit (sym of_commit) (subst (IsCatalogue (bs ++ batch ∷ [])) (sym (IfErr-at_err (λ (e : DiskErr). (after ≡ rows) × (later ≡ next)) fault failed).1) with_it)) commits
+
+-- and is told as what the call answers that made the change
+pub call_commits : (rows next : List Row) (was now : CatalogueState) (made : Result (Unit {0}) DiskErr) (OnMade : Type 0 → Type 0) (IsFault IsMemory : Type 0) (old new : DiskShown) → was.rows ≡ rows → was.next ≡ next → ((P : Type 0) → OnOk made P → OnMade P)
+    → (IsFault → IsErrOf made Fault) → (IsMemory → IsErrOf made Memory) → CommitsRows was.next (OnOk made) (IsErrOf made Fault) (IsErrOf made Memory) was now old new
+    → CommitsValue IsCatalogue rows next now.rows now.next OnMade IsFault IsMemory was.journal now.journal old new
+call_commits rows next was now made OnMade IsFault IsMemory old new same same_next done fault memory commits =
+    let Change : List Row → List Row → Type 0 =
+    λ xs ys. CommitsValue IsCatalogue xs ys now.rows now.next (OnOk made) (IsErrOf made Fault) (IsErrOf made Memory) was.journal now.journal old new in
+    commits_as IsCatalogue rows next now.rows now.next was.journal now.journal (OnOk made) (IsErrOf made Fault) (IsErrOf made Memory) OnMade IsFault IsMemory old new done fault memory
+    (subst (Change rows) same_next (subst (λ (xs : List Row). Change xs was.next) same commits))
 
 no_shorter : (c : Content) → NoShorter c c
 no_shorter None = tt

@@ -11,6 +11,7 @@ use Rattle.gate_journal.specs.Commits.{CommitsBatches}
 use Rattle.gate_journal.specs.Generations.{IsOwn, HasBatchesOf, AtOwn, HasOneOf, KeepsBatches}
 use Rattle.gate_journal.specs.Journal.{JournalState, IsSettledWith, is_of_commit}
 use Rattle.gate_journal.specs.Kept as of_batches
+use Rattle.gate_journal.specs.Load as load
 use Rattle.gate_journal.specs.Kept.{Says, SaysEither, CommitsValue}
 use Rattle.gate_journal.specs.DiskShown.{DiskShown}
 use Rattle.gate_journal.proofs.Keeping.{commits_mean, change_says, nothing_said, one_value}
@@ -198,10 +199,10 @@ same_granularity g h name image x y one two =
     one_value Means (λ bs k l m n. one_granularity k l bs m.0 n.0 m.1 n.1) name image g h (record { batches = one.batches; has = one.has; means = (x, one.means) }) (record { batches = two.batches; has = two.has; means = (y, two.means) })
 
 -- what is said of a name that the journal was loaded by
-pub load_opened : (name own : Name) → own ≡ name → (first mid last : Name → ℕ) → last ≡ mid → ((n : Name) → (IsOwn own n → ⊥) → mid n ≡ first n) → (n : Name) → (IsOwn name n → ⊥) → last n ≡ first n
+load_opened : (name own : Name) → own ≡ name → (first mid last : Name → ℕ) → last ≡ mid → ((n : Name) → (IsOwn own n → ⊥) → mid n ≡ first n) → (n : Name) → (IsOwn name n → ⊥) → last n ≡ first n
 load_opened name own is first mid last same opened n other = ap (λ (f : Name → ℕ). f n) same ∙ opened n (λ files. other (let P : Name → Type 0 = λ m. IsOwn m n in subst P is files))
 
-pub load_unopened : (name own : Name) → own ≡ name → (mid last : Name → ℕ) → last ≡ mid → ((n : Name) → IsOwn own n → mid n ≡ 0) → (n : Name) → IsOwn name n → last n ≡ 0
+load_unopened : (name own : Name) → own ≡ name → (mid last : Name → ℕ) → last ≡ mid → ((n : Name) → IsOwn own n → mid n ≡ 0) → (n : Name) → IsOwn name n → last n ≡ 0
 load_unopened name own is mid last same unopened n files = ap (λ (f : Name → ℕ). f n) same ∙ unopened n (let P : Name → Type 0 = λ m. IsOwn m n in subst P (sym is) files)
 
 pub load_means : (g k h : Granularity) (bs : List (List ℕ)) (es entries : List Entry) → k ≡ g → h ≡ g → entries ≡ es → Configured k bs es → Configured h bs entries
@@ -223,12 +224,12 @@ module _ (g : Granularity) (name own : Name) (is : own ≡ name) where
   pub load_moment : (old new : Past) → Passes (AtOwn own (KeepsBatches own)) old new → Passes (AtOwn name (StaysOrBegins g name)) old new
   load_moment old new passes = passes_weaker (AtOwn own (KeepsBatches own)) (AtOwn name (StaysOrBegins g name)) old new passes (λ a c was step. load_reads a c step)
 
-  pub load_leaves : (old new : DiskShown) → AtOwn own (KeepsBatches own) old.files new.files → Passes (AtOwn own (KeepsBatches own)) old.past new.past → ((n : Name) → (IsOwn own n → ⊥) → new.opened n ≡ old.opened n) → ((n : Name) → IsOwn own n → new.opened n ≡ 0) → LeavesLoaded g name old new
-  load_leaves old new kept passes opened unopened = record {
-    reads = load_reads old.files new.files kept;
-    any_moment = load_moment old.past new.past passes;
-    opened = load_opened name own is old.opened new.opened new.opened refl opened;
-    unopened = load_unopened name own is new.opened new.opened refl unopened;
+  pub load_leaves : (old new : DiskShown) → load.LeavesLoaded own old new → LeavesLoaded g name old new
+  load_leaves old new leaves = record {
+    reads = load_reads old.files new.files leaves.kept;
+    any_moment = load_moment old.past new.past leaves.any_moment;
+    opened = load_opened name own is old.opened new.opened new.opened refl leaves.opened;
+    unopened = load_unopened name own is new.opened new.opened refl leaves.unopened;
   }
 
   was_empty : (a b : Files) → HasBatchesOf name b [] → StaysOrBegins g name a b → HasBatchesOf name a []
@@ -244,7 +245,7 @@ module _ (g : Granularity) (name own : Name) (is : own ≡ name) where
     both : journal.name ≡ name
     both = named ∙ is
 
-    pub first_moment : (old new : Past) → Passes (AtOwn own (KeepsBatches own)) old disk.past → Passes (AtOwn journal.name (HasOneOf journal.name [] (config g ∷ []))) disk.past new → Passes (AtOwn name (StaysOrBegins g name)) old new
+    first_moment : (old new : Past) → Passes (AtOwn own (KeepsBatches own)) old disk.past → Passes (AtOwn journal.name (HasOneOf journal.name [] (config g ∷ []))) disk.past new → Passes (AtOwn name (StaysOrBegins g name)) old new
     first_moment old new loads commits =
         let Q : Name → Type 0 = λ n. Passes (AtOwn n (HasOneOf n [] (config g ∷ []))) disk.past new in
         passes_then (AtOwn name (StaysOrBegins g name)) (AtOwn name (HasOneOf name [] (config g ∷ []))) old disk.past new (load_moment old disk.past loads) (subst Q both commits) (λ a b c was before now step.
@@ -256,7 +257,7 @@ module _ (g : Granularity) (name own : Name) (is : own ≡ name) where
           elsewhere = λ n other. step.elsewhere n other ∙ before.elsewhere n other;
         })
 
-    pub first_reads : (seen later : Files) (new : Past) → AtOwn own (KeepsBatches own) seen disk.files → HasBatchesOf own seen bs → Passes (AtOwn journal.name (HasOneOf journal.name [] (config g ∷ []))) disk.past new → MayLeave new later
+    first_reads : (seen later : Files) (new : Past) → AtOwn own (KeepsBatches own) seen disk.files → HasBatchesOf own seen bs → Passes (AtOwn journal.name (HasOneOf journal.name [] (config g ∷ []))) disk.past new → MayLeave new later
         → ((n : Name) → (IsOwn journal.name n → ⊥) → later n ≡ disk.files n) → AtOwn name (StaysOrBegins g name) seen later
     first_reads seen later new loads has commits left elsewhere =
         let Q : Name → Type 0 = λ n. Passes (AtOwn n (HasOneOf n [] (config g ∷ []))) disk.past new in
@@ -272,6 +273,15 @@ module _ (g : Granularity) (name own : Name) (is : own ≡ name) where
           here = inr (subst S none (subst R is has), said_or_not later come.2.here);
           elsewhere = λ n other. others n other ∙ kept.elsewhere n other;
         }
+
+    pub begun_leaves : (old new : DiskShown) → load.LeavesLoaded own old disk → HasBatchesOf own old.files bs → Passes (AtOwn journal.name (HasOneOf journal.name [] (config g ∷ []))) disk.past new.past → MayLeave new.past new.files
+        → ((n : Name) → (IsOwn journal.name n → ⊥) → new.files n ≡ disk.files n) → new.opened ≡ disk.opened → LeavesLoaded g name old new
+    begun_leaves old new leaves has commits left elsewhere opened = record {
+      reads = first_reads old.files new.files new.past leaves.kept has commits left elsewhere;
+      any_moment = first_moment old.past new.past leaves.any_moment commits;
+      opened = load_opened name own is old.opened disk.opened new.opened opened leaves.opened;
+      unopened = load_unopened name own is disk.opened new.opened opened leaves.unopened;
+    }
 
 -- WHAT WAS FOLDED
 

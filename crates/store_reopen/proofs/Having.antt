@@ -4,7 +4,7 @@ use Rattle.disk_model.specs.Files.{Name, Files, Content}
 use Rattle.disk_model.specs.Past.{Past, Passes, MayLeave}
 use Rattle.gate_journal.specs.Kept.{Says, StillSays, IsKept as IsJournalKept}
 use Rattle.partition_names.specs.declared.granularity.Granularity.{Granularity}
-use Rattle.store_manifest.specs.Manifest.{manifest_name, StaysOrBegins, ManifestState, IsKept}
+use Rattle.store_manifest.specs.Manifest.{manifest_name, StaysOrBegins, ManifestState, IsKept, LeavesLoaded as LeavesManifest}
 use Rattle.pv_catalog.specs.Catalogue.{CatalogueState, catalogue_name, IsStored}
 use Rattle.pv_catalog.specs.Rows.{IsCatalogue, AreRows}
 use Rattle.std.specs.Prelude.{slice_get, unwrap_or, All, IsTrue}
@@ -51,6 +51,7 @@ use Rattle.tier_store.proofs.Places.{within_three, granularity_at as granularity
 use Rattle.store_reopen.specs.Verdict.{AreSaid, IsThere, Listings, HasRow}
 use Rattle.store_reopen.specs.Reopen.{AreLoaded, IsReady, IsUnopened, OpensEither, HoldsEither, AllIn, StillHolds, Reopens, loaded, stores_of, lists_of, entries_in, SameStores}
 use Rattle.gate_journal.specs.Kept as in_journal
+use Rattle.gate_journal.specs.Load.{LeavesLoaded}
 use Rattle.gate_journal.specs.DiskShown.{DiskShown, shown_by}
 
 -- One journal: what it says goes on through loads and reads, and where it is bad.
@@ -105,13 +106,6 @@ says_before g h name old new entries (inr begun) says =
     record { batches = []; has = begun.0; means = empty }
 
 -- A JOURNAL THAT IS LOADED ONCE MORE
-
--- what its load keeps
-pub record LoadsAgain (name : Name) (old new : DiskShown) : Type 0 where
-  pub kept : AtOwn name (KeepsBatches name) old.files new.files
-  pub passes : Passes (AtOwn name (KeepsBatches name)) old.past new.past
-  pub others : (n : Name) → (IsOwn name n → ⊥) → new.opened n ≡ old.opened n
-  pub is : NoneOpened name new.opened
 
 pub stays_at : (g : Granularity) (name : Name) (a c : Files) → AtOwn name (KeepsBatches name) a c → AtOwn name (StaysOrBegins g name) a c
 stays_at g name a c step = record { here = inl step.here; elsewhere = step.elsewhere }
@@ -351,30 +345,28 @@ kept_load gs j old new load = record {
 
 module _ (gs : List Granularity) (old new : DiskShown) where
   -- the catalogue alone
-  pub kept_rows : Passes (AtOwn catalogue_name (KeepsBatches catalogue_name)) old.past new.past → AtOwn catalogue_name (KeepsBatches catalogue_name) old.files new.files → ((n : Name) → (IsOwn catalogue_name n → ⊥) → new.opened n ≡ old.opened n) → NoneOpened catalogue_name new.opened → KeepsSaid gs old new
-  kept_rows passes kept others_opened is = kept_load gs Catalogue old new (record { passes = passes; kept = kept; others_opened = others_opened; is = is })
+  pub kept_rows : LeavesLoaded catalogue_name old new → KeepsSaid gs old new
+  kept_rows leaves = kept_load gs Catalogue old new (record { passes = leaves.any_moment; kept = leaves.kept; others_opened = leaves.opened; is = leaves.unopened })
 
-  pub rows_again : (name : Name) → name ≡ catalogue_name → LoadsAgain name old new → KeepsSaid gs old new
-  rows_again name named loads =
-      let at = subst (λ (n : Name). LoadsAgain n old new) named loads in kept_rows at.passes at.kept at.others at.is
+  pub rows_again : (name : Name) → name ≡ catalogue_name → LeavesLoaded name old new → KeepsSaid gs old new
+  rows_again name named leaves = kept_rows (subst (λ (n : Name). LeavesLoaded n old new) named leaves)
 
   -- one manifest alone
-  pub kept_list : (i : ℕ) (g : Granularity) → slice_get gs i ≡ Some g → Passes (AtOwn (manifest_name (i + 1)) (StaysOrBegins g (manifest_name (i + 1)))) old.past new.past → AtOwn (manifest_name (i + 1)) (StaysOrBegins g (manifest_name (i + 1))) old.files new.files
-      → ((n : Name) → (IsOwn (manifest_name (i + 1)) n → ⊥) → new.opened n ≡ old.opened n) → NoneOpened (manifest_name (i + 1)) new.opened → KeepsSaid gs old new
-  kept_list i g here passes kept others_opened none =
-      let is = sym (is_at gs i g here) in
-      kept_load gs (Manifest i) old new (record {
-        passes = subst (λ (h : Granularity). Passes (AtOwn (manifest_name (i + 1)) (StaysOrBegins h (manifest_name (i + 1)))) old.past new.past) is passes;
-        kept = subst (λ (h : Granularity). AtOwn (manifest_name (i + 1)) (StaysOrBegins h (manifest_name (i + 1))) old.files new.files) is kept;
-        others_opened = others_opened;
-        is = none;
-      })
+  pub kept_list : (i : ℕ) (g : Granularity) → slice_get gs i ≡ Some g → LeavesManifest g (manifest_name (i + 1)) old new → KeepsSaid gs old new
+  kept_list i g here leaves =
+      let at = subst (λ (h : Granularity). LeavesManifest h (manifest_name (i + 1)) old new) (sym (is_at gs i g here)) leaves in
+      kept_load gs (Manifest i) old new (record { passes = at.any_moment; kept = at.reads; others_opened = at.opened; is = at.unopened })
 
-  pub list_again : (i : ℕ) (g : Granularity) → slice_get gs i ≡ Some g → (name : Name) → name ≡ manifest_name (i + 1) → LoadsAgain name old new → KeepsSaid gs old new
-  list_again i g here name named loads =
-      let at = subst (λ (n : Name). LoadsAgain n old new) named loads in
+  pub list_again : (i : ℕ) (g : Granularity) → slice_get gs i ≡ Some g → (name : Name) → name ≡ manifest_name (i + 1) → LeavesLoaded name old new → KeepsSaid gs old new
+  list_again i g here name named leaves =
       let own : Name = manifest_name (i + 1) in
-      kept_list i g here (passes_weaker (AtOwn own (KeepsBatches own)) (AtOwn own (StaysOrBegins g own)) old.past new.past at.passes (λ a c was step. stays_at g own a c step)) (stays_at g own old.files new.files at.kept) at.others at.is
+      let at = subst (λ (n : Name). LeavesLoaded n old new) named leaves in
+      kept_list i g here (record {
+        reads = stays_at g own old.files new.files at.kept;
+        any_moment = passes_weaker (AtOwn own (KeepsBatches own)) (AtOwn own (StaysOrBegins g own)) old.past new.past at.any_moment (λ a c was step. stays_at g own a c step);
+        opened = at.opened;
+        unopened = at.unopened;
+      })
 
 -- The stores that are opened have what reads give of the image.
 

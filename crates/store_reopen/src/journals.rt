@@ -2,11 +2,11 @@
 ghost use Rattle.std.specs.Prelude.{◌≡◌, ◌≤◌, ◌<◌, ◌+◌, ℕ, List, length, take, true, IfOk, IfErr, OnOk, IsErrOf};
 ghost use Rattle.std.specs.Prelude.{Err, IsTrue};
 ghost use Rattle.disk_model.specs.Files.{Name, Files, Rose};
-ghost use Rattle.disk_model.specs.Past.{Passes};
 ghost use Rattle.disk_model.specs.declared.disk.DiskErr.TheVariants.{Fault};
 ghost use Rattle.gate_journal.specs.Batches.{open_gates};
-ghost use Rattle.gate_journal.specs.Generations.{IsOwn, AtOwn, KeepsBatches};
+ghost use Rattle.gate_journal.specs.Generations.{IsOwn};
 ghost use Rattle.gate_journal.specs.Kept.{Says};
+ghost use Rattle.gate_journal.specs.Load.{LeavesLoaded};
 ghost use Rattle.gate_journal.specs.DiskShown.{shown_by};
 ghost use Rattle.partition_names.specs.declared.granularity.Granularity.{Granularity as GranularityValue};
 ghost use Rattle.pv_catalog.specs.declared.row.Row.{Row};
@@ -140,11 +140,7 @@ fn gate_of<D: Disk>(
 ) -> Result<(FileName, u64), DiskErr>
     requires unopened { IsTrue D.tells → NoneOpened name.now (D.opened disk.old) }
     ensures gate { IsTrue D.tells → IfOk result (λ r. IsGate name.now (D.files disk.old) number r.0 r.1) }
-    ensures kept { IsTrue D.tells → AtOwn name.now (KeepsBatches name.now) (D.files disk.old) (D.files disk.new) }
-    ensures any_moment { IsTrue D.tells
-        → Passes (AtOwn name.now (KeepsBatches name.now)) (D.past disk.old) (D.past disk.new) }
-    ensures opened { IsTrue D.tells → (n : Name) → (IsOwn name.now n → ⊥) → D.opened disk.new n ≡ D.opened disk.old n }
-    ensures unopened { IsTrue D.tells → NoneOpened name.now (D.opened disk.new) }
+    ensures leaves { IsTrue D.tells → LeavesLoaded name.now (shown_by D.Disk disk.old) (shown_by D.Disk disk.new) }
     ensures faults { D.faults disk.old ≤ D.faults disk.new }
     ensures cause { IsErrOf result DiskErr.Fault → Rose (D.faults disk.old) (D.faults disk.new) }
 {

@@ -1,6 +1,5 @@
 use Rattle.std.proofs.Common.{◌≡◌, ℕ, List, [], ◌∷◌, Some, Err, inl, refl, sym, ◌∙◌, ap, subst, arith}
-use Rattle.disk_model.specs.Files.{Name, At}
-use Rattle.disk_model.specs.Past.{Passes}
+use Rattle.disk_model.specs.Files.{Name}
 use Rattle.gate_journal.specs.Batches.{HasBatches, IsBadJournal, IsShort}
 use Rattle.gate_journal.specs.Generations.{at_name, generation_batches}
 use Rattle.gate_journal.specs.Load.{StaysOrShort}
@@ -9,15 +8,12 @@ use Rattle.gate_journal.specs.declared.load_plain.PlainErr.{PlainErr}
 use Rattle.gate_journal.specs.declared.load.JournalErr.TheVariants.{BadJournal as BadNamed}
 use Rattle.gate_journal.specs.DiskShown.{shown_by}
 use Rattle.gate_journal.proofs.NamedErrs.{named_bad}
-use Rattle.gate_journal.proofs.Synced.{same_at, stays_none}
+use Rattle.gate_journal.proofs.Files.{does_nothing, named}
 use Rattle.gate_journal.proofs.Turns.{tells_all, tells_out, bad_place, bad_told}
 use Rattle.gate_journal.proofs.load.load_told.Goals as goal
 
-pub returns-in_err-file-clause-kept : goal.returns-in_err-file-clause-kept
-returns-in_err-file-clause-kept g c tells = same_at (at_name c.args.name.now) (g.D.Disk.files c.args.disk.now) (g.D.Disk.files c.args.disk.now) refl
-
-pub returns-in_err-file-clause-any_moment : goal.returns-in_err-file-clause-any_moment
-returns-in_err-file-clause-any_moment g c tells = stays_none (at_name c.args.name.now) (g.D.Disk.past c.args.disk.now)
+pub returns-in_err-file-clause-loads : goal.returns-in_err-file-clause-loads
+returns-in_err-file-clause-loads g c tells = does_nothing (at_name c.args.name.now) StaysOrShort (λ x. inl refl) (shown_by g.D.Disk c.args.disk.now) (c.requires.unopened tells)
 
 pub returns-clause-told : goal.returns-clause-told
 returns-clause-told g c tells =
@@ -48,41 +44,20 @@ returns-in-Err-clause-bad g c tells file at failed =
     let b = named_bad c.in-Err.error c.in_ok-file.file file at (sym c.named.ensures ∙ is) in
     inl (b.1 ∙ c.in_ok-file.ensures, inl (subst (λ (n : Name). IsBadJournal ((g.D.Disk.files c.args.disk.now) n) at) (sym b.1) (c.in-Err.ensures.bad tells at (ap (λ (e : PlainErr). Err e) b.0))))
 
-pub returns-in-Err-clause-kept : goal.returns-in-Err-clause-kept
-returns-in-Err-clause-kept g c tells = subst (λ (n : Name). At n StaysOrShort (g.D.Disk.files c.args.disk.now) (g.D.Disk.files c.load_into.new.disk)) c.in_ok-file.ensures (c.load_into.ensures.kept tells)
+pub returns-in-Err-clause-loads : goal.returns-in-Err-clause-loads
+returns-in-Err-clause-loads g c tells =
+    let loads = c.load_into.ensures in
+    named c.in_ok-file.file (at_name c.args.name.now) StaysOrShort (shown_by g.D.Disk c.args.disk.now) (shown_by g.D.Disk c.load_into.new.disk) c.in_ok-file.ensures (loads.kept tells) (loads.any_moment tells) (loads.opened tells) (loads.unopened tells)
 
-pub returns-in-Err-clause-any_moment : goal.returns-in-Err-clause-any_moment
-returns-in-Err-clause-any_moment g c tells = subst (λ (n : Name). Passes (At n StaysOrShort) (g.D.Disk.past c.args.disk.now) (g.D.Disk.past c.load_into.new.disk)) c.in_ok-file.ensures (c.load_into.ensures.any_moment tells)
+pub returns-then-told-clause-loads : goal.returns-then-told-clause-loads
+returns-then-told-clause-loads g c tells =
+    let loads = c.load_into.ensures in
+    named c.in_ok-file.file (at_name c.args.name.now) StaysOrShort (shown_by g.D.Disk c.args.disk.now) (shown_by g.D.Disk c.load_into.new.disk) c.in_ok-file.ensures (loads.kept tells) (loads.any_moment tells) (loads.opened tells) (loads.unopened tells)
 
-pub returns-in-Err-clause-opened : goal.returns-in-Err-clause-opened
-returns-in-Err-clause-opened g c tells n other = c.load_into.ensures.opened tells n (λ is. other (is ∙ c.in_ok-file.ensures))
-
-pub returns-in-Err-clause-unopened : goal.returns-in-Err-clause-unopened
-returns-in-Err-clause-unopened g c tells = ap (g.D.Disk.opened c.load_into.new.disk) (sym c.in_ok-file.ensures) ∙ c.load_into.ensures.unopened tells
-
-pub returns-then-told-clause-kept : goal.returns-then-told-clause-kept
-returns-then-told-clause-kept g c tells = subst (λ (n : Name). At n StaysOrShort (g.D.Disk.files c.args.disk.now) (g.D.Disk.files c.load_into.new.disk)) c.in_ok-file.ensures (c.load_into.ensures.kept tells)
-
-pub returns-then-told-clause-any_moment : goal.returns-then-told-clause-any_moment
-returns-then-told-clause-any_moment g c tells = subst (λ (n : Name). Passes (At n StaysOrShort) (g.D.Disk.past c.args.disk.now) (g.D.Disk.past c.load_into.new.disk)) c.in_ok-file.ensures (c.load_into.ensures.any_moment tells)
-
-pub returns-then-told-clause-opened : goal.returns-then-told-clause-opened
-returns-then-told-clause-opened g c tells n other = c.load_into.ensures.opened tells n (λ is. other (is ∙ c.in_ok-file.ensures))
-
-pub returns-then-told-clause-unopened : goal.returns-then-told-clause-unopened
-returns-then-told-clause-unopened g c tells = ap (g.D.Disk.opened c.load_into.new.disk) (sym c.in_ok-file.ensures) ∙ c.load_into.ensures.unopened tells
-
-pub returns-clause-kept : goal.returns-clause-kept
-returns-clause-kept g c tells = subst (λ (n : Name). At n StaysOrShort (g.D.Disk.files c.args.disk.now) (g.D.Disk.files c.load_into.new.disk)) c.in_ok-file.ensures (c.load_into.ensures.kept tells)
-
-pub returns-clause-any_moment : goal.returns-clause-any_moment
-returns-clause-any_moment g c tells = subst (λ (n : Name). Passes (At n StaysOrShort) (g.D.Disk.past c.args.disk.now) (g.D.Disk.past c.load_into.new.disk)) c.in_ok-file.ensures (c.load_into.ensures.any_moment tells)
-
-pub returns-clause-opened : goal.returns-clause-opened
-returns-clause-opened g c tells n other = c.load_into.ensures.opened tells n (λ is. other (is ∙ c.in_ok-file.ensures))
-
-pub returns-clause-unopened : goal.returns-clause-unopened
-returns-clause-unopened g c tells = ap (g.D.Disk.opened c.load_into.new.disk) (sym c.in_ok-file.ensures) ∙ c.load_into.ensures.unopened tells
+pub returns-clause-loads : goal.returns-clause-loads
+returns-clause-loads g c tells =
+    let loads = c.load_into.ensures in
+    named c.in_ok-file.file (at_name c.args.name.now) StaysOrShort (shown_by g.D.Disk c.args.disk.now) (shown_by g.D.Disk c.load_into.new.disk) c.in_ok-file.ensures (loads.kept tells) (loads.any_moment tells) (loads.opened tells) (loads.unopened tells)
 
 pub returns-clause-made : goal.returns-clause-made
 returns-clause-made g c tells short =

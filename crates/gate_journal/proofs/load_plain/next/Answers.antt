@@ -26,7 +26,7 @@ returns-then-left-lt5-clause-bad g c tells b is at failed =
 pub returns-clause-whole : goal.returns-clause-whole
 returns-clause-whole g c tells b is =
     let file = size_is (g.D.Disk.files c.args.disk.now) c.args.name.now (λ (b : List ℕ). (length b ≡ c.args.window.now.size) × IsPiece c.args.window.now b) b (c.requires.file tells) is in
-    let there = ap (λ (f : Files). f c.args.name.now) (c.read.ensures.same tells) ∙ is in
+    let there = ap (λ (f : Files). f c.args.name.now) (c.read.ensures.reads tells).same ∙ is in
     let within : c.args.place < length b = omega (arith, file.0, c.requires.within) in
     let count = c.in_ok-read.ensures.count tells b is in
     let front = c.in_ok-read.ensures.front tells b is in

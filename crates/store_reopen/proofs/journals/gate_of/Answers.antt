@@ -9,7 +9,7 @@ pub returns-in_ok-file-in-Ok-clause-gate : goal.returns-in_ok-file-in-Ok-clause-
 returns-in_ok-file-in-Ok-clause-gate g c tells bs has =
     let old = g.D.Disk.files c.args.disk.now in
     let same = one_list c.args.name.now old c.in-Ok.batches bs (c.in-Ok.ensures.batches tells) has in
-    let current = settled_file_of c.in-Ok.journal c.args.name.now old (shown_by g.D.Disk c.load.new.disk) bs c.in-Ok.batches c.in-Ok.ensures.journal.0 (c.in-Ok.ensures.settled tells) (c.load.ensures.kept tells).here has in (
+    let current = settled_file_of c.in-Ok.journal c.args.name.now old (shown_by g.D.Disk c.load.new.disk) bs c.in-Ok.batches c.in-Ok.ensures.journal.0 (c.in-Ok.ensures.settled tells) (c.load.ensures.leaves tells).kept.here has in (
       c.in_ok-file-in-Ok.ensures ∙ c.file.ensures ∙ current,
       c.in_ok-at-in-Ok.ensures ∙ ap (λ (l : List (List ℕ)). length (open_gates (take c.args.number l))) same,
     )

@@ -11,48 +11,27 @@ use Rattle.store_reopen.proofs.journals.load_catalogue.Goals as goal
 
 pub returns-in-Ok-clause-keeps : goal.returns-in-Ok-clause-keeps
 returns-in-Ok-clause-keeps g c tells g' =
-    kept_rows g' (shown_by g.D.Disk c.args.disk.now) (shown_by g.D.Disk c.load.new.disk) (c.load.ensures.leaves tells).any_moment (c.load.ensures.leaves tells).reads
-    (c.load.ensures.leaves tells).opened (c.load.ensures.leaves tells).unopened
+    kept_rows g' (shown_by g.D.Disk c.args.disk.now) (shown_by g.D.Disk c.load.new.disk) (c.load.ensures.leaves tells)
 
 pub returns-in-Err-Disk-clause-keeps : goal.returns-in-Err-Disk-clause-keeps
 returns-in-Err-Disk-clause-keeps g c tells g' =
-    kept_rows g' (shown_by g.D.Disk c.args.disk.now) (shown_by g.D.Disk c.load.new.disk) (c.load.ensures.leaves tells).any_moment (c.load.ensures.leaves tells).reads
-    (c.load.ensures.leaves tells).opened (c.load.ensures.leaves tells).unopened
+    kept_rows g' (shown_by g.D.Disk c.args.disk.now) (shown_by g.D.Disk c.load.new.disk) (c.load.ensures.leaves tells)
 
 pub returns-in-Err-BadJournal-clause-keeps : goal.returns-in-Err-BadJournal-clause-keeps
 returns-in-Err-BadJournal-clause-keeps g c tells g' =
-    kept_rows g' (shown_by g.D.Disk c.args.disk.now) (shown_by g.D.Disk c.load.new.disk) (c.load.ensures.leaves tells).any_moment (c.load.ensures.leaves tells).reads
-    (c.load.ensures.leaves tells).opened (c.load.ensures.leaves tells).unopened
+    kept_rows g' (shown_by g.D.Disk c.args.disk.now) (shown_by g.D.Disk c.load.new.disk) (c.load.ensures.leaves tells)
 
 pub returns-in_err-file-in-Err-BadBatch-clause-keeps : goal.returns-in_err-file-in-Err-BadBatch-clause-keeps
 returns-in_err-file-in-Err-BadBatch-clause-keeps g c tells g' =
     kept_then g' _ _ _
-    (kept_rows g' (shown_by g.D.Disk c.args.disk.now) (shown_by g.D.Disk c.load.new.disk) (c.load.ensures.leaves tells).any_moment (c.load.ensures.leaves tells).reads
-    (c.load.ensures.leaves tells).opened (c.load.ensures.leaves tells).unopened)
-    (
-    rows_again g' (shown_by g.D.Disk c.load.new.disk) (shown_by g.D.Disk c.gate_of.new.disk) c.in_ok-name.name c.in_ok-name.ensures
-    (record {
-      kept = c.gate_of.ensures.kept tells;
-      passes = c.gate_of.ensures.any_moment tells;
-      others = c.gate_of.ensures.opened tells;
-      is = c.gate_of.ensures.unopened tells;
-    })
-    )
+    (kept_rows g' (shown_by g.D.Disk c.args.disk.now) (shown_by g.D.Disk c.load.new.disk) (c.load.ensures.leaves tells))
+    (rows_again g' (shown_by g.D.Disk c.load.new.disk) (shown_by g.D.Disk c.gate_of.new.disk) c.in_ok-name.name c.in_ok-name.ensures (c.gate_of.ensures.leaves tells))
 
 pub returns-clause-keeps : goal.returns-clause-keeps
 returns-clause-keeps g c tells g' =
     kept_then g' _ _ _
-    (kept_rows g' (shown_by g.D.Disk c.args.disk.now) (shown_by g.D.Disk c.load.new.disk) (c.load.ensures.leaves tells).any_moment (c.load.ensures.leaves tells).reads
-    (c.load.ensures.leaves tells).opened (c.load.ensures.leaves tells).unopened)
-    (
-    rows_again g' (shown_by g.D.Disk c.load.new.disk) (shown_by g.D.Disk c.gate_of.new.disk) c.in_ok-name.name c.in_ok-name.ensures
-    (record {
-      kept = c.gate_of.ensures.kept tells;
-      passes = c.gate_of.ensures.any_moment tells;
-      others = c.gate_of.ensures.opened tells;
-      is = c.gate_of.ensures.unopened tells;
-    })
-    )
+    (kept_rows g' (shown_by g.D.Disk c.args.disk.now) (shown_by g.D.Disk c.load.new.disk) (c.load.ensures.leaves tells))
+    (rows_again g' (shown_by g.D.Disk c.load.new.disk) (shown_by g.D.Disk c.gate_of.new.disk) c.in_ok-name.name c.in_ok-name.ensures (c.gate_of.ensures.leaves tells))
 
 pub gate_of-requires : goal.gate_of-requires
 gate_of-requires g c = record { unopened = λ tells. subst (λ (n : Name). NoneOpened n (g.D.Disk.opened c.load.new.disk)) (sym c.in_ok-name.ensures) (c.load.ensures.leaves tells).unopened }
@@ -66,21 +45,21 @@ returns-clause-told g c tells g' =
     let file = c.in_ok-file-in-Err-BadBatch.file in
     let at = c.in_ok-file-in-Err-BadBatch.at in
     let gate = subst (λ (n : Name). IsGate n (g.D.Disk.files c.load.new.disk) c.in-Err-BadBatch.number file at) c.in_ok-name.ensures (c.in_ok-file-in-Err-BadBatch.ensures.gate tells) in
-    catalogue_bad (bad_again IsBadBatch no_bad_rows catalogue_name (g.D.Disk.files c.args.disk.now) (g.D.Disk.files c.load.new.disk) ⊥ bad.0 c.in-Err-BadBatch.number file at bad.1 bad.2 (inl (c.load.ensures.leaves tells).reads.here) gate)
+    catalogue_bad (bad_again IsBadBatch no_bad_rows catalogue_name (g.D.Disk.files c.args.disk.now) (g.D.Disk.files c.load.new.disk) ⊥ bad.0 c.in-Err-BadBatch.number file at bad.1 bad.2 (inl (c.load.ensures.leaves tells).kept.here) gate)
 
 pub returns-in_err-file-in-Err-BadBatch-clause-others : goal.returns-in_err-file-in-Err-BadBatch-clause-others
 returns-in_err-file-in-Err-BadBatch-clause-others g c tells n other =
-    (c.gate_of.ensures.kept tells).elsewhere n (λ own. other (subst (λ (m : Name). IsOwn m n) c.in_ok-name.ensures own)) ∙ (c.load.ensures.leaves tells).reads.elsewhere n other
+    (c.gate_of.ensures.leaves tells).kept.elsewhere n (λ own. other (subst (λ (m : Name). IsOwn m n) c.in_ok-name.ensures own)) ∙ (c.load.ensures.leaves tells).kept.elsewhere n other
 
 pub returns-clause-others : goal.returns-clause-others
 returns-clause-others g c tells n other =
-    (c.gate_of.ensures.kept tells).elsewhere n (λ own. other (subst (λ (m : Name). IsOwn m n) c.in_ok-name.ensures own)) ∙ (c.load.ensures.leaves tells).reads.elsewhere n other
+    (c.gate_of.ensures.leaves tells).kept.elsewhere n (λ own. other (subst (λ (m : Name). IsOwn m n) c.in_ok-name.ensures own)) ∙ (c.load.ensures.leaves tells).kept.elsewhere n other
 
 pub returns-in-Ok-clause-others : goal.returns-in-Ok-clause-others
-returns-in-Ok-clause-others g c tells n other = (c.load.ensures.leaves tells).reads.elsewhere n other
+returns-in-Ok-clause-others g c tells n other = (c.load.ensures.leaves tells).kept.elsewhere n other
 
 pub returns-in-Err-Disk-clause-others : goal.returns-in-Err-Disk-clause-others
-returns-in-Err-Disk-clause-others g c tells n other = (c.load.ensures.leaves tells).reads.elsewhere n other
+returns-in-Err-Disk-clause-others g c tells n other = (c.load.ensures.leaves tells).kept.elsewhere n other
 
 pub returns-in-Err-BadJournal-clause-others : goal.returns-in-Err-BadJournal-clause-others
-returns-in-Err-BadJournal-clause-others g c tells n other = (c.load.ensures.leaves tells).reads.elsewhere n other
+returns-in-Err-BadJournal-clause-others g c tells n other = (c.load.ensures.leaves tells).kept.elsewhere n other

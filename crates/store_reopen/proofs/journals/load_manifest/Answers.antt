@@ -15,53 +15,31 @@ use Rattle.store_reopen.proofs.journals.load_manifest.Goals as goal
 
 pub returns-in-Ok-clause-keeps : goal.returns-in-Ok-clause-keeps
 returns-in-Ok-clause-keeps g c tells =
-    kept_list (stores_of c.args.config.now) (shown_by g.D.Disk c.args.disk.now) (shown_by g.D.Disk c.load.new.disk) c.args.place c.granularity.result (here_at c.args.config.now c.args.place (c.args.place + 1 - 1) c.granularity.result c.requires.place (omega arith) c.granularity.ensures.value) (c.load.ensures.leaves tells).any_moment (c.load.ensures.leaves tells).reads
-    (c.load.ensures.leaves tells).opened (c.load.ensures.leaves tells).unopened
+    kept_list (stores_of c.args.config.now) (shown_by g.D.Disk c.args.disk.now) (shown_by g.D.Disk c.load.new.disk) c.args.place c.granularity.result (here_at c.args.config.now c.args.place (c.args.place + 1 - 1) c.granularity.result c.requires.place (omega arith) c.granularity.ensures.value) (c.load.ensures.leaves tells)
 
 pub returns-in-Err-Disk-clause-keeps : goal.returns-in-Err-Disk-clause-keeps
 returns-in-Err-Disk-clause-keeps g c tells =
-    kept_list (stores_of c.args.config.now) (shown_by g.D.Disk c.args.disk.now) (shown_by g.D.Disk c.load.new.disk) c.args.place c.granularity.result (here_at c.args.config.now c.args.place (c.args.place + 1 - 1) c.granularity.result c.requires.place (omega arith) c.granularity.ensures.value) (c.load.ensures.leaves tells).any_moment (c.load.ensures.leaves tells).reads
-    (c.load.ensures.leaves tells).opened (c.load.ensures.leaves tells).unopened
+    kept_list (stores_of c.args.config.now) (shown_by g.D.Disk c.args.disk.now) (shown_by g.D.Disk c.load.new.disk) c.args.place c.granularity.result (here_at c.args.config.now c.args.place (c.args.place + 1 - 1) c.granularity.result c.requires.place (omega arith) c.granularity.ensures.value) (c.load.ensures.leaves tells)
 
 pub returns-in-Err-BadJournal-clause-keeps : goal.returns-in-Err-BadJournal-clause-keeps
 returns-in-Err-BadJournal-clause-keeps g c tells =
-    kept_list (stores_of c.args.config.now) (shown_by g.D.Disk c.args.disk.now) (shown_by g.D.Disk c.load.new.disk) c.args.place c.granularity.result (here_at c.args.config.now c.args.place (c.args.place + 1 - 1) c.granularity.result c.requires.place (omega arith) c.granularity.ensures.value) (c.load.ensures.leaves tells).any_moment (c.load.ensures.leaves tells).reads
-    (c.load.ensures.leaves tells).opened (c.load.ensures.leaves tells).unopened
+    kept_list (stores_of c.args.config.now) (shown_by g.D.Disk c.args.disk.now) (shown_by g.D.Disk c.load.new.disk) c.args.place c.granularity.result (here_at c.args.config.now c.args.place (c.args.place + 1 - 1) c.granularity.result c.requires.place (omega arith) c.granularity.ensures.value) (c.load.ensures.leaves tells)
 
 pub returns-clause-keeps : goal.returns-clause-keeps
 returns-clause-keeps g c tells =
-    kept_list (stores_of c.args.config.now) (shown_by g.D.Disk c.args.disk.now) (shown_by g.D.Disk c.load.new.disk) c.args.place c.granularity.result (here_at c.args.config.now c.args.place (c.args.place + 1 - 1) c.granularity.result c.requires.place (omega arith) c.granularity.ensures.value) (c.load.ensures.leaves tells).any_moment (c.load.ensures.leaves tells).reads
-    (c.load.ensures.leaves tells).opened (c.load.ensures.leaves tells).unopened
+    kept_list (stores_of c.args.config.now) (shown_by g.D.Disk c.args.disk.now) (shown_by g.D.Disk c.load.new.disk) c.args.place c.granularity.result (here_at c.args.config.now c.args.place (c.args.place + 1 - 1) c.granularity.result c.requires.place (omega arith) c.granularity.ensures.value) (c.load.ensures.leaves tells)
 
 pub returns-in_err-file-in-Err-BadBatch-clause-keeps : goal.returns-in_err-file-in-Err-BadBatch-clause-keeps
 returns-in_err-file-in-Err-BadBatch-clause-keeps g c tells =
     kept_then (stores_of c.args.config.now) _ _ _
-    (kept_list (stores_of c.args.config.now) (shown_by g.D.Disk c.args.disk.now) (shown_by g.D.Disk c.load.new.disk) c.args.place c.granularity.result (here_at c.args.config.now c.args.place (c.args.place + 1 - 1) c.granularity.result c.requires.place (omega arith) c.granularity.ensures.value) (c.load.ensures.leaves tells).any_moment (c.load.ensures.leaves tells).reads
-    (c.load.ensures.leaves tells).opened (c.load.ensures.leaves tells).unopened)
-    (
-    list_again (stores_of c.args.config.now) (shown_by g.D.Disk c.load.new.disk) (shown_by g.D.Disk c.gate_of.new.disk) c.args.place c.granularity.result (here_at c.args.config.now c.args.place (c.args.place + 1 - 1) c.granularity.result c.requires.place (omega arith) c.granularity.ensures.value) c.in_ok-name.name c.in_ok-name.ensures
-    (record {
-      kept = c.gate_of.ensures.kept tells;
-      passes = c.gate_of.ensures.any_moment tells;
-      others = c.gate_of.ensures.opened tells;
-      is = c.gate_of.ensures.unopened tells;
-    })
-    )
+    (kept_list (stores_of c.args.config.now) (shown_by g.D.Disk c.args.disk.now) (shown_by g.D.Disk c.load.new.disk) c.args.place c.granularity.result (here_at c.args.config.now c.args.place (c.args.place + 1 - 1) c.granularity.result c.requires.place (omega arith) c.granularity.ensures.value) (c.load.ensures.leaves tells))
+    (list_again (stores_of c.args.config.now) (shown_by g.D.Disk c.load.new.disk) (shown_by g.D.Disk c.gate_of.new.disk) c.args.place c.granularity.result (here_at c.args.config.now c.args.place (c.args.place + 1 - 1) c.granularity.result c.requires.place (omega arith) c.granularity.ensures.value) c.in_ok-name.name c.in_ok-name.ensures (c.gate_of.ensures.leaves tells))
 
 pub returns-in-Err-BadBatch-clause-keeps : goal.returns-in-Err-BadBatch-clause-keeps
 returns-in-Err-BadBatch-clause-keeps g c tells =
     kept_then (stores_of c.args.config.now) _ _ _
-    (kept_list (stores_of c.args.config.now) (shown_by g.D.Disk c.args.disk.now) (shown_by g.D.Disk c.load.new.disk) c.args.place c.granularity.result (here_at c.args.config.now c.args.place (c.args.place + 1 - 1) c.granularity.result c.requires.place (omega arith) c.granularity.ensures.value) (c.load.ensures.leaves tells).any_moment (c.load.ensures.leaves tells).reads
-    (c.load.ensures.leaves tells).opened (c.load.ensures.leaves tells).unopened)
-    (
-    list_again (stores_of c.args.config.now) (shown_by g.D.Disk c.load.new.disk) (shown_by g.D.Disk c.gate_of.new.disk) c.args.place c.granularity.result (here_at c.args.config.now c.args.place (c.args.place + 1 - 1) c.granularity.result c.requires.place (omega arith) c.granularity.ensures.value) c.in_ok-name.name c.in_ok-name.ensures
-    (record {
-      kept = c.gate_of.ensures.kept tells;
-      passes = c.gate_of.ensures.any_moment tells;
-      others = c.gate_of.ensures.opened tells;
-      is = c.gate_of.ensures.unopened tells;
-    })
-    )
+    (kept_list (stores_of c.args.config.now) (shown_by g.D.Disk c.args.disk.now) (shown_by g.D.Disk c.load.new.disk) c.args.place c.granularity.result (here_at c.args.config.now c.args.place (c.args.place + 1 - 1) c.granularity.result c.requires.place (omega arith) c.granularity.ensures.value) (c.load.ensures.leaves tells))
+    (list_again (stores_of c.args.config.now) (shown_by g.D.Disk c.load.new.disk) (shown_by g.D.Disk c.gate_of.new.disk) c.args.place c.granularity.result (here_at c.args.config.now c.args.place (c.args.place + 1 - 1) c.granularity.result c.requires.place (omega arith) c.granularity.ensures.value) c.in_ok-name.name c.in_ok-name.ensures (c.gate_of.ensures.leaves tells))
 
 pub gate_of-requires : goal.gate_of-requires
 gate_of-requires g c = record { unopened = λ tells. subst (λ (n : Name). NoneOpened n (g.D.Disk.opened c.load.new.disk)) (sym c.in_ok-name.ensures) (c.load.ensures.leaves tells).unopened }

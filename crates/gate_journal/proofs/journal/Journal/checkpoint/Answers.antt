@@ -57,8 +57,8 @@ returns-in-Err-Memory-clause-commits g c =
     rw (← c.self.view_is) (λ tells bs s.
     left_commits _ was bs s (c.len.result / 13 + 1) (told_by_length c.self.inside.at was s.generation c.len.result s.at c.len.ensures) c.name-2.result.now
     c.generation_name.ensures.small (c.name-2.ensures ∙ ap (λ (j : PlainState). j.name) c.closed_at-next.ensures ∙ c.in_ok-name.ensures.named) c.args.batch.now c.deref.result.now c.requires.not_long
-    (c.deref.ensures.value ∙ c.in_ok-first_bytes.ensures) mid (c.switch.ensures.any_moment tells (generation_batches s.generation) s.at)
-    (c.switch.ensures.elsewhere tells) (c.switch.ensures.opened tells) (c.switch.ensures.unopened tells) c.switch.new.at _ (ap state (c.in-Err-Memory.ensures.memory is)) (c.in-Err-Memory.ensures.left tells (generation_batches s.generation) s.at is))
+    (c.deref.ensures.value ∙ c.in_ok-first_bytes.ensures) mid c.switch.result c.switch.new.at (c.switch.ensures.switches tells (generation_batches s.generation) s.at)
+    _ (ap state (c.in-Err-Memory.ensures.memory is)) ((c.in-Err-Memory.ensures.switches tells (generation_batches s.generation) s.at).left is))
 
 pub returns-in-Err-Memory-clause-goes_over : goal.returns-in-Err-Memory-clause-goes_over
 returns-in-Err-Memory-clause-goes_over g c =
@@ -68,11 +68,10 @@ returns-in-Err-Memory-clause-goes_over g c =
     rw (← c.self.view_is) (λ tells k small_k current.
     let held = rw (← c.self.view_is) at (c.requires.settled tells) in
     let s = held.1 in
-    let made = c.in-Err-Memory.ensures.untold tells is in
+    let made = (c.in-Err-Memory.ensures.switches tells (generation_batches s.generation) s.at).untold is in
     left_goes _ was held.0 s (c.len.result / 13 + 1) (told_by_length c.self.inside.at was s.generation c.len.result s.at c.len.ensures) c.name-2.result.now
     c.generation_name.ensures.small (c.name-2.ensures ∙ ap (λ (j : PlainState). j.name) c.closed_at-next.ensures ∙ c.in_ok-name.ensures.named) c.args.batch.now c.deref.result.now c.requires.not_long
-    (c.deref.ensures.value ∙ c.in_ok-first_bytes.ensures) mid (c.switch.ensures.any_moment tells (generation_batches s.generation) s.at)
-    (c.switch.ensures.elsewhere tells) (c.switch.ensures.opened tells) (c.switch.ensures.unopened tells) k small_k current _ made.0 made.1)
+    (c.deref.ensures.value ∙ c.in_ok-first_bytes.ensures) mid c.switch.result c.switch.new.at (c.switch.ensures.switches tells (generation_batches s.generation) s.at) k small_k current _ made.0 made.1)
 
 pub returns-in-Err-Memory-clause-memory : goal.returns-in-Err-Memory-clause-memory
 returns-in-Err-Memory-clause-memory g c = rw (← c.self.view_is) (λ failed.
@@ -87,10 +86,9 @@ returns-in-Err-Fault-clause-commits g c =
     rw (← c.self.view_is) (λ tells bs s.
     open_commits _ was bs s (c.len.result / 13 + 1) (told_by_length c.self.inside.at was s.generation c.len.result s.at c.len.ensures) c.name-2.result.now
     c.generation_name.ensures.small (c.name-2.ensures ∙ ap (λ (j : PlainState). j.name) c.closed_at-next.ensures ∙ c.in_ok-name.ensures.named) c.args.batch.now c.deref.result.now c.requires.not_long
-    (c.deref.ensures.value ∙ c.in_ok-first_bytes.ensures) mid (c.switch.ensures.any_moment tells (generation_batches s.generation) s.at)
-    (c.switch.ensures.elsewhere tells) (c.switch.ensures.opened tells) (c.switch.ensures.unopened tells)
-    c.switch.new.at c.closed_at-next.result c.switch.ensures.name (sym c.name-2.ensures) (let place = ap (λ (j : PlainState). j.place) c.closed_at-next.ensures in omega (arith, place))
-    (c.in-Err-Fault.ensures.in_doubt tells (generation_batches s.generation) s.at is) sound.0)
+    (c.deref.ensures.value ∙ c.in_ok-first_bytes.ensures) mid c.switch.result c.switch.new.at (c.switch.ensures.switches tells (generation_batches s.generation) s.at)
+    c.closed_at-next.result c.switch.ensures.name (sym c.name-2.ensures) (let place = ap (λ (j : PlainState). j.place) c.closed_at-next.ensures in omega (arith, place))
+    ((c.in-Err-Fault.ensures.switches tells (generation_batches s.generation) s.at).in_doubt is) sound.0)
 
 pub returns-in-Err-Fault-clause-goes_over : goal.returns-in-Err-Fault-clause-goes_over
 returns-in-Err-Fault-clause-goes_over g c =
@@ -101,8 +99,7 @@ returns-in-Err-Fault-clause-goes_over g c =
     let s = held.1 in
     open_goes _ was held.0 s (c.len.result / 13 + 1) (told_by_length c.self.inside.at was s.generation c.len.result s.at c.len.ensures) c.name-2.result.now
     c.generation_name.ensures.small (c.name-2.ensures ∙ ap (λ (j : PlainState). j.name) c.closed_at-next.ensures ∙ c.in_ok-name.ensures.named) c.args.batch.now c.deref.result.now c.requires.not_long
-    (c.deref.ensures.value ∙ c.in_ok-first_bytes.ensures) mid (c.switch.ensures.any_moment tells (generation_batches s.generation) s.at)
-    (c.switch.ensures.elsewhere tells) (c.switch.ensures.opened tells) (c.switch.ensures.unopened tells) k small_k current _)
+    (c.deref.ensures.value ∙ c.in_ok-first_bytes.ensures) mid c.switch.result c.switch.new.at (c.switch.ensures.switches tells (generation_batches s.generation) s.at) k small_k current _)
 
 pub go_over-requires-clause-pending : goal.go_over-requires-clause-pending
 go_over-requires-clause-pending g c = (c.closed_at-next.result, refl)
@@ -118,8 +115,7 @@ go_over-requires-clause-file g c tells =
     let s = held.1 in
     current_file _ was held.0 s (c.len.result / 13 + 1) (told_by_length c.self.inside.at was s.generation c.len.result s.at c.len.ensures) c.name-2.result.now
     c.generation_name.ensures.small (c.name-2.ensures ∙ ap (λ (j : PlainState). j.name) c.closed_at-next.ensures ∙ c.in_ok-name.ensures.named) c.args.batch.now c.deref.result.now c.requires.not_long
-    (c.deref.ensures.value ∙ c.in_ok-first_bytes.ensures) mid (c.switch.ensures.any_moment tells (generation_batches s.generation) s.at)
-    (c.switch.ensures.elsewhere tells) (c.switch.ensures.opened tells) (c.switch.ensures.unopened tells)
+    (c.deref.ensures.value ∙ c.in_ok-first_bytes.ensures) mid c.switch.result c.switch.new.at (c.switch.ensures.switches tells (generation_batches s.generation) s.at)
 
 pub go_over-requires-clause-unopened : goal.go_over-requires-clause-unopened
 go_over-requires-clause-unopened g c tells =
@@ -129,8 +125,7 @@ go_over-requires-clause-unopened g c tells =
     let s = held.1 in
     all_unopened _ was held.0 s (c.len.result / 13 + 1) (told_by_length c.self.inside.at was s.generation c.len.result s.at c.len.ensures) c.name-2.result.now
     c.generation_name.ensures.small (c.name-2.ensures ∙ ap (λ (j : PlainState). j.name) c.closed_at-next.ensures ∙ c.in_ok-name.ensures.named) c.args.batch.now c.deref.result.now c.requires.not_long
-    (c.deref.ensures.value ∙ c.in_ok-first_bytes.ensures) mid (c.switch.ensures.any_moment tells (generation_batches s.generation) s.at)
-    (c.switch.ensures.elsewhere tells) (c.switch.ensures.opened tells) (c.switch.ensures.unopened tells) c.self.inside.current.name (current_is_own _ was held.0 s)
+    (c.deref.ensures.value ∙ c.in_ok-first_bytes.ensures) mid c.switch.result c.switch.new.at (c.switch.ensures.switches tells (generation_batches s.generation) s.at) c.self.inside.current.name (current_is_own _ was held.0 s)
 
 pub returns-in-Ok-clause-commits : goal.returns-in-Ok-clause-commits
 returns-in-Ok-clause-commits g c =
@@ -138,13 +133,12 @@ returns-in-Ok-clause-commits g c =
     let mid = shown_by g.D.Disk c.switch.new.disk in
     let last = shown_by g.D.Disk c.go_over.new.disk in
     rw (← c.self.view_is) (λ tells bs s.
+    let says = c.in-Ok.ensures.switches tells (generation_batches s.generation) s.at in
     gone_commits _ was bs s (c.len.result / 13 + 1) (told_by_length c.self.inside.at was s.generation c.len.result s.at c.len.ensures) c.name-2.result.now
     c.generation_name.ensures.small (c.name-2.ensures ∙ ap (λ (j : PlainState). j.name) c.closed_at-next.ensures ∙ c.in_ok-name.ensures.named) c.args.batch.now c.deref.result.now c.requires.not_long
-    (c.deref.ensures.value ∙ c.in_ok-first_bytes.ensures) mid (c.switch.ensures.any_moment tells (generation_batches s.generation) s.at)
-    (c.switch.ensures.elsewhere tells) (c.switch.ensures.opened tells) (c.switch.ensures.unopened tells)
-    c.switch.new.at c.closed_at-next.result c.switch.ensures.name (sym c.name-2.ensures) (let place = ap (λ (j : PlainState). j.place) c.closed_at-next.ensures in omega (arith, place))
-    (c.in-Ok.ensures.told tells (generation_batches s.generation) s.at) (c.in-Ok.ensures.made tells).0 (c.in-Ok.ensures.made tells).1 last
-    (c.go_over.ensures.any_moment tells) (c.go_over.ensures.elsewhere tells) (c.go_over.ensures.opened tells) (c.go_over.ensures.unopened tells)
+    (c.deref.ensures.value ∙ c.in_ok-first_bytes.ensures) mid c.switch.result c.switch.new.at (c.switch.ensures.switches tells (generation_batches s.generation) s.at)
+    c.closed_at-next.result c.switch.ensures.name (sym c.name-2.ensures) (let place = ap (λ (j : PlainState). j.place) c.closed_at-next.ensures in omega (arith, place))
+    says.told says.made.0 says.made.1 last (c.go_over.ensures.removes tells)
     c.go_over.result _ (c.go_over.ensures.over c.closed_at-next.result refl) (c.go_over.ensures.left c.closed_at-next.result refl) c.go_over.ensures.no_memory)
 
 pub returns-in-Ok-clause-goes_over : goal.returns-in-Ok-clause-goes_over
@@ -155,13 +149,12 @@ returns-in-Ok-clause-goes_over g c =
     rw (← c.self.view_is) (λ tells k small_k current.
     let held = rw (← c.self.view_is) at (c.requires.settled tells) in
     let s = held.1 in
+    let says = c.in-Ok.ensures.switches tells (generation_batches s.generation) s.at in
     gone_over_goes _ was held.0 s (c.len.result / 13 + 1) (told_by_length c.self.inside.at was s.generation c.len.result s.at c.len.ensures) c.name-2.result.now
     c.generation_name.ensures.small (c.name-2.ensures ∙ ap (λ (j : PlainState). j.name) c.closed_at-next.ensures ∙ c.in_ok-name.ensures.named) c.args.batch.now c.deref.result.now c.requires.not_long
-    (c.deref.ensures.value ∙ c.in_ok-first_bytes.ensures) mid (c.switch.ensures.any_moment tells (generation_batches s.generation) s.at)
-    (c.switch.ensures.elsewhere tells) (c.switch.ensures.opened tells) (c.switch.ensures.unopened tells)
-    c.switch.new.at c.closed_at-next.result c.switch.ensures.name (sym c.name-2.ensures) (let place = ap (λ (j : PlainState). j.place) c.closed_at-next.ensures in omega (arith, place))
-    (c.in-Ok.ensures.told tells (generation_batches s.generation) s.at) (c.in-Ok.ensures.made tells).0 (c.in-Ok.ensures.made tells).1 last
-    (c.go_over.ensures.any_moment tells) (c.go_over.ensures.elsewhere tells) (c.go_over.ensures.opened tells) (c.go_over.ensures.unopened tells)
+    (c.deref.ensures.value ∙ c.in_ok-first_bytes.ensures) mid c.switch.result c.switch.new.at (c.switch.ensures.switches tells (generation_batches s.generation) s.at)
+    c.closed_at-next.result c.switch.ensures.name (sym c.name-2.ensures) (let place = ap (λ (j : PlainState). j.place) c.closed_at-next.ensures in omega (arith, place))
+    says.told says.made.0 says.made.1 last (c.go_over.ensures.removes tells)
     k small_k current c.go_over.result _ (c.go_over.ensures.over c.closed_at-next.result refl) c.go_over.ensures.no_memory (c.go_over.ensures.gone tells))
 
 pub returns-in-Ok-clause-bytes : goal.returns-in-Ok-clause-bytes
@@ -173,7 +166,7 @@ returns-in-Ok-clause-bytes g c tells =
     let named = c.name-2.ensures ∙ ap (λ (j : PlainState). j.name) c.closed_at-next.ensures ∙ c.in_ok-name.ensures.named in
     let not_next = current_not_next _ was held.0 s (c.len.result / 13 + 1) counted c.name-2.result.now c.generation_name.ensures.small named in
     let file = c.deref.ensures.value ∙ c.in_ok-first_bytes.ensures in
-    on_ok_weaker c.go_over.result (λ is. ap (λ (j : JournalState). (g.D.Disk.files c.go_over.new.disk) j.current.name) is ∙ ap (g.D.Disk.files c.go_over.new.disk) (sym c.name-2.ensures) ∙ c.go_over.ensures.elsewhere tells c.name-2.result.now (λ too. not_next (sym too)) ∙ (c.in-Ok.ensures.made tells).0 ∙ ap (λ (l : List ℕ). Some l) file)
+    on_ok_weaker c.go_over.result (λ is. ap (λ (j : JournalState). (g.D.Disk.files c.go_over.new.disk) j.current.name) is ∙ ap (g.D.Disk.files c.go_over.new.disk) (sym c.name-2.ensures) ∙ (c.go_over.ensures.removes tells).files.elsewhere c.name-2.result.now (λ too. not_next (sym too)) ∙ (c.in-Ok.ensures.switches tells (generation_batches s.generation) s.at).made.0 ∙ ap (λ (l : List ℕ). Some l) file)
     (c.go_over.ensures.over c.closed_at-next.result refl)
 
 pub returns-in-Ok-clause-memory : goal.returns-in-Ok-clause-memory

@@ -1,7 +1,8 @@
-use Rattle.std.proofs.Common.{None, sym, ◌∙◌, ap, subst}
-use Rattle.disk_model.specs.Files.{Name, At, HasFile}
-use Rattle.disk_model.specs.Past.{Passes, Only}
+use Rattle.std.proofs.Common.{◌≡◌, None, sym, ◌∙◌, ap, subst}
+use Rattle.disk_model.specs.Files.{Name, KeptOr, HasFile}
+use Rattle.disk_model.specs.Past.{Only}
 use Rattle.gate_journal.specs.declared.journal.Pending.TheVariants.{Nothing, Removal}
+use Rattle.gate_journal.specs.DiskShown.{ChangesUnopened, shown_by}
 use Rattle.gate_journal.specs.Plain.{PlainState}
 use Rattle.gate_journal.proofs.Committing.{same_next, state_same}
 use Rattle.gate_journal.proofs.journal.Journal.go_over.Goals as goal
@@ -28,45 +29,20 @@ returns-in-Err-clause-left g c = rw (← c.self.view_is) (λ next is.
     state_same c.self.inside.name c.self.inside.at c.replace-old.new.dest next (Removal c.replace-old.result) (Removal c.self.inside.current)
     (c.replace-old.ensures.after ∙ same_next c.self.inside.pending c.in-Switch.next next (sym c.replace.ensures.value ∙ c.in-Switch.is) is) (ap (λ (j : PlainState). Removal j) c.replace-old.ensures.value))
 
-pub returns-in-Ok-clause-elsewhere : goal.returns-in-Ok-clause-elsewhere
-returns-in-Ok-clause-elsewhere g c = rw (← c.self.view_is) (λ tells n other.
-    let old_is = c.name.ensures ∙ ap (λ (j : PlainState). j.name) c.replace-old.ensures.value in c.remove_synced.ensures.elsewhere tells n (λ is. other (is ∙ old_is)))
-
-pub returns-in-Ok-clause-any_moment : goal.returns-in-Ok-clause-any_moment
-returns-in-Ok-clause-any_moment g c = rw (← c.self.view_is) (λ tells.
+pub returns-in-Ok-clause-removes : goal.returns-in-Ok-clause-removes
+returns-in-Ok-clause-removes g c = rw (← c.self.view_is) (λ tells.
     let old_is = c.name.ensures ∙ ap (λ (j : PlainState). j.name) c.replace-old.ensures.value in
-    subst (λ (n : Name). Passes (At n (λ a b. Unit {0})) (g.D.Disk.past c.args.disk.now) (g.D.Disk.past c.remove_synced.new.disk)) old_is (c.remove_synced.ensures.any_moment tells))
+    let P : Name → Type 0 = λ n. ChangesUnopened n (KeptOr None) (shown_by g.D.Disk c.args.disk.now) (shown_by g.D.Disk c.remove_synced.new.disk) in
+    subst P old_is (c.remove_synced.ensures.removes tells))
 
-pub returns-in-Ok-clause-opened : goal.returns-in-Ok-clause-opened
-returns-in-Ok-clause-opened g c = rw (← c.self.view_is) (λ tells n other.
-    let old_is = c.name.ensures ∙ ap (λ (j : PlainState). j.name) c.replace-old.ensures.value in c.remove_synced.ensures.opened tells n (λ is. other (is ∙ old_is)))
-
-pub returns-in-Ok-clause-unopened : goal.returns-in-Ok-clause-unopened
-returns-in-Ok-clause-unopened g c = rw (← c.self.view_is) (λ tells.
+pub returns-in-Err-clause-removes : goal.returns-in-Err-clause-removes
+returns-in-Err-clause-removes g c = rw (← c.self.view_is) (λ tells.
     let old_is = c.name.ensures ∙ ap (λ (j : PlainState). j.name) c.replace-old.ensures.value in
-    ap (g.D.Disk.opened c.remove_synced.new.disk) (sym old_is) ∙ c.remove_synced.ensures.unopened tells)
-
-pub returns-in-Err-clause-elsewhere : goal.returns-in-Err-clause-elsewhere
-returns-in-Err-clause-elsewhere g c = rw (← c.self.view_is) (λ tells n other.
-    let old_is = c.name.ensures ∙ ap (λ (j : PlainState). j.name) c.replace-old.ensures.value in c.remove_synced.ensures.elsewhere tells n (λ is. other (is ∙ old_is)))
-
-pub returns-in-Err-clause-any_moment : goal.returns-in-Err-clause-any_moment
-returns-in-Err-clause-any_moment g c = rw (← c.self.view_is) (λ tells.
-    let old_is = c.name.ensures ∙ ap (λ (j : PlainState). j.name) c.replace-old.ensures.value in
-    subst (λ (n : Name). Passes (At n (λ a b. Unit {0})) (g.D.Disk.past c.args.disk.now) (g.D.Disk.past c.remove_synced.new.disk)) old_is (c.remove_synced.ensures.any_moment tells))
-
-pub returns-in-Err-clause-opened : goal.returns-in-Err-clause-opened
-returns-in-Err-clause-opened g c = rw (← c.self.view_is) (λ tells n other.
-    let old_is = c.name.ensures ∙ ap (λ (j : PlainState). j.name) c.replace-old.ensures.value in c.remove_synced.ensures.opened tells n (λ is. other (is ∙ old_is)))
-
-pub returns-in-Err-clause-unopened : goal.returns-in-Err-clause-unopened
-returns-in-Err-clause-unopened g c = rw (← c.self.view_is) (λ tells.
-    let old_is = c.name.ensures ∙ ap (λ (j : PlainState). j.name) c.replace-old.ensures.value in
-    ap (g.D.Disk.opened c.remove_synced.new.disk) (sym old_is) ∙ c.remove_synced.ensures.unopened tells)
+    let P : Name → Type 0 = λ n. ChangesUnopened n (KeptOr None) (shown_by g.D.Disk c.args.disk.now) (shown_by g.D.Disk c.remove_synced.new.disk) in
+    subst P old_is (c.remove_synced.ensures.removes tells))
 
 pub returns-in-Ok-clause-gone : goal.returns-in-Ok-clause-gone
 returns-in-Ok-clause-gone g c = rw (← c.self.view_is) (λ tells.
-    let old_is = c.name.ensures ∙ ap (λ (j : PlainState). j.name) c.replace-old.ensures.value in (
-      ap (g.D.Disk.files c.remove_synced.new.disk) (sym old_is) ∙ c.in-Ok.ensures.gone tells,
-      subst (λ (n : Name). Only (g.D.Disk.past c.remove_synced.new.disk) n None) old_is (c.in-Ok.ensures.durable tells),
-    ))
+    let old_is = c.name.ensures ∙ ap (λ (j : PlainState). j.name) c.replace-old.ensures.value in
+    let P : Name → Type 0 = λ n. (g.D.Disk.files c.remove_synced.new.disk n ≡ None) × Only (g.D.Disk.past c.remove_synced.new.disk) n None in
+    subst P old_is (c.in-Ok.ensures.gone tells))

@@ -37,13 +37,13 @@ pub go_over-requires-clause-file : goal.go_over-requires-clause-file
 go_over-requires-clause-file g c tells =
     let p = rw (← c.self.view_is) at c.requires.pending in
     let d = (rw (← c.self.view_is) at (c.requires.in_doubt tells)) p.0 p.1 in
-    record { bytes = d.2.current.bytes; file = ap (λ (f : Files). f c.self.inside.current.name) (c.review.ensures.same tells) ∙ d.2.current.file; holds = tt }
+    record { bytes = d.2.current.bytes; file = ap (λ (f : Files). f c.self.inside.current.name) (c.review.ensures.reads tells).same ∙ d.2.current.file; holds = tt }
 
 pub go_over-requires-clause-unopened : goal.go_over-requires-clause-unopened
 go_over-requires-clause-unopened g c tells =
     let p = rw (← c.self.view_is) at c.requires.pending in
     let d = (rw (← c.self.view_is) at (c.requires.in_doubt tells)) p.0 p.1 in
-    ap (λ (f : Name → ℕ). f c.self.inside.current.name) (c.review.ensures.opened tells) ∙ d.2.current.unopened
+    ap (λ (f : Name → ℕ). f c.self.inside.current.name) (c.review.ensures.reads tells).same_opened ∙ d.2.current.unopened
 
 pub returns-then-is_sound-clause-reviews : goal.returns-then-is_sound-clause-reviews
 returns-then-is_sound-clause-reviews g c =
@@ -57,7 +57,7 @@ returns-in_err-review-clause-reviews g c =
     let p = err_from_is_err_and c.from_residual.result c.from_residual.ensures.1 in
     rw (← c.self.view_is) (λ tells next is before after w.
     let half = half_switched (state_of c.self.inside.name c.self.inside.at c.self.inside.current c.self.inside.pending) was before after next w (sym c.is_sound.ensures ∙ c.if-is_sound.false) in
-    still_reviews (state_of c.self.inside.name c.self.inside.at c.self.inside.current c.self.inside.pending) was before after next w is half c.review.new.self mid c.review.ensures.name (c.review.ensures.same tells) (c.review.ensures.opened tells) (c.review.ensures.any_moment tells)
+    still_reviews (state_of c.self.inside.name c.self.inside.at c.self.inside.current c.self.inside.pending) was before after next w is half c.review.new.self mid c.review.ensures.name (c.review.ensures.reads tells).same (c.review.ensures.reads tells).same_opened (c.review.ensures.reads tells).any_moment
     c.self.inside.pending c.from_residual.result _ p.1 c.in_err-review.ensures.still is (c.in_err-review.ensures.doubtful tells (generation_batches w.generation) (to_le_bytes w64 (w.generation + 1)) half.at))
 
 pub returns-then-not-branch-clause-reviews : goal.returns-then-not-branch-clause-reviews
@@ -66,7 +66,7 @@ returns-then-not-branch-clause-reviews g c =
     let mid = shown_by g.D.Disk c.review.new.disk in
     rw (← c.self.view_is) (λ tells next is before after w.
     let half = half_switched (state_of c.self.inside.name c.self.inside.at c.self.inside.current c.self.inside.pending) was before after next w (sym c.is_sound.ensures ∙ c.if-is_sound.false) in
-    not_switched (state_of c.self.inside.name c.self.inside.at c.self.inside.current c.self.inside.pending) was before after next w is half c.review.new.self mid c.review.ensures.name (c.review.ensures.same tells) (c.review.ensures.opened tells) (c.review.ensures.any_moment tells)
+    not_switched (state_of c.self.inside.name c.self.inside.at c.self.inside.current c.self.inside.pending) was before after next w is half c.review.new.self mid c.review.ensures.name (c.review.ensures.reads tells).same (c.review.ensures.reads tells).same_opened (c.review.ensures.reads tells).any_moment
     Nothing (c.in_ok-review.ensures.unmade tells (generation_batches w.generation) (to_le_bytes w64 (w.generation + 1)) half.at c.if-not-branch.true))
 
 pub returns-clause-reviews : goal.returns-clause-reviews
@@ -76,9 +76,9 @@ returns-clause-reviews g c =
     let last = shown_by g.D.Disk c.go_over.new.disk in
     rw (← c.self.view_is) (λ tells next is before after w.
     let half = half_switched (state_of c.self.inside.name c.self.inside.at c.self.inside.current c.self.inside.pending) was before after next w (sym c.is_sound.ensures ∙ c.if-is_sound.false) in
-    over_reviews (state_of c.self.inside.name c.self.inside.at c.self.inside.current c.self.inside.pending) was before after next w is half c.review.new.self mid c.review.ensures.name (c.review.ensures.same tells) (c.review.ensures.opened tells) (c.review.ensures.any_moment tells)
+    over_reviews (state_of c.self.inside.name c.self.inside.at c.self.inside.current c.self.inside.pending) was before after next w is half c.review.new.self mid c.review.ensures.name (c.review.ensures.reads tells).same (c.review.ensures.reads tells).same_opened (c.review.ensures.reads tells).any_moment
     (c.in_ok-review.ensures.made tells (generation_batches w.generation) (to_le_bytes w64 (w.generation + 1)) half.at c.if-not-branch.false)
-    last (c.go_over.ensures.any_moment tells) (c.go_over.ensures.elsewhere tells) (c.go_over.ensures.opened tells) (c.go_over.ensures.unopened tells)
+    last (c.go_over.ensures.removes tells)
     _ (c.in_ok-go_over.ensures.over next is))
 
 pub returns-in_err-go_over-clause-reviews : goal.returns-in_err-go_over-clause-reviews
@@ -89,19 +89,19 @@ returns-in_err-go_over-clause-reviews g c =
     let p = err_from_is_err_and c.from_residual-in_err-go_over.result c.from_residual-in_err-go_over.ensures.1 in
     rw (← c.self.view_is) (λ tells next is before after w.
     let half = half_switched (state_of c.self.inside.name c.self.inside.at c.self.inside.current c.self.inside.pending) was before after next w (sym c.is_sound.ensures ∙ c.if-is_sound.false) in
-    half_over_reviews (state_of c.self.inside.name c.self.inside.at c.self.inside.current c.self.inside.pending) was before after next w is half c.review.new.self mid c.review.ensures.name (c.review.ensures.same tells) (c.review.ensures.opened tells) (c.review.ensures.any_moment tells)
+    half_over_reviews (state_of c.self.inside.name c.self.inside.at c.self.inside.current c.self.inside.pending) was before after next w is half c.review.new.self mid c.review.ensures.name (c.review.ensures.reads tells).same (c.review.ensures.reads tells).same_opened (c.review.ensures.reads tells).any_moment
     (c.in_ok-review.ensures.made tells (generation_batches w.generation) (to_le_bytes w64 (w.generation + 1)) half.at c.if-not-branch.false)
-    last (c.go_over.ensures.any_moment tells) (c.go_over.ensures.elsewhere tells) (c.go_over.ensures.opened tells) (c.go_over.ensures.unopened tells)
+    last (c.go_over.ensures.removes tells)
     _ c.from_residual-in_err-go_over.result _ p.1 (c.in_err-go_over.ensures.left next is))
 
 pub returns-clause-elsewhere : goal.returns-clause-elsewhere
-returns-clause-elsewhere g c = rw (← c.self.view_is) (λ tells n other. c.go_over.ensures.elsewhere tells n other ∙ ap (λ (f : Files). f n) (c.review.ensures.same tells))
+returns-clause-elsewhere g c = rw (← c.self.view_is) (λ tells n other. (c.go_over.ensures.removes tells).files.elsewhere n other ∙ ap (λ (f : Files). f n) (c.review.ensures.reads tells).same)
 
 pub returns-clause-name : goal.returns-clause-name
 returns-clause-name g c = rw (← c.self.view_is) c.go_over.ensures.name
 
 pub returns-in_err-go_over-clause-elsewhere : goal.returns-in_err-go_over-clause-elsewhere
-returns-in_err-go_over-clause-elsewhere g c = rw (← c.self.view_is) (λ tells n other. c.go_over.ensures.elsewhere tells n other ∙ ap (λ (f : Files). f n) (c.review.ensures.same tells))
+returns-in_err-go_over-clause-elsewhere g c = rw (← c.self.view_is) (λ tells n other. (c.go_over.ensures.removes tells).files.elsewhere n other ∙ ap (λ (f : Files). f n) (c.review.ensures.reads tells).same)
 
 pub returns-in_err-go_over-clause-name : goal.returns-in_err-go_over-clause-name
 returns-in_err-go_over-clause-name g c = rw (← c.self.view_is) c.go_over.ensures.name
@@ -139,13 +139,13 @@ pub returns-then-is_sound-clause-any_moment : goal.returns-then-is_sound-clause-
 returns-then-is_sound-clause-any_moment g c = rw (← c.self.view_is) (λ tells. anyhow_none _ (g.D.Disk.past c.args.disk.now))
 
 pub returns-in_err-review-clause-any_moment : goal.returns-in_err-review-clause-any_moment
-returns-in_err-review-clause-any_moment g c = rw (← c.self.view_is) (λ tells. unmoved _ _ _ (c.review.ensures.any_moment tells))
+returns-in_err-review-clause-any_moment g c = rw (← c.self.view_is) (λ tells. unmoved _ _ _ (c.review.ensures.reads tells).any_moment)
 
 pub returns-then-not-branch-clause-any_moment : goal.returns-then-not-branch-clause-any_moment
-returns-then-not-branch-clause-any_moment g c = rw (← c.self.view_is) (λ tells. unmoved _ _ _ (c.review.ensures.any_moment tells))
+returns-then-not-branch-clause-any_moment g c = rw (← c.self.view_is) (λ tells. unmoved _ _ _ (c.review.ensures.reads tells).any_moment)
 
 pub returns-in_err-go_over-clause-any_moment : goal.returns-in_err-go_over-clause-any_moment
-returns-in_err-go_over-clause-any_moment g c = rw (← c.self.view_is) (λ tells. then_loosely _ _ _ _ _ (unmoved _ _ _ (c.review.ensures.any_moment tells)) (c.go_over.ensures.any_moment tells))
+returns-in_err-go_over-clause-any_moment g c = rw (← c.self.view_is) (λ tells. then_loosely _ _ _ _ _ (unmoved _ _ _ (c.review.ensures.reads tells).any_moment) (c.go_over.ensures.removes tells).any_moment)
 
 pub returns-clause-any_moment : goal.returns-clause-any_moment
-returns-clause-any_moment g c = rw (← c.self.view_is) (λ tells. then_loosely _ _ _ _ _ (unmoved _ _ _ (c.review.ensures.any_moment tells)) (c.go_over.ensures.any_moment tells))
+returns-clause-any_moment g c = rw (← c.self.view_is) (λ tells. then_loosely _ _ _ _ _ (unmoved _ _ _ (c.review.ensures.reads tells).any_moment) (c.go_over.ensures.removes tells).any_moment)

@@ -48,19 +48,28 @@ returns-clause-bytes g c = rw (← c.self.view_is) (λ tells b is.
     (subst (λ (l : List ℕ). At c.self.inside.name (Overwritten (c.self.inside.place + 1) l) (g.D.Disk.files c.args.disk.now) (g.D.Disk.files c.write_synced.new.disk)) (c.deref.ensures.value ∙ c.in_ok-frame.ensures) (c.in_ok-write_synced.ensures.written tells))
     (c.in_ok-write_synced-2.ensures.written tells))
 
-pub returns-in_err-frame-clause-no_shorter : goal.returns-in_err-frame-clause-no_shorter
-returns-in_err-frame-clause-no_shorter g c tells = none_grows _ _
+pub returns-in_err-frame-clause-one_file : goal.returns-in_err-frame-clause-one_file
+returns-in_err-frame-clause-one_file g c tells = record { files = λ n other. refl; any_moment = none_grows _ _; opened = refl }
 
-pub returns-in_err-write_synced-clause-no_shorter : goal.returns-in_err-write_synced-clause-no_shorter
-returns-in_err-write_synced-clause-no_shorter g c = rw (← c.self.view_is) (λ tells. write_grows _ _ _ _ _ (c.write_synced.ensures.any_moment tells))
+pub returns-in_err-write_synced-clause-one_file : goal.returns-in_err-write_synced-clause-one_file
+returns-in_err-write_synced-clause-one_file g c =
+    rw (← c.self.view_is) (λ tells. record { files = c.write_synced.ensures.elsewhere tells; any_moment = write_grows _ _ _ _ _ (c.write_synced.ensures.any_moment tells); opened = c.write_synced.ensures.opened tells })
 
-pub returns-in_err-write_synced-2-clause-no_shorter : goal.returns-in_err-write_synced-2-clause-no_shorter
-returns-in_err-write_synced-2-clause-no_shorter g c = rw (← c.self.view_is) (λ tells. writes_grow _ _ _ _ _ _ _ _ (c.write_synced.ensures.any_moment tells) (c.write_synced-2.ensures.any_moment tells))
+pub returns-in_err-write_synced-2-clause-one_file : goal.returns-in_err-write_synced-2-clause-one_file
+returns-in_err-write_synced-2-clause-one_file g c = rw (← c.self.view_is) (λ tells. record {
+  files = λ n other. c.write_synced-2.ensures.elsewhere tells n other ∙ c.write_synced.ensures.elsewhere tells n other;
+  any_moment = writes_grow _ _ _ _ _ _ _ _ (c.write_synced.ensures.any_moment tells) (c.write_synced-2.ensures.any_moment tells);
+  opened = c.write_synced-2.ensures.opened tells ∙ c.write_synced.ensures.opened tells;
+})
 
-pub returns-clause-no_shorter : goal.returns-clause-no_shorter
-returns-clause-no_shorter g c = rw (← c.self.view_is) (λ tells. writes_grow _ _ _ _ _ _ _ _ (c.write_synced.ensures.any_moment tells) (c.write_synced-2.ensures.any_moment tells))
+pub returns-clause-one_file : goal.returns-clause-one_file
+returns-clause-one_file g c = rw (← c.self.view_is) (λ tells. record {
+  files = λ n other. c.write_synced-2.ensures.elsewhere tells n other ∙ c.write_synced.ensures.elsewhere tells n other;
+  any_moment = writes_grow _ _ _ _ _ _ _ _ (c.write_synced.ensures.any_moment tells) (c.write_synced-2.ensures.any_moment tells);
+  opened = c.write_synced-2.ensures.opened tells ∙ c.write_synced.ensures.opened tells;
+})
 
 pub returns-clause-placed : goal.returns-clause-placed
 returns-clause-placed g c =
     let pending : c.len.result ≡ 5 + length c.args.batch.now = omega (arith, c.len.ensures, ap length c.in_ok-frame.ensures, length-append (framed_bytes c.args.batch.now) (0 ∷ []), length-framed_bytes c.args.batch.now) in
-    rw (← c.self.view_is) (omega (arith, pending))
+    rw (← c.self.view_is) (omega (arith, pending), refl)

@@ -18,7 +18,7 @@ returns-then-size-lt2-clause-any_moment g c tells =
     begun c.args.name.now _ _ _ (c.in_ok-size.ensures.short_left tells small) (c.present.ensures.crash tells) (c.write_synced.ensures.any_moment tells)
 
 pub returns-clause-any_moment : goal.returns-clause-any_moment
-returns-clause-any_moment g c tells = walked c.args.name.now _ _ _ (c.present.ensures.crash tells) (c.walk.ensures.crash tells)
+returns-clause-any_moment g c tells = walked c.args.name.now _ _ _ (c.present.ensures.crash tells) (c.walk.ensures.reads tells).any_moment
 
 pub returns-then-size-lt2-clause-made : goal.returns-then-size-lt2-clause-made
 returns-then-size-lt2-clause-made g c tells short =
@@ -47,7 +47,7 @@ returns-clause-took g c =
       λ tells.
           let name = c.args.name.now in
           let long = c.in_ok-size.ensures.long tells c.if-size-lt2.false in
-          let same = ap (λ (f : Name → ℕ). f name) (c.walk.ensures.opened tells) in
+          let same = ap (λ (f : Name → ℕ). f name) (c.walk.ensures.reads tells).same_opened in
           let unopened : g.D.Disk.opened c.walk.new.disk name ≡ 0 = omega (arith, same, c.present.ensures.no_more tells, c.requires.unopened tells) in
           let file = c.in_ok-size.ensures.file tells in
           let seen = ap (λ (f : Files). f name) (sym long.0) ∙ file.file in
@@ -55,7 +55,7 @@ returns-clause-took g c =
           let P : Content → Type 0 = λ content. HasBatches content took.0 in (
             subst P (sym seen) (inr loaded.0),
             loaded_settled c.closed_at-2.result name (g.D.Disk.files c.args.disk.now) (g.D.Disk.files c.present.new.disk) (g.D.Disk.past c.present.new.disk) (shown_by g.D.Disk c.walk.new.disk)
-                file.bytes took.0 (ap (λ (j : PlainState). j.name) c.closed_at-2.ensures ∙ c.in_ok-own.ensures) seen long.0 (c.walk.ensures.same tells) long.1 (c.walk.ensures.crash tells)
+                file.bytes took.0 (ap (λ (j : PlainState). j.name) c.closed_at-2.ensures ∙ c.in_ok-own.ensures) seen long.0 (c.walk.ensures.reads tells).same long.1 (c.walk.ensures.reads tells).any_moment
                 loaded.0 (ap (λ (j : PlainState). j.place) c.closed_at-2.ensures ∙ loaded.1) unopened,
           ),
     )

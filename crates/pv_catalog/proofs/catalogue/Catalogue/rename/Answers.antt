@@ -1,16 +1,16 @@
-use Rattle.std.proofs.Common.{◌≡◌, ℕ, List, Result, refl, Ok, Err, OnOk, IsErrOf, sym, ◌∙◌, ap, subst}
+use Rattle.std.proofs.Common.{◌≡◌, ℕ, List, Result, refl, Ok, Err, OnOk, sym, ◌∙◌, ap, subst}
 use Rattle.std.proofs.lemmas.Result.{err_from_is_err_and}
 use Rattle.disk_model.specs.declared.disk.DiskErr.TheVariants.{Fault, Memory}
 use Rattle.gate_journal.specs.Kept.{IsKept}
 use Rattle.gate_journal.specs.DiskShown.{shown_by}
 use Rattle.pv_catalog.specs.declared.error.RenameErr.{RenameErr}
 use Rattle.pv_catalog.specs.declared.error.RenameErr.TheVariants.{Disk}
-use Rattle.pv_catalog.specs.Catalogue.{CatalogueState, CommitsRows, RefusesName}
+use Rattle.pv_catalog.specs.Catalogue.{CatalogueState, RefusesName}
 use Rattle.pv_catalog.specs.declared.row.Row.{Row}
 use Rattle.pv_catalog.specs.Table.{TableState}
-use Rattle.gate_journal.proofs.Keeping.{nothing_commits, commits_as}
+use Rattle.gate_journal.proofs.Keeping.{nothing_commits}
 use Rattle.pv_catalog.specs.Rows.{IsCatalogue}
-use Rattle.pv_catalog.proofs.Committing.{nothing_grows}
+use Rattle.pv_catalog.proofs.Committing.{call_commits, nothing_grows}
 use Rattle.pv_catalog.proofs.Refusing.{never_name_fault, name_refusal_of, name_unchanged, same_name_err, no_name_err}
 use Rattle.pv_catalog.proofs.catalogue.Catalogue.rename.Goals as goal
 
@@ -56,27 +56,17 @@ returns-in_err-id-clause-one_file g c = rw (← c.self.view_is) (λ tells. nothi
 
 pub returns-in_err-make-clause-commits : goal.returns-in_err-make-clause-commits
 returns-in_err-make-clause-commits g c =
-    let was = shown_by g.D.Disk c.args.disk.now in
-    let now = shown_by g.D.Disk c.make.new.disk in
-    let Change : List Row → List Row → Type 0 =
-    λ rows next. CommitsRows next (OnOk c.make.result) (IsErrOf c.make.result Fault) (IsErrOf c.make.result Memory) (record { journal = c.self.inside.journal; rows = rows; next = next }) c.make.new.self was now in
-    let Rows : List Row → Type 0 = λ rows. Change rows c.propose_name.new.self.next in
+    let proposed : CatalogueState = record { journal = c.self.inside.journal; rows = c.propose_name.new.self.rows; next = c.propose_name.new.self.next } in
     let p = err_from_is_err_and c.from_residual-in_err-make.result c.from_residual-in_err-make.ensures.1 in
-    let failed = c.in_err-make.was in
     let failed_so : Result ℕ RenameErr = Err p.0 in
     rw (← c.self.view_is, p.1) (λ tells.
-    commits_as IsCatalogue c.self.inside.table.rows _ c.make.new.self.rows c.make.new.self.next c.self.inside.journal c.make.new.self.journal (OnOk c.make.result) (IsErrOf c.make.result Fault) (IsErrOf c.make.result Memory) (OnOk failed_so) (failed_so ≡ Err (Disk Fault)) (failed_so ≡ Err (Disk Memory)) was now
-    (λ P made. tt) (λ fault. cc (failed, p.2, fault)) (λ memory. cc (failed, p.2, memory)) (subst (Change c.self.inside.table.rows) c.in_ok-id.ensures.next (subst Rows c.propose_name.ensures.rows (c.make.ensures.commits tells))))
+    call_commits c.self.inside.table.rows _ proposed c.make.new.self c.make.result (OnOk failed_so) (failed_so ≡ Err (Disk Fault)) (failed_so ≡ Err (Disk Memory)) (shown_by g.D.Disk c.args.disk.now) (shown_by g.D.Disk c.make.new.disk) c.propose_name.ensures.rows c.in_ok-id.ensures.next
+    (λ P made. tt) (λ fault. cc (c.in_err-make.was, p.2, fault)) (λ memory. cc (c.in_err-make.was, p.2, memory)) (c.make.ensures.commits tells))
 
 pub returns-clause-commits : goal.returns-clause-commits
 returns-clause-commits g c =
-    let was = shown_by g.D.Disk c.args.disk.now in
-    let now = shown_by g.D.Disk c.make.new.disk in
-    let Change : List Row → List Row → Type 0 =
-    λ rows next. CommitsRows next (OnOk c.make.result) (IsErrOf c.make.result Fault) (IsErrOf c.make.result Memory) (record { journal = c.self.inside.journal; rows = rows; next = next }) c.make.new.self was now in
-    let Rows : List Row → Type 0 = λ rows. Change rows c.propose_name.new.self.next in
-    let done = c.in_ok-make.was in
+    let proposed : CatalogueState = record { journal = c.self.inside.journal; rows = c.propose_name.new.self.rows; next = c.propose_name.new.self.next } in
     let done_so : Result ℕ RenameErr = Ok c.in_ok-id.id in
     rw (← c.self.view_is) (λ tells.
-    commits_as IsCatalogue c.self.inside.table.rows _ c.make.new.self.rows c.make.new.self.next c.self.inside.journal c.make.new.self.journal (OnOk c.make.result) (IsErrOf c.make.result Fault) (IsErrOf c.make.result Memory) (OnOk done_so) (done_so ≡ Err (Disk Fault)) (done_so ≡ Err (Disk Memory)) was now
-    (λ P made. rw done at made) (λ fault. cc fault) (λ memory. cc memory) (subst (Change c.self.inside.table.rows) c.in_ok-id.ensures.next (subst Rows c.propose_name.ensures.rows (c.make.ensures.commits tells))))
+    call_commits c.self.inside.table.rows _ proposed c.make.new.self c.make.result (OnOk done_so) (done_so ≡ Err (Disk Fault)) (done_so ≡ Err (Disk Memory)) (shown_by g.D.Disk c.args.disk.now) (shown_by g.D.Disk c.make.new.disk) c.propose_name.ensures.rows c.in_ok-id.ensures.next
+    (λ P made. rw c.in_ok-make.was at made) (λ fault. cc fault) (λ memory. cc memory) (c.make.ensures.commits tells))

@@ -7,53 +7,36 @@ use Rattle.store_manifest.specs.declared.entry.Entry.{Entry}
 use Rattle.gate_journal.proofs.Results.{if_ok}
 use Rattle.store_manifest.specs.Batches.{Configured}
 use Rattle.store_manifest.specs.Listing.{entries_of}
-use Rattle.store_manifest.specs.Manifest.{manifest_name}
-use Rattle.store_manifest.proofs.Committing.{load_leaves, load_opened, load_unopened, load_means, load_kept, first_moment, first_reads, nothing_folded, good_folded}
+use Rattle.store_manifest.proofs.Committing.{load_leaves, load_means, load_kept, begun_leaves, nothing_folded, good_folded}
 use Rattle.store_manifest.proofs.Meaning.{configured_folds}
 use Rattle.store_manifest.proofs.Order.{configured_entries}
 use Rattle.store_manifest.proofs.manifest.Manifest.load.Goals as goal
 
 pub returns-in_err-journal-clause-leaves : goal.returns-in_err-journal-clause-leaves
 returns-in_err-journal-clause-leaves g c tells =
-    load_leaves c.args.g _ _ c.in_ok-name.ensures (shown_by g.D.Disk c.args.disk.now) (shown_by g.D.Disk c.load_into.new.disk) (c.load_into.ensures.kept tells) (c.load_into.ensures.any_moment tells) (c.load_into.ensures.opened tells) (c.load_into.ensures.unopened tells)
+    load_leaves c.args.g _ _ c.in_ok-name.ensures (shown_by g.D.Disk c.args.disk.now) (shown_by g.D.Disk c.load_into.new.disk) (c.load_into.ensures.leaves tells)
 
 pub returns-in-Good-clause-leaves : goal.returns-in-Good-clause-leaves
 returns-in-Good-clause-leaves g c tells =
-    load_leaves c.args.g _ _ c.in_ok-name.ensures (shown_by g.D.Disk c.args.disk.now) (shown_by g.D.Disk c.load_into.new.disk) (c.load_into.ensures.kept tells) (c.load_into.ensures.any_moment tells) (c.load_into.ensures.opened tells) (c.load_into.ensures.unopened tells)
+    load_leaves c.args.g _ _ c.in_ok-name.ensures (shown_by g.D.Disk c.args.disk.now) (shown_by g.D.Disk c.load_into.new.disk) (c.load_into.ensures.leaves tells)
 
 pub returns-clause-leaves : goal.returns-clause-leaves
 returns-clause-leaves g c tells =
-    load_leaves c.args.g _ _ c.in_ok-name.ensures (shown_by g.D.Disk c.args.disk.now) (shown_by g.D.Disk c.load_into.new.disk) (c.load_into.ensures.kept tells) (c.load_into.ensures.any_moment tells) (c.load_into.ensures.opened tells) (c.load_into.ensures.unopened tells)
+    load_leaves c.args.g _ _ c.in_ok-name.ensures (shown_by g.D.Disk c.args.disk.now) (shown_by g.D.Disk c.load_into.new.disk) (c.load_into.ensures.leaves tells)
 
 pub returns-in_err-manifest-in-Nothing-clause-leaves : goal.returns-in_err-manifest-in-Nothing-clause-leaves
 returns-in_err-manifest-in-Nothing-clause-leaves g c tells =
     let took = c.in_ok-journal.ensures.took in
-    let none = nothing_folded took.0 _ c.in-Nothing.is took.1 in
-    let load = c.load_into.ensures in
     let made = c.configure.ensures in
-    let mid = shown_by g.D.Disk c.load_into.new.disk in
-    record {
-      reads = first_reads c.args.g _ _ c.in_ok-name.ensures c.in_ok-journal.journal c.in_ok-journal.ensures.journal.0 mid took.0 none (took.2 tells).1 (g.D.Disk.files c.args.disk.now) (g.D.Disk.files c.configure.new.disk) (g.D.Disk.past c.configure.new.disk)
-          (load.kept tells) (took.2 tells).0 (made.any_moment tells) (g.met.D.Disk.seen c.configure.new.disk tells) (made.elsewhere tells);
-      any_moment = first_moment c.args.g _ _ c.in_ok-name.ensures c.in_ok-journal.journal c.in_ok-journal.ensures.journal.0 mid took.0 none (took.2 tells).1 _ _ (load.any_moment tells) (made.any_moment tells);
-      opened = load_opened (manifest_name c.args.store) c.in_ok-name.name c.in_ok-name.ensures (g.D.Disk.opened c.args.disk.now) (g.D.Disk.opened c.load_into.new.disk) (g.D.Disk.opened c.configure.new.disk) (made.opened tells) (load.opened tells);
-      unopened = load_unopened (manifest_name c.args.store) c.in_ok-name.name c.in_ok-name.ensures (g.D.Disk.opened c.load_into.new.disk) (g.D.Disk.opened c.configure.new.disk) (made.opened tells) (load.unopened tells);
-    }
+    begun_leaves c.args.g _ _ c.in_ok-name.ensures c.in_ok-journal.journal c.in_ok-journal.ensures.journal.0 (shown_by g.D.Disk c.load_into.new.disk) took.0 (nothing_folded took.0 _ c.in-Nothing.is took.1) (took.2 tells).1
+    (shown_by g.D.Disk c.args.disk.now) (shown_by g.D.Disk c.configure.new.disk) (c.load_into.ensures.leaves tells) (took.2 tells).0 (made.any_moment tells) (g.met.D.Disk.seen c.configure.new.disk tells) (made.elsewhere tells) (made.opened tells)
 
 pub returns-in-Nothing-clause-leaves : goal.returns-in-Nothing-clause-leaves
 returns-in-Nothing-clause-leaves g c tells =
     let took = c.in_ok-journal.ensures.took in
-    let none = nothing_folded took.0 _ c.in-Nothing.is took.1 in
-    let load = c.load_into.ensures in
     let made = c.configure.ensures in
-    let mid = shown_by g.D.Disk c.load_into.new.disk in
-    record {
-      reads = first_reads c.args.g _ _ c.in_ok-name.ensures c.in_ok-journal.journal c.in_ok-journal.ensures.journal.0 mid took.0 none (took.2 tells).1 (g.D.Disk.files c.args.disk.now) (g.D.Disk.files c.configure.new.disk) (g.D.Disk.past c.configure.new.disk)
-          (load.kept tells) (took.2 tells).0 (made.any_moment tells) (g.met.D.Disk.seen c.configure.new.disk tells) (made.elsewhere tells);
-      any_moment = first_moment c.args.g _ _ c.in_ok-name.ensures c.in_ok-journal.journal c.in_ok-journal.ensures.journal.0 mid took.0 none (took.2 tells).1 _ _ (load.any_moment tells) (made.any_moment tells);
-      opened = load_opened (manifest_name c.args.store) c.in_ok-name.name c.in_ok-name.ensures (g.D.Disk.opened c.args.disk.now) (g.D.Disk.opened c.load_into.new.disk) (g.D.Disk.opened c.configure.new.disk) (made.opened tells) (load.opened tells);
-      unopened = load_unopened (manifest_name c.args.store) c.in_ok-name.name c.in_ok-name.ensures (g.D.Disk.opened c.load_into.new.disk) (g.D.Disk.opened c.configure.new.disk) (made.opened tells) (load.unopened tells);
-    }
+    begun_leaves c.args.g _ _ c.in_ok-name.ensures c.in_ok-journal.journal c.in_ok-journal.ensures.journal.0 (shown_by g.D.Disk c.load_into.new.disk) took.0 (nothing_folded took.0 _ c.in-Nothing.is took.1) (took.2 tells).1
+    (shown_by g.D.Disk c.args.disk.now) (shown_by g.D.Disk c.configure.new.disk) (c.load_into.ensures.leaves tells) (took.2 tells).0 (made.any_moment tells) (g.met.D.Disk.seen c.configure.new.disk tells) (made.elsewhere tells) (made.opened tells)
 
 pub returns-in-Good-clause-loaded : goal.returns-in-Good-clause-loaded
 returns-in-Good-clause-loaded g c =
