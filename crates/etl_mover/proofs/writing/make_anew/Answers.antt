@@ -5,11 +5,13 @@ use Rattle.etl_mover.proofs.writing.make_anew.Goals as goal
 
 pub returns-in_err-extend-clause-leaves : goal.returns-in_err-extend-clause-leaves
 returns-in_err-extend-clause-leaves g c tells =
-    made_leaves c.args.name.now _ _ (c.extend.ensures.kept tells) (c.extend.ensures.any_moment tells) (c.extend.ensures.no_more tells) (c.extend.ensures.others tells)
+    let fronts = c.extend.ensures.fronts tells in
+    made_leaves c.args.name.now _ _ fronts.kept fronts.any_moment fronts.no_more fronts.others
 
 pub returns-clause-leaves : goal.returns-clause-leaves
 returns-clause-leaves g c tells =
-    made_leaves c.args.name.now _ _ (c.extend.ensures.kept tells) (c.extend.ensures.any_moment tells) (c.extend.ensures.no_more tells) (c.extend.ensures.others tells)
+    let fronts = c.extend.ensures.fronts tells in
+    made_leaves c.args.name.now _ _ fronts.kept fronts.any_moment fronts.no_more fronts.others
 
 pub returns-clause-makes : goal.returns-clause-makes
 returns-clause-makes g c tells =
