@@ -41,8 +41,6 @@ use Rattle.pb_lines.specs.File.{IsFile}
 use Rattle.pb_lines.proofs.FileMeaning.{one_file}
 use Rattle.pv_catalog.proofs.Meaning.{one_meaning}
 use Rattle.store_manifest.proofs.Meaning.{one_fold}
-use Rattle.disk_model.specs.declared.disk.DiskErr.{DiskErr}
-use Rattle.disk_model.specs.declared.disk.DiskErr.TheVariants.{Fault, Memory}
 use Rattle.durable_write.specs.declared.file_write.FileWrite.{FileWrite}
 pub use Rattle.disk_model.proofs.Each.{same_then}
 pub use Rattle.durable_write.specs.Revival.{having}
@@ -548,12 +546,20 @@ rose_after before mid now later rose = grind arith
 
 -- The file of a listed entry.
 
+-- the elements of a list, and what becomes of them
+pub map_in : {A B : Type 0} (g : A → B) (xs : List A) (x : A) → Contains xs x → Contains (map g xs) (g x)
+map_in {A} {B} g [] x (k, lt, is) = absurd (omega (arith, lt))
+map_in {A} {B} g (y ∷ ys) x (zero, lt, is) = (zero, omega arith, ap g is)
+map_in {A} {B} g (y ∷ ys) x (suc k, lt, is) = let rest = map_in g ys x (k, omega (arith, lt), is) in (suc rest.0, omega (arith, rest.1), rest.2)
+
+pub map_out : {A B : Type 0} (g : A → B) (xs : List A) (r : B) → Contains (map g xs) r → (x : A) × Contains xs x × (g x ≡ r)
+map_out {A} {B} g [] r (k, lt, is) = absurd (omega (arith, lt))
+map_out {A} {B} g (y ∷ ys) r (zero, lt, is) = (y, (zero, omega arith, refl), is)
+map_out {A} {B} g (y ∷ ys) r (suc k, lt, is) = let rest = map_out g ys r (k, omega (arith, lt), is) in (rest.0, (suc rest.1.0, omega (arith, rest.1.1), rest.1.2), rest.2)
+
 -- the file that has a listed entry
 pub contains_map : (xs : List Filed) (y : Entry) → Contains (map entry_of xs) y → (x : Filed) × Contains xs x × (x.entry ≡ y)
-contains_map [] y (k, lt, is) = absurd (omega (arith, lt))
-contains_map (x ∷ xs) y (zero, lt, is) = (x, (zero, omega arith, refl), is)
-contains_map (x ∷ xs) y (suc k, lt, is) =
-    let rest = contains_map xs y (k, omega (arith, lt), is) in (rest.0, (suc rest.1.0, omega (arith, rest.1.1), rest.1.2), rest.2)
+contains_map xs y there = map_out entry_of xs y there
 
 -- Lists of which one place changes, and the names of manifests.
 
@@ -634,10 +640,6 @@ one_thing g h image a b stands stands_too store left right =
     λ i. record { store = store i; rows = rows i; files = files i; stands = stand i }
 
 -- A flush from its start to its end: the writes are written, and then listed.
-
-pub err_cases : (e : DiskErr) → (e ≡ Fault) ⊎ (e ≡ Memory)
-err_cases Fault = inl refl
-err_cases Memory = inr refl
 
 members_long : (e : Entry) → length (members_of e) ≡ 48
 unfolding members_of

@@ -4,7 +4,7 @@ ghost use Rattle.std.specs.Prelude.{◌≡◌, ◌≢◌, ◌≤◌, ◌<◌, �
 ghost use Rattle.std.specs.Prelude.{IsTrue, Some};
 ghost use Rattle.disk_model.specs.Files.{Name, Rose, At, HasFile};
 ghost use Rattle.disk_model.specs.Past.{Passes};
-ghost use Rattle.gate_journal.specs.DiskShown.{shown_by};
+ghost use Rattle.gate_journal.specs.DiskShown.{ReadsDisk, shown_by};
 ghost use Rattle.store_files.specs.Fronts.{Keeps};
 ghost use Rattle.partition_names.specs.declared.granularity.Granularity.{Granularity};
 ghost use Rattle.durable_write.specs.Held.{Filed, Held, file_of};
@@ -171,9 +171,7 @@ fn sync_files<D: Disk>(
     requires { All (λ p. p.entry.series < length rows.now) writes.now }
     ensures durable { IsTrue D.tells
         → OnOk result (All (IsSynced (store, rows.now) (D.files disk.old) (D.past disk.new)) writes.now) }
-    ensures same { IsTrue D.tells → D.files disk.new ≡ D.files disk.old }
-    ensures any_moment { IsTrue D.tells → Passes (λ a b. b ≡ a) (D.past disk.old) (D.past disk.new) }
-    ensures opened { IsTrue D.tells → D.opened disk.new ≡ D.opened disk.old }
+    ensures reads { IsTrue D.tells → ReadsDisk (shown_by D.Disk disk.old) (shown_by D.Disk disk.new) }
     ensures faults { D.faults disk.old ≤ D.faults disk.new }
     ensures cause { IsErrOf result DiskErr.Fault → Rose (D.faults disk.old) (D.faults disk.new) }
 {

@@ -104,18 +104,22 @@ fn after(last: Entry, begin: u64, start: Start) -> Option<Start>
     }
 }
 
-// The header that a file's first line is, with its newline. `None` where it is none.
-fn header_of(
+/// The header that a file's first line is, with its newline; `None` where it is none. `work` is scratch space: what it
+/// held is lost. The error is want of memory.
+pub fn header_of(
     alloc: Global,
     head: &[u8],
     work: &mut Vec<u8>,
 ) -> Result<Option<PayloadInfo>, AllocError>
     ensures header { IfOk result (λ o. (line : List ℕ) (info : PayloadInfoValue) → head.now ≡ line ++ 10 ∷ []
         → HasNoNewline line → IsHeaderLine line info → o ≡ Some info) }
+    ensures line { IfOk result (λ o. IfSome o (λ info. (line : List ℕ) × (head.now ≡ line ++ 10 ∷ [])
+        × HasNoNewline line × IsHeaderLine line info)) }
     ensures year { IfOk result (λ o. IfSome o (λ info. IsSampleYear info.year)) }
 {
     let end = line_len(head);
-    if end == head.len() {
+    let whole = end + 1 == head.len();
+    if !whole {
         return Ok(None);
     }
     match header_of_line(alloc, &head[..end], work) {

@@ -10,5 +10,6 @@ mod reading;
 mod stepping;
 mod writing;
 
+pub use copying::header_of;
 pub use moving::{Copied, Move, Stage};
-pub use reading::MOST_BYTES;
+pub use reading::{MOST_BYTES, read};

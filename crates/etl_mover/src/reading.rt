@@ -11,17 +11,20 @@ use std::alloc::Global;
 /// As many bytes as one step of copying appends, but for a line that is longer.
 pub const MOST_BYTES: usize = 1_048_576;
 
-// Reads bytes of a file from a place on.
-pub(crate) fn read<D: Disk>(
+/// Reads bytes of a file from a place on that isn't past its end, at most so many. The disk is only read.
+///
+/// `Fault` comes only where the disk's count of faults rose in the call.
+pub fn read<D: Disk>(
     alloc: Global,
     disk: &mut D,
     name: &FileName,
     at: u64,
     len: usize,
 ) -> Result<Vec<u8>, DiskErr>
-    requires { IsTrue D.tells → HasFile (D.files disk.old) name.now (λ b. at + len ≤ length b) }
+    requires { IsTrue D.tells → HasFile (D.files disk.old) name.now (λ b. at ≤ length b) }
     ensures bytes { IsTrue D.tells → (b : List ℕ) → D.files disk.old name.now ≡ Some b
         → IfOk result (λ v. v.items ≡ take len (drop at b)) }
+    ensures long { IfOk result (λ v. length v.items ≤ len) }
     ensures reads { IsTrue D.tells → ReadsDisk (shown_by D.Disk disk.old) (shown_by D.Disk disk.new) }
     ensures faults { D.faults disk.old ≤ D.faults disk.new }
     ensures cause { IsErrOf result DiskErr.Fault → Rose (D.faults disk.old) (D.faults disk.new) }

@@ -2,7 +2,7 @@
 -- file in limbo in which lines go on, and without it.
 use Rattle.std.proofs.Common.{◌≡◌, inl, inr, Bool, ℕ, ◌+◌, List, length, refl, sym, ◌∙◌, ap, subst, arith, ◌≤◌, ◌++◌, [], Ok, Err, Result, append-nil, ◌≢◌, true, ◌<◌, ◌∷◌, take, drop, Some, None, append_assoc, false, get_or, Option}
 use Rattle.std.specs.Prelude.{IfOk, OnErr, slice_get, Contains, IsTrue, nat_le, IfSome}
-use Rattle.disk_model.specs.Files.{Name, Files, HasFile}
+use Rattle.disk_model.specs.Files.{Name, Files, HasFile, Rose}
 use Rattle.disk_model.specs.declared.disk.DiskErr.{DiskErr}
 use Rattle.disk_model.specs.declared.disk.DiskErr.TheVariants.{Fault, Memory}
 use Rattle.etl_mover.specs.Move.{Moving, part_file}
@@ -96,9 +96,8 @@ looks_then {A} {B} {E} {F} tells old mid new first end one two = record {
   };
 }
 
--- whatever it answers otherwise than with a failure
-pub looks_ends : {A B E F : Type 0} (tells : Bool) (old new : SeenAll) (first : End A E) (end : End B F) → (IsFailed end → ⊥) → OnlyLooks tells old new first → OnlyLooks tells old new end
-looks_ends {A} {B} {E} {F} tells old new first end not_failed looks = record {
+looks_with : {A B E F : Type 0} (tells : Bool) (old new : SeenAll) (first : End A E) (end : End B F) → (IsFailed end → Rose old.stores.faults new.stores.faults) → OnlyLooks tells old new first → OnlyLooks tells old new end
+looks_with {A} {B} {E} {F} tells old new first end cause looks = record {
   kept = looks.kept;
   catalogue = looks.catalogue;
   manifests = looks.manifests;
@@ -106,30 +105,16 @@ looks_ends {A} {B} {E} {F} tells old new first end not_failed looks = record {
   shown = looks.shown;
   leaves = looks.leaves;
   opened = looks.opened;
-  reads = record { files = looks.reads.files; any_moment = looks.reads.any_moment; faults = looks.reads.faults; cause = λ failed. absurd (not_failed failed) };
+  reads = record { files = looks.reads.files; any_moment = looks.reads.any_moment; faults = looks.reads.faults; cause = cause };
 }
 
+-- whatever it answers otherwise than with a failure
+pub looks_ends : {A B E F : Type 0} (tells : Bool) (old new : SeenAll) (first : End A E) (end : End B F) → (IsFailed end → ⊥) → OnlyLooks tells old new first → OnlyLooks tells old new end
+looks_ends {A} {B} {E} {F} tells old new first end not_failed looks = looks_with tells old new first end (λ failed. absurd (not_failed failed)) looks
+
 pub looks_fails : {A B : Type 0} (tells : Bool) (old new : SeenAll) (e : DiskErr) → OnlyLooks tells old new (end_of_disk {A = A} (Err e)) → OnlyLooks tells old new (end_of_disk {A = B} (Err e))
-looks_fails {A} {B} tells old new Fault looks = record {
-  kept = looks.kept;
-  catalogue = looks.catalogue;
-  manifests = looks.manifests;
-  limbo = looks.limbo;
-  shown = looks.shown;
-  leaves = looks.leaves;
-  opened = looks.opened;
-  reads = record { files = looks.reads.files; any_moment = looks.reads.any_moment; faults = looks.reads.faults; cause = looks.reads.cause };
-}
-looks_fails {A} {B} tells old new Memory looks = record {
-  kept = looks.kept;
-  catalogue = looks.catalogue;
-  manifests = looks.manifests;
-  limbo = looks.limbo;
-  shown = looks.shown;
-  leaves = looks.leaves;
-  opened = looks.opened;
-  reads = record { files = looks.reads.files; any_moment = looks.reads.any_moment; faults = looks.reads.faults; cause = λ failed. absurd failed };
-}
+looks_fails {A} {B} tells old new Fault looks = looks_with tells old new (end_of_disk {A = A} (Err Fault)) (end_of_disk {A = B} (Err Fault)) looks.reads.cause looks
+looks_fails {A} {B} tells old new Memory looks = looks_with tells old new (end_of_disk {A = A} (Err Memory)) (end_of_disk {A = B} (Err Memory)) (λ failed. absurd failed) looks
 
 -- WHAT RUNS BESIDE
 

@@ -27,7 +27,7 @@ use Rattle.store_manifest.specs.declared.entry.Entry.{Entry}
 use Rattle.durable_write.specs.Ends.{End, Done, Refused, Failed, Spent, IsFailed, end_of_error}
 use Rattle.durable_write.specs.Held.{Filed, Held, AreIn, bytes_of, entry_of, file_of, shelf_of, IsListed, filed_at}
 use Rattle.durable_write.specs.Stored.{Holds, AreLong, CatalogueStored, TierStored}
-use Rattle.durable_write.proofs.Staying.{Untouched, catalogue_stays, tier_stays, safe_stays, same_place, contains_map, same_cases}
+use Rattle.durable_write.proofs.Staying.{Untouched, catalogue_stays, tier_stays, safe_stays, same_place, contains_map, map_in, map_out, same_cases}
 use Rattle.tier_store.specs.Stores.{Stores, list_at, tier}
 use Rattle.tier_store.specs.Seen.{Seen, granularities, seen, seen_on, on_disk}
 use Rattle.tier_store.specs.declared.store.TierStore.{TierStore}
@@ -430,16 +430,6 @@ entries_rows tells at held i m row n has here =
 -- WHAT COMES OF THE STORES
 
 -- LISTS
-
-map_in : (g : Entry → Retired) (xs : List Entry) (x : Entry) → Contains xs x → Contains (map g xs) (g x)
-map_in g [] x (k, lt, is) = absurd (omega (arith, lt))
-map_in g (y ∷ ys) x (zero, lt, is) = (zero, omega arith, ap g is)
-map_in g (y ∷ ys) x (suc k, lt, is) = let rest = map_in g ys x (k, omega (arith, lt), is) in (suc rest.0, omega (arith, rest.1), rest.2)
-
-map_out : (g : Entry → Retired) (xs : List Entry) (r : Retired) → Contains (map g xs) r → (x : Entry) × Contains xs x × (g x ≡ r)
-map_out g [] r (k, lt, is) = absurd (omega (arith, lt))
-map_out g (y ∷ ys) r (zero, lt, is) = (y, (zero, omega arith, refl), is)
-map_out g (y ∷ ys) r (suc k, lt, is) = let rest = map_out g ys r (k, omega (arith, lt), is) in (rest.0, (suc rest.1.0, omega (arith, rest.1.1), rest.1.2), rest.2)
 
 map_filed : (rows : List Row) (i : ℕ) (fs : List Filed) → map (retired_of (i + 1, rows)) (map entry_of fs) ≡ map (λ (f : Filed). retired_of (i + 1, rows) f.entry) fs
 map_filed rows i [] = refl

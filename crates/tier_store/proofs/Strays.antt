@@ -31,7 +31,7 @@ use Rattle.durable_write.specs.Flush.{MakesFiles, PlacesRise, put_all}
 use Rattle.durable_write.specs.Held.{Filed, Held, entry_of, file_of, name_of}
 use Rattle.durable_write.specs.declared.file_write.FileWrite.{FileWrite}
 use Rattle.durable_write.proofs.Written.{contains_entry, put_all_new, nth_grows}
-use Rattle.durable_write.proofs.Staying.{contains_map, same_cases}
+use Rattle.durable_write.proofs.Staying.{contains_map, map_in, map_out, same_cases}
 use Rattle.tier_store.specs.Change.{StoreCall, Has, EndsFrom}
 use Rattle.tier_store.specs.Limbo.{IsListedName, IsNeeded, IsSwept, IsUnneeded, AreFree, AreGone, LeavesKept}
 use Rattle.tier_store.specs.Moving.{LeavesNames, RunsBeside, publishing}
@@ -287,16 +287,6 @@ retired_strays tells old new pins i row published removed held low seen_it has f
 
 -- THE PUBLICATION
 
-in_map : (f : Entry → Name) (es : List Entry) (e : Entry) → Contains es e → Contains (map f es) (f e)
-in_map f [] e (k, lt, is) = absurd (omega (arith, lt))
-in_map f (x ∷ es) e (zero, lt, is) = (zero, omega arith, ap f is)
-in_map f (x ∷ es) e (suc k, lt, is) = let rest = in_map f es e (k, omega (arith, lt), is) in (suc rest.0, omega (arith, rest.1), rest.2)
-
-of_map : (f : Entry → Name) (es : List Entry) (n : Name) → Contains (map f es) n → (e : Entry) × Contains es e × (f e ≡ n)
-of_map f [] n (k, lt, is) = absurd (omega (arith, lt))
-of_map f (x ∷ es) n (zero, lt, is) = (x, (zero, omega arith, refl), is)
-of_map f (x ∷ es) n (suc k, lt, is) = let rest = of_map f es n (k, omega (arith, lt), is) in (rest.0, (suc rest.1.0, omega (arith, rest.1.1), rest.1.2), rest.2)
-
 -- a file that the move is to list is one of its row in the store to which it moves
 pub target_name : (tells : Bool) (all : SeenAll) (i : ℕ) (move : Moving) (files : List Filed) (held : Stores) → RunsBeside i tells all move files held → IsTrue tells → (e : Entry) → e.series ≡ move.series → file_of (i + 1, held.rows) e ≡ part_file move.destination move.name e
 target_name tells all i move files held runs told e own =
@@ -311,7 +301,7 @@ published_strays tells old new i move files held (Ok a) low limbo has runs on sa
   where
     listed : IsTrue tells → (n : Name) → Contains (targets move) n → IsListedName new.stores n
     listed told n t =
-        let e = of_map (part_file move.destination move.name) move.pending n t in
+        let e = map_out (part_file move.destination move.name) move.pending n t in
         let own = All-contains (λ (x : Entry). IsPart move.granularity x.part × (x.series ≡ move.series)) move.pending e.0 runs.running.pending e.1 in
         let f = contains_map files e.0 (subst (λ (es : List Entry). Contains es e.0) runs.pending e.1) in
         let named : file_of (i + 1, held.rows) f.0.entry ≡ n = ap (λ (x : Entry). file_of (i + 1, held.rows) x) f.2 ∙ (target_name tells old i move files held runs told e.0 own.1 ∙ e.2) in
@@ -368,7 +358,7 @@ module _ (fine : Granularity) (move new : Moving) (revived : Option Entry) (part
   -- an entry that is to be listed still
   goes_on : (e x : Entry) (n : Name) → part_file move.destination move.name e ≡ n → x.part.name ≡ e.part.name → Contains new.pending x → Contains (targets new) n
   goes_on e x n is same within =
-      subst (Contains (targets new)) (named x ∙ (ap (λ (t : List ℕ). (move.destination, path_of move.name t)) same ∙ is)) (in_map (part_file new.destination new.name) new.pending x within)
+      subst (Contains (targets new)) (named x ∙ (ap (λ (t : List ℕ). (move.destination, path_of move.name t)) same ∙ is)) (map_in (part_file new.destination new.name) new.pending x within)
 
   last_of_all : (rest : List Entry) (e : Entry) → Contains (rest ++ e ∷ []) e
   last_of_all rest e = Contains-append_right rest (e ∷ []) e (zero, omega arith, refl)
@@ -385,7 +375,7 @@ module _ (fine : Granularity) (move new : Moving) (revived : Option Entry) (part
   set_still entry sets n t = go sets
     where
       e : (x : Entry) × Contains move.pending x × (part_file move.destination move.name x ≡ n)
-      e = of_map (part_file move.destination move.name) move.pending n t
+      e = map_out (part_file move.destination move.name) move.pending n t
 
       go : SetsLast entry move.pending new.pending → Contains (targets new) n
       go (inr stands) = goes_on e.0 e.0 n e.2 refl (subst (λ (es : List Entry). Contains es e.0) (sym stands.becomes) (Contains-append_left move.pending (entry ∷ []) e.0 e.1))

@@ -1,21 +1,19 @@
 // How many samples of a listed file are later than a moment: its lines are read in pieces, one after another.
-ghost use Rattle.std.specs.Prelude.{◌≡◌, ◌≤◌, ◌<◌, ◌+◌, ◌∷◌, ◌++◌, [], ℕ, List, Some, length, take, drop, IfOk, IfSome};
+ghost use Rattle.std.specs.Prelude.{◌≡◌, ◌≤◌, ◌<◌, ◌+◌, ℕ, List, Some, length, take, IfOk};
 ghost use Rattle.std.specs.Prelude.{IsErrOf, IsTrue};
-ghost use Rattle.arch_time.specs.YearTime.{IsSampleYear};
 ghost use Rattle.disk_model.specs.Files.{HasFile, Rose};
-ghost use Rattle.line_escape.specs.Unescaping.{HasNoNewline};
 ghost use Rattle.pb_messages.specs.declared.info.PayloadInfo.{PayloadInfo as PayloadInfoValue};
 ghost use Rattle.pb_lines.specs.File.{IsFile};
-ghost use Rattle.pb_lines.specs.Header.{IsHeaderLine};
 ghost use Rattle.series_model.specs.Series.{since};
 ghost use Rattle.series_model.specs.declared.sample.Sample.{Sample};
 ghost use Rattle.tier_store.specs.Counting.{CountsLines, HasLines, OnlyReadsDisk};
 
 use arch_time::YearStart;
 use disk_model::{Disk, DiskErr, FileName};
+use etl_mover::{header_of, read};
 use line_escape::line_len;
-use pb_lines::{HeadErr, LineErr, header_of_line, moment_of_line};
-use pb_messages::{PayloadInfo, PayloadType};
+use pb_lines::{LineErr, moment_of_line};
+use pb_messages::PayloadType;
 use std::alloc::{AllocError, Global};
 use store_manifest::Entry;
 
@@ -27,52 +25,6 @@ pub(crate) const PIECE: u64 = 65_536;
 struct Counted {
     len: usize,
     count: u64,
-}
-
-// Reads bytes of a file from a place on, at most so many.
-pub(crate) fn read<D: Disk>(
-    alloc: Global,
-    disk: &mut D,
-    name: &FileName,
-    at: u64,
-    len: usize,
-) -> Result<Vec<u8>, DiskErr>
-    requires { IsTrue D.tells → HasFile (D.files disk.old) name.now (λ b. at ≤ length b) }
-    ensures bytes { IsTrue D.tells → (b : List ℕ) → D.files disk.old name.now ≡ Some b
-        → IfOk result (λ v. v.items ≡ take len (drop at b)) }
-    ensures long { IfOk result (λ v. length v.items ≤ len) }
-    ensures reads { OnlyReadsDisk D.Disk disk.old disk.new }
-    ensures faults { D.faults disk.old ≤ D.faults disk.new }
-    ensures cause { IsErrOf result DiskErr.Fault → Rose (D.faults disk.old) (D.faults disk.new) }
-{
-    let mut bytes = vec![in alloc; 0u8; len]?;
-    let count = disk.read(name, at, &mut bytes)?;
-    bytes.truncate(count);
-    Ok(bytes)
-}
-
-// The header that a file's first line is, with its newline. `None` where it is none.
-pub(crate) fn header_of(
-    alloc: Global,
-    head: &[u8],
-    work: &mut Vec<u8>,
-) -> Result<Option<PayloadInfo>, AllocError>
-    ensures header { IfOk result (λ o. (line : List ℕ) (info : PayloadInfoValue) → head.now ≡ line ++ 10 ∷ []
-        → HasNoNewline line → IsHeaderLine line info → o ≡ Some info) }
-    ensures line { IfOk result (λ o. IfSome o (λ info. (line : List ℕ) × (head.now ≡ line ++ 10 ∷ [])
-        × HasNoNewline line × IsHeaderLine line info)) }
-    ensures year { IfOk result (λ o. IfSome o (λ info. IsSampleYear info.year)) }
-{
-    let end = line_len(head);
-    let whole = end + 1 == head.len();
-    if !whole {
-        return Ok(None);
-    }
-    match header_of_line(alloc, &head[..end], work) {
-        Ok(info) => Ok(Some(info)),
-        Err(HeadErr::Memory) => Err(AllocError),
-        Err(HeadErr::Fault(_)) => Ok(None),
-    }
 }
 
 // Counts the samples later than a moment in the lines at the front of the bytes, up to the first that is no

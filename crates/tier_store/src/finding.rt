@@ -15,10 +15,11 @@ ghost use Rattle.tier_store.specs.Seen.{seen};
 ghost use Rattle.tier_store.specs.Stores.{Stores, list_at};
 
 use crate::TierStore;
-use crate::counting::{PIECE, header_of, read};
+use crate::counting::PIECE;
 use arch_time::YearStart;
 use disk_model::{Disk, DiskErr, FileName};
 use durable_write::file_name;
+use etl_mover::{header_of, read};
 use line_escape::line_len;
 use pb_lines::{LineErr, moment_of_line};
 use pb_messages::PayloadType;

@@ -204,9 +204,7 @@ fn sync_unneeded<D: Disk>(
 ) -> Result<(), DiskErr>
     ensures durable { IsTrue D.tells
         → OnOk result (AreFree pinned.now copied.now (λ n. Only (D.past disk.new) n (D.files disk.old n)) files.now) }
-    ensures same { IsTrue D.tells → D.files disk.new ≡ D.files disk.old }
-    ensures any_moment { IsTrue D.tells → Passes (λ a b. b ≡ a) (D.past disk.old) (D.past disk.new) }
-    ensures opened { IsTrue D.tells → D.opened disk.new ≡ D.opened disk.old }
+    ensures reads { OnlyReadsDisk D.Disk disk.old disk.new }
     ensures faults { D.faults disk.old ≤ D.faults disk.new }
     ensures cause { IsErr result → Rose (D.faults disk.old) (D.faults disk.new) }
 {

@@ -19,7 +19,7 @@ returns-clause-removes g c tells =
     let new = c.sync_unneeded-synced.new.disk in
     removes_read c.args.pinned.now c.args.copied.now c.args.files.now (shown_by g.D.Disk first) (shown_by g.D.Disk mid) (shown_by g.D.Disk new)
     (own_removed c.args.pinned.now c.args.copied.now c.args.files.now c.args.removable.now (shown_by g.D.Disk first) (shown_by g.D.Disk mid) (c.requires tells) (c.remove_all-removed.ensures.removes tells))
-    (c.sync_unneeded-synced.ensures.same tells) (c.sync_unneeded-synced.ensures.opened tells) (c.sync_unneeded-synced.ensures.any_moment tells)
+    (c.sync_unneeded-synced.ensures.reads tells).same (c.sync_unneeded-synced.ensures.reads tells).same_opened (c.sync_unneeded-synced.ensures.reads tells).any_moment
 
 pub returns-clause-gone : goal.returns-clause-gone
 returns-clause-gone g c tells =

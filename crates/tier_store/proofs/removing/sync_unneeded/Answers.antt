@@ -1,21 +1,21 @@
-use Rattle.std.proofs.Common.{◌≡◌, ◌+◌, ◌∙◌, List, take, subst, sym, ap, arith}
+use Rattle.std.proofs.Common.{◌≡◌, ◌+◌, List, take, subst, sym, ap, arith}
 use Rattle.std.specs.Prelude.{IsErr, OnOk, Result}
 use Rattle.std.proofs.lemmas.List.{take_all}
 use Rattle.disk_model.specs.Files.{Content, Files, Rose}
 use Rattle.disk_model.specs.Past.{Only}
 use Rattle.disk_model.specs.declared.disk.DiskErr.{DiskErr}
-use Rattle.durable_write.proofs.Staying.{rose_after, same_then}
+use Rattle.gate_journal.specs.DiskShown.{shown_by}
+use Rattle.durable_write.proofs.Staying.{rose_after}
 use Rattle.tier_store.specs.Limbo.{AreFree}
 use Rattle.tier_store.specs.declared.limbo.Retired.{Retired}
+use Rattle.tier_store.proofs.Lines.{then_reads}
 use Rattle.tier_store.proofs.Removals.{both_err, on_ok, both_done, rose_until, free_needed, free_more, only_read}
 use Rattle.tier_store.proofs.removing.sync_unneeded.Goals as goal
 
 pub loop-file-preserved-then-is_needed : goal.loop-file-preserved-then-is_needed
 loop-file-preserved-then-is_needed g c = record {
   durable = λ tells. on_ok c.loop-file.done _ _ (free_needed c.args.pinned.now c.args.copied.now (λ n. Only (g.D.Disk.past c.loop-file.disk) n (g.D.Disk.files c.args.disk.now n)) c.args.files.now c.loop-file.file-index c.file-item.result c.loop-file-test.true c.file-item.is (c.is_needed.ensures.0 c.if-is_needed.true)) (c.loop-file.invariant.durable tells);
-  same = c.loop-file.invariant.same;
-  crash = c.loop-file.invariant.crash;
-  opened = c.loop-file.invariant.opened;
+  reads = c.loop-file.invariant.reads;
   faults = c.loop-file.invariant.faults;
   cause = c.loop-file.invariant.cause;
 }
@@ -36,11 +36,10 @@ loop-file-preserved g c =
           (λ durable rest.
           free_more c.args.pinned.now c.args.copied.now (λ n. Only (g.D.Disk.past mid) n (first n)) (λ n. Only (g.D.Disk.past new) n (first n)) c.args.files.now c.loop-file.file-index r c.loop-file-test.true c.file-item.is
           (only_read first (g.D.Disk.past mid) (g.D.Disk.past new) (says.crash tells))
-          (subst (λ (content : Content). Only (g.D.Disk.past new) r.name content) (ap (λ (f : Files). f r.name) (so_far.same tells)) durable) rest) (says.durable tells) (so_far.durable tells) in
+          (subst (λ (content : Content). Only (g.D.Disk.past new) r.name content) (ap (λ (f : Files). f r.name) (so_far.reads tells).same) durable) rest) (says.durable tells) (so_far.durable tells) in
           subst (λ (x : Result (Unit {0}) DiskErr). OnOk x (AreFree c.args.pinned.now c.args.copied.now (λ n. Only (g.D.Disk.past new) n (first n)) (take (c.loop-file.file-index + 1) c.args.files.now))) (sym c.and-done.ensures) both;
-      same = λ tells. says.same tells ∙ so_far.same tells;
-      crash = λ tells. same_then (g.D.Disk.past c.args.disk.now) (g.D.Disk.past mid) (g.D.Disk.past new) (so_far.crash tells) (says.crash tells);
-      opened = λ tells. says.opened tells ∙ so_far.opened tells;
+      reads = λ tells.
+          then_reads (shown_by g.D.Disk c.args.disk.now) (shown_by g.D.Disk mid) (shown_by g.D.Disk new) (so_far.reads tells) (record { same = says.same tells; same_opened = says.opened tells; any_moment = says.crash tells });
       faults = omega (arith, says.faults, so_far.faults);
       cause = λ is.
           both_err synced done (Rose (g.D.Disk.faults c.args.disk.now) (g.D.Disk.faults new)) (λ failed. rose_after (g.D.Disk.faults c.args.disk.now) (g.D.Disk.faults mid) (g.D.Disk.faults new) so_far.faults (says.cause failed))
