@@ -1,5 +1,5 @@
 -- The numbers of an adoption, by what its turns take, and how many files one may take.
-use Rattle.std.proofs.Common.{◌≡◌, ◌<◌, ◌≤◌, ◌+◌, ◌∷◌, ◌++◌, [], ℕ, List, length, sym, ◌∙◌, ap, subst, arith, true, false, zero, suc, Some, refl, map, ◌≢◌, Bool, ◌-◌, get_or, append_assoc, Option, inl, inr, cond, ◌^◌, filter, ◌||◌, eqb, max, ◌*◌, ◌/◌}
+use Rattle.std.proofs.Common.{◌≡◌, ◌<◌, ◌≤◌, ◌+◌, ◌∷◌, ◌++◌, [], ℕ, List, length, sym, ◌∙◌, ap, subst, arith, true, false, zero, suc, Some, refl, map, ◌≢◌, Bool, ◌-◌, get_or, Option, inl, inr, cond, ◌^◌, filter, ◌||◌, eqb, max, ◌*◌, ◌/◌}
 use Rattle.std.specs.Prelude.{All, slice_get, Vec, IfSome, IsTrue, ◌↔◌, nat_lt}
 use Rattle.disk_model.specs.Files.{Files, Name, Content, name_cmp}
 use Rattle.partition_names.specs.declared.granularity.Granularity.{Granularity}
@@ -30,7 +30,7 @@ use Rattle.partition_names.specs.Path.{path_of}
 use Rattle.std.specs.declared.alloc.Global.{Global}
 use Rattle.disk_model.specs.declared.disk.Disk.{Ghosts}
 use Rattle.store_reopen.specs.Runs.{Goes, Rule, Stops}
-use Rattle.store_reopen.proofs.Stages.{steps_none, steps_then, all_made, cut_both, samples_both}
+use Rattle.store_reopen.proofs.Stages.{steps_none, goes_then, goes_stops, all_made, cut_both, samples_both}
 use Rattle.std.specs.Option.{option_map}
 use Rattle.found_files.specs.Candidate.{IsCandidate}
 use Rattle.tier_store.specs.Change.{IsKnown}
@@ -54,23 +54,6 @@ use Rattle.partition_names.proofs.UnitLemmas.{lasts}
 use Rattle.etl_rules.specs.Config.{ConfigState}
 
 -- What rows take of the stores, one turn after another.
-
--- RUNS OF CALLS
-
-module _ {D R : Type 0} (disk : Ghosts D R) (c : CatalogueState) (ms : List ManifestState) (d : D) (c₁ : CatalogueState) (m₁ : List ManifestState) (d₁ : D) (c₂ : CatalogueState) (m₂ : List ManifestState) (d₂ : D) where
-  pub goes_then : (rule mid left : Rule) → Goes disk rule mid c ms d c₁ m₁ d₁ → Goes disk mid left c₁ m₁ d₁ c₂ m₂ d₂ → Goes disk rule left c ms d c₂ m₂ d₂
-  goes_then rule mid left one two = record {
-    steps = one.steps ++ two.steps;
-    makes = steps_then true disk.tells one.steps two.steps (loaded disk c ms d) (loaded disk c₁ m₁ d₁) (loaded disk c₂ m₂ d₂) one.makes two.makes;
-    by = λ whole more rest. subst (rule whole) (sym (append_assoc one.steps two.steps more)) (one.by whole (two.steps ++ more) (two.by whole more rest));
-  }
-
-  pub stops_then : (rule mid : Rule) → Goes disk rule mid c ms d c₁ m₁ d₁ → Stops disk mid c₁ m₁ d₁ c₂ m₂ d₂ → Stops disk rule c ms d c₂ m₂ d₂
-  stops_then rule mid one two = record {
-    steps = one.steps ++ two.steps;
-    makes = steps_then false disk.tells one.steps two.steps (loaded disk c ms d) (loaded disk c₁ m₁ d₁) (loaded disk c₂ m₂ d₂) one.makes two.makes;
-    by = one.by false two.steps two.by;
-  }
 
 -- THE FILES OF A TURN, LATER ON
 
@@ -168,7 +151,7 @@ module _ {D R : Type 0} (disk : Ghosts D R) (image : Files) (held : Stores) (row
           (goes_then disk c ms d c m₁ d₁ c m₂ d₂ (Turns 0 n) (Turns turn (suc left)) (Turns (suc turn) left) so_far (turn_goes disk image held rows xs turn left taken takes c m₁ d₁ m₂ d₂ listed.files (before listed.files listed.listed) listed.makes))
 
       pub turns_stop : ListsTaken disk false c (place_of turn) (row_of turn) taken m₁ d₁ m₂ d₂ → Stops disk (Turns 0 n) c ms d c m₂ d₂
-      turns_stop listed = stops_then disk c ms d c m₁ d₁ c m₂ d₂ (Turns 0 n) (Turns turn (suc left)) so_far (turn_stops disk image held rows xs turn left taken takes c m₁ d₁ m₂ d₂ listed.files (before listed.files listed.listed) listed.makes)
+      turns_stop listed = goes_stops disk c ms d c m₁ d₁ c m₂ d₂ (Turns 0 n) (Turns turn (suc left)) so_far (turn_stops disk image held rows xs turn left taken takes c m₁ d₁ m₂ d₂ listed.files (before listed.files listed.listed) listed.makes)
 
 -- What is known of the files that turns take.
 

@@ -2,8 +2,8 @@
 ghost use Rattle.std.specs.Prelude.{◌≡◌, ◌≢◌, ◌≤◌, ◌<◌, ◌+◌, ℕ, List, All, Contains, true, false, IfErr, IfOk, IfSome};
 ghost use Rattle.std.specs.Prelude.{OnOk, IsErrOf, IsTrue, None, Err, length};
 ghost use Rattle.disk_model.specs.Files.{Name, Files, Rose, HasFile};
-ghost use Rattle.disk_model.specs.Past.{Passes};
 ghost use Rattle.disk_model.specs.declared.disk.DiskErr.TheVariants.{Fault};
+ghost use Rattle.gate_journal.specs.DiskShown.{ReadsDisk, shown_by};
 ghost use Rattle.partition_names.specs.declared.granularity.Granularity.{Granularity};
 ghost use Rattle.store_manifest.specs.declared.entry.Entry.{Entry as EntryValue};
 ghost use Rattle.durable_write.specs.Held.{file_of};
@@ -68,9 +68,7 @@ pub(crate) fn check_files<D: Disk>(
         → AreSaid gs seen rows.now (lists_of manifests.now)
         → ((n : Name) → n.0 ≢ 0 → D.files disk.old n ≡ seen n)
         → IfErr result (IsTold gs seen) }
-    ensures same { IsTrue D.tells → D.files disk.new ≡ D.files disk.old }
-    ensures any_moment { IsTrue D.tells → Passes (λ a b. b ≡ a) (D.past disk.old) (D.past disk.new) }
-    ensures opened { IsTrue D.tells → D.opened disk.new ≡ D.opened disk.old }
+    ensures reads { IsTrue D.tells → ReadsDisk (shown_by D.Disk disk.old) (shown_by D.Disk disk.new) }
     ensures faults { D.faults disk.old ≤ D.faults disk.new }
     ensures cause { result ≡ Err (OfDisk Fault) → Rose (D.faults disk.old) (D.faults disk.new) }
 {
@@ -93,9 +91,7 @@ fn check_store<D: Disk>(
     ensures there { IsTrue D.tells
         → OnOk result (All (IsThere place (D.files disk.old) rows.now) manifest.now.entries) }
     ensures told { IsTrue D.tells → IfErr result (IsToldShort place (D.files disk.old) rows.now manifest.now.entries) }
-    ensures same { IsTrue D.tells → D.files disk.new ≡ D.files disk.old }
-    ensures any_moment { IsTrue D.tells → Passes (λ a b. b ≡ a) (D.past disk.old) (D.past disk.new) }
-    ensures opened { IsTrue D.tells → D.opened disk.new ≡ D.opened disk.old }
+    ensures reads { IsTrue D.tells → ReadsDisk (shown_by D.Disk disk.old) (shown_by D.Disk disk.new) }
     ensures faults { D.faults disk.old ≤ D.faults disk.new }
     ensures cause { result ≡ Err (OfDisk Fault) → Rose (D.faults disk.old) (D.faults disk.new) }
 {
@@ -129,9 +125,7 @@ fn shortfall<D: Disk>(disk: &mut D, name: &FileName, len: u64) -> Result<Option<
     ensures long { IsTrue D.tells
         → IfOk result (λ r. r ≡ None → HasFile (D.files disk.old) name.now (λ b. len ≤ length b)) }
     ensures short { IsTrue D.tells → IfOk result (λ r. IfSome r (λ at. EndsEarly len at (D.files disk.old name.now))) }
-    ensures same { IsTrue D.tells → D.files disk.new ≡ D.files disk.old }
-    ensures any_moment { IsTrue D.tells → Passes (λ a b. b ≡ a) (D.past disk.old) (D.past disk.new) }
-    ensures opened { IsTrue D.tells → D.opened disk.new ≡ D.opened disk.old }
+    ensures reads { IsTrue D.tells → ReadsDisk (shown_by D.Disk disk.old) (shown_by D.Disk disk.new) }
     ensures faults { D.faults disk.old ≤ D.faults disk.new }
     ensures cause { IsErrOf result DiskErr.Fault → Rose (D.faults disk.old) (D.faults disk.new) }
 {

@@ -2,6 +2,7 @@
 ghost use Rattle.std.specs.Prelude.{◌≡◌, ◌≤◌, ◌↔◌, IfOk, IsErrOf, IsSome, IsTrue, OnOk};
 ghost use Rattle.disk_model.specs.Files.{Rose};
 ghost use Rattle.disk_model.specs.Past.{Passes};
+ghost use Rattle.gate_journal.specs.DiskShown.{ReadsDisk, shown_by};
 ghost use Rattle.store_reopen.specs.Marking.{Begins, IsThereForGood, Marks};
 ghost use Rattle.store_reopen.specs.Strays.{IsGone, adoption_name};
 
@@ -12,9 +13,7 @@ use std::alloc::{AllocError, Global};
 // Whether it is there. The disk is only read.
 pub(crate) fn is_unfinished<D: Disk>(alloc: Global, disk: &mut D) -> Result<bool, DiskErr>
     ensures there { IsTrue D.tells → IfOk result (λ b. IsTrue b ↔ IsSome (D.files disk.old adoption_name)) }
-    ensures same { IsTrue D.tells → D.files disk.new ≡ D.files disk.old }
-    ensures any_moment { IsTrue D.tells → Passes (λ a b. b ≡ a) (D.past disk.old) (D.past disk.new) }
-    ensures opened { IsTrue D.tells → D.opened disk.new ≡ D.opened disk.old }
+    ensures reads { IsTrue D.tells → ReadsDisk (shown_by D.Disk disk.old) (shown_by D.Disk disk.new) }
     ensures faults { D.faults disk.old ≤ D.faults disk.new }
     ensures cause { IsErrOf result DiskErr.Fault → Rose (D.faults disk.old) (D.faults disk.new) }
 {

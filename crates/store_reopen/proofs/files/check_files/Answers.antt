@@ -1,8 +1,9 @@
-use Rattle.std.proofs.Common.{◌∙◌, subst, arith}
+use Rattle.std.proofs.Common.{subst, arith}
 use Rattle.std.specs.Prelude.{All}
 use Rattle.std.proofs.lemmas.Result.{err_from_is_err_and}
 use Rattle.disk_model.specs.Files.{Files}
-use Rattle.disk_model.proofs.Passing.{passes_then}
+use Rattle.gate_journal.specs.DiskShown.{shown_by}
+use Rattle.tier_store.proofs.Lines.{then_reads}
 use Rattle.store_reopen.specs.NotOpened.{IsToldShort}
 use Rattle.store_reopen.specs.Verdict.{IsThere}
 use Rattle.store_reopen.proofs.Verdicts.{here_from, next_place, at_all, told_short}
@@ -17,10 +18,8 @@ loop-place-preserved g c =
     record {
       few = omega (arith, c.loop-place-test.true);
       there = λ tells. next_place (λ k es. All (IsThere k (g.D.Disk.files c.args.disk.now) rows) es) c.args.manifests.now c.loop-place.place m here (was.there tells)
-          (subst (λ (f : Files). All (IsThere c.loop-place.place f rows) m.entries) (was.same tells) (c.in_ok-check_store.ensures.there tells));
-      same = λ tells. c.check_store.ensures.same tells ∙ was.same tells;
-      any_moment = λ tells. passes_then _ _ _ _ _ (was.any_moment tells) (c.check_store.ensures.any_moment tells) (λ a b d left before now step. step ∙ before);
-      opened = λ tells. c.check_store.ensures.opened tells ∙ was.opened tells;
+          (subst (λ (f : Files). All (IsThere c.loop-place.place f rows) m.entries) (was.reads tells).same (c.in_ok-check_store.ensures.there tells));
+      reads = λ tells. then_reads (shown_by g.D.Disk c.args.disk.now) (shown_by g.D.Disk c.loop-place.disk) (shown_by g.D.Disk c.check_store.new.disk) (was.reads tells) (c.check_store.ensures.reads tells);
       faults = omega (arith, was.faults, c.check_store.ensures.faults);
     }
 
@@ -31,7 +30,7 @@ returns-in_err-check_store-clause-told g c tells gs seen three said same =
     let was = c.loop-place.invariant in
     let here = here_from c.args.manifests.now c.loop-place.place c.from.result m c.index-manifests-from.is c.from.ensures (omega (arith, c.requires.three, c.loop-place-test.true)) in
     let e = c.in_err-check_store.field-0.0 in
-    let short = subst (λ (f : Files). IsToldShort c.loop-place.place f c.args.rows.now m.entries e) (was.same tells) (c.in_err-check_store.ensures.told tells) in
+    let short = subst (λ (f : Files). IsToldShort c.loop-place.place f c.args.rows.now m.entries e) (was.reads tells).same (c.in_err-check_store.ensures.told tells) in
     rw (p.1, p.2) (told_short gs seen (g.D.Disk.files c.args.disk.now) c.args.rows.now c.args.manifests.now c.loop-place.place m e three c.requires.three said c.requires.of_rows same c.loop-place-test.true here (was.there tells) short)
 
 pub returns-clause-there : goal.returns-clause-there

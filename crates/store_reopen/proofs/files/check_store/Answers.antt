@@ -1,10 +1,11 @@
-use Rattle.std.proofs.Common.{◌≡◌, ℕ, List, length, Option, IfSome, Bor, ◌∙◌, subst, arith}
+use Rattle.std.proofs.Common.{◌≡◌, ℕ, List, length, Option, IfSome, Bor, subst, arith}
 use Rattle.std.specs.Iterator.{YieldsFirstBy}
 use Rattle.std.proofs.lemmas.Iterator.{YieldsList}
 use Rattle.std.proofs.lemmas.Iterator.Consumers.{YieldsList-from_first, YieldsList-turn, YieldsList-end}
 use Rattle.std.proofs.lemmas.List.{length_push}
-use Rattle.disk_model.proofs.Passing.{passes_then}
+use Rattle.gate_journal.specs.DiskShown.{shown_by}
 use Rattle.store_manifest.specs.declared.entry.Entry.{Entry}
+use Rattle.tier_store.proofs.Lines.{then_reads}
 use Rattle.store_reopen.specs.Verdict.{EndsEarly}
 use Rattle.store_reopen.proofs.Verdicts.{all_there, first_short, there_more, no_some}
 use Rattle.store_reopen.proofs.files.check_store.Goals as goal
@@ -18,7 +19,7 @@ returns-in-Some-2-clause-told g c tells =
     let t = YieldsList-turn (seen_by c.args.manifest.now.entries c.into_iter-entry-iterator.result (cc)) c.loop-entry.yielded _ c.loop-entry.yielded_by _ _ c.in-Some.entry c.in-Some.is c.next.ensures.steps in
     let short = subst (λ (o : Option ℕ). IfSome o (λ at. EndsEarly c.in-Some.entry.now.len at (g.D.Disk.files c.loop-entry.disk c.set_name.new.name))) c.in-Some-2.is (c.in_ok-at.ensures.short tells) in
     first_short c.args.place (g.D.Disk.files c.args.disk.now) (g.D.Disk.files c.loop-entry.disk) c.args.rows.now c.args.manifest.now.entries c.set_name.new.name c.in-Some-2.at (length c.loop-entry.yielded) c.in-Some.entry.now
-    (c.loop-entry.invariant.same tells) t.0 t.1 (c.loop-entry.invariant.there tells) c.in_ok-set_name.ensures short
+    (c.loop-entry.invariant.reads tells).same t.0 t.1 (c.loop-entry.invariant.there tells) c.in_ok-set_name.ensures short
 
 pub loop-entry-preserved : goal.loop-entry-preserved
 loop-entry-preserved g c =
@@ -27,10 +28,8 @@ loop-entry-preserved g c =
     record {
       there = λ tells.
           let long = c.in_ok-at.ensures.long tells none in
-          there_more c.args.place (g.D.Disk.files c.args.disk.now) (g.D.Disk.files c.loop-entry.disk) c.args.rows.now c.args.manifest.now.entries c.set_name.new.name (length c.loop-entry.yielded) _ c.in-Some.entry.now (length_push c.loop-entry.yielded c.in-Some.entry) t.0 t.1 (c.loop-entry.invariant.same tells) (c.loop-entry.invariant.there tells) c.in_ok-set_name.ensures long;
-      same = λ tells. c.shortfall.ensures.same tells ∙ c.loop-entry.invariant.same tells;
-      any_moment = λ tells. passes_then _ _ _ _ _ (c.loop-entry.invariant.any_moment tells) (c.shortfall.ensures.any_moment tells) (λ a b d was before now step. step ∙ before);
-      opened = λ tells. c.shortfall.ensures.opened tells ∙ c.loop-entry.invariant.opened tells;
+          there_more c.args.place (g.D.Disk.files c.args.disk.now) (g.D.Disk.files c.loop-entry.disk) c.args.rows.now c.args.manifest.now.entries c.set_name.new.name (length c.loop-entry.yielded) _ c.in-Some.entry.now (length_push c.loop-entry.yielded c.in-Some.entry) t.0 t.1 (c.loop-entry.invariant.reads tells).same (c.loop-entry.invariant.there tells) c.in_ok-set_name.ensures long;
+      reads = λ tells. then_reads (shown_by g.D.Disk c.args.disk.now) (shown_by g.D.Disk c.loop-entry.disk) (shown_by g.D.Disk c.shortfall.new.disk) (c.loop-entry.invariant.reads tells) (c.shortfall.ensures.reads tells);
       faults = omega (arith, c.loop-entry.invariant.faults, c.shortfall.ensures.faults);
     }
 

@@ -65,7 +65,7 @@ returns-in_err-check_files-clause-told g c tells =
     rw (p.1, p.2) (c.in_err-check_files.ensures.told tells (stores_of c.args.config.now) (g.D.Disk.files c.args.disk.now) refl (said_as (stores_of c.args.config.now) (g.D.Disk.files c.args.disk.now) c.in_ok-catalogue.catalogue.rows c.rows-rows.result.now c.in_ok-manifests.manifests.items c.deref-2.result.now c.rows-rows.ensures.value c.deref-2.ensures.value (are_said (stores_of c.args.config.now) (g.D.Disk.files c.load_catalogue.new.disk) (g.D.Disk.files c.args.disk.now) c.in_ok-catalogue.catalogue.rows c.in_ok-manifests.manifests.items refl c.in_ok-manifests.ensures.loaded.three (c.in_ok-catalogue.ensures.rows tells) (c.in_ok-manifests.ensures.loaded.said tells) c.in_ok-manifests.ensures.loaded.granularity (λ i n low own. c.load_catalogue.ensures.others tells n (λ too. other_journal (i + 1) n too own)))) (λ n other. (c.load_manifests.ensures.keeps tells).now.elsewhere n other ∙ (c.load_catalogue.ensures.keeps tells (stores_of c.args.config.now)).now.elsewhere n other))
 
 pub returns-in_err-check_files-clause-keeps : goal.returns-in_err-check_files-clause-keeps
-returns-in_err-check_files-clause-keeps g c tells = (kept_then (stores_of c.args.config.now) (shown_by g.D.Disk c.args.disk.now) (shown_by g.D.Disk c.load_manifests.new.disk) (shown_by g.D.Disk c.check_files.new.disk) (kept_then (stores_of c.args.config.now) (shown_by g.D.Disk c.args.disk.now) (shown_by g.D.Disk c.load_catalogue.new.disk) (shown_by g.D.Disk c.load_manifests.new.disk) (c.load_catalogue.ensures.keeps tells (stores_of c.args.config.now)) (c.load_manifests.ensures.keeps tells)) (kept_reading (stores_of c.args.config.now) (shown_by g.D.Disk c.load_manifests.new.disk) (shown_by g.D.Disk c.check_files.new.disk) (c.check_files.ensures.same tells) (c.check_files.ensures.any_moment tells) (c.check_files.ensures.opened tells)))
+returns-in_err-check_files-clause-keeps g c tells = (kept_then (stores_of c.args.config.now) (shown_by g.D.Disk c.args.disk.now) (shown_by g.D.Disk c.load_manifests.new.disk) (shown_by g.D.Disk c.check_files.new.disk) (kept_then (stores_of c.args.config.now) (shown_by g.D.Disk c.args.disk.now) (shown_by g.D.Disk c.load_catalogue.new.disk) (shown_by g.D.Disk c.load_manifests.new.disk) (c.load_catalogue.ensures.keeps tells (stores_of c.args.config.now)) (c.load_manifests.ensures.keeps tells)) (kept_reading (stores_of c.args.config.now) (shown_by g.D.Disk c.load_manifests.new.disk) (shown_by g.D.Disk c.check_files.new.disk) (c.check_files.ensures.reads tells).same (c.check_files.ensures.reads tells).any_moment (c.check_files.ensures.reads tells).same_opened))
 
 pub returns-clause-loaded : goal.returns-clause-loaded
 returns-clause-loaded g c =
@@ -80,8 +80,8 @@ returns-clause-loaded g c =
     record {
       stored = λ tells.
           let one = c.in_ok-manifests.ensures.catalogue tells c.in_ok-catalogue.catalogue cat.journal.0 (cat.stored tells) in
-          kept_reads IsCatalogue c.in_ok-catalogue.catalogue.journal mid new rows one (read.same tells) (read.any_moment tells) (read.opened tells);
-      kept = λ tells i m here. kept_reads (Configured m.granularity) m.journal mid new m.entries (lists.kept tells i m here) (read.same tells) (read.any_moment tells) (read.opened tells);
+          kept_reads IsCatalogue c.in_ok-catalogue.catalogue.journal mid new rows one (read.reads tells).same (read.reads tells).any_moment (read.reads tells).same_opened;
+      kept = λ tells i m here. kept_reads (Configured m.granularity) m.journal mid new m.entries (lists.kept tells i m here) (read.reads tells).same (read.reads tells).any_moment (read.reads tells).same_opened;
       said = λ tells. are_said gs (g.D.Disk.files c.load_catalogue.new.disk) seen rows c.in_ok-manifests.manifests.items refl lists.three (cat.rows tells) (lists.said tells) lists.granularity (λ i n low own. c.load_catalogue.ensures.others tells n (λ too. other_journal (i + 1) n too own));
       there = λ tells i m here.
           let passed = ap (λ (l : List ManifestState). slice_get l i) c.deref-2.ensures.value ∙ here in
@@ -101,4 +101,4 @@ returns-clause-loaded g c =
     }
 
 pub returns-clause-keeps : goal.returns-clause-keeps
-returns-clause-keeps g c tells = (kept_then (stores_of c.args.config.now) (shown_by g.D.Disk c.args.disk.now) (shown_by g.D.Disk c.load_manifests.new.disk) (shown_by g.D.Disk c.check_files.new.disk) (kept_then (stores_of c.args.config.now) (shown_by g.D.Disk c.args.disk.now) (shown_by g.D.Disk c.load_catalogue.new.disk) (shown_by g.D.Disk c.load_manifests.new.disk) (c.load_catalogue.ensures.keeps tells (stores_of c.args.config.now)) (c.load_manifests.ensures.keeps tells)) (kept_reading (stores_of c.args.config.now) (shown_by g.D.Disk c.load_manifests.new.disk) (shown_by g.D.Disk c.check_files.new.disk) (c.check_files.ensures.same tells) (c.check_files.ensures.any_moment tells) (c.check_files.ensures.opened tells)))
+returns-clause-keeps g c tells = (kept_then (stores_of c.args.config.now) (shown_by g.D.Disk c.args.disk.now) (shown_by g.D.Disk c.load_manifests.new.disk) (shown_by g.D.Disk c.check_files.new.disk) (kept_then (stores_of c.args.config.now) (shown_by g.D.Disk c.args.disk.now) (shown_by g.D.Disk c.load_catalogue.new.disk) (shown_by g.D.Disk c.load_manifests.new.disk) (c.load_catalogue.ensures.keeps tells (stores_of c.args.config.now)) (c.load_manifests.ensures.keeps tells)) (kept_reading (stores_of c.args.config.now) (shown_by g.D.Disk c.load_manifests.new.disk) (shown_by g.D.Disk c.check_files.new.disk) (c.check_files.ensures.reads tells).same (c.check_files.ensures.reads tells).any_moment (c.check_files.ensures.reads tells).same_opened))
