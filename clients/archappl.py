@@ -525,8 +525,11 @@ def run_plot(options):
     found = each.do(lambda pv: described(options.server, pv, get(options.server, pv, *words)))
     if not found:
         return each.status
-    for line in drawing.left_out(found):
+    left_out = drawing.left_out(found)
+    for line in left_out:
         print(f"archappl: {line}", file=sys.stderr)
+    if len(left_out) == len(found):
+        return 1
     # Nothing is known of what a value is in the future.
     start, end = (numpy.datetime64(min(sample_text.nanoseconds(word), now), "ns") for word in words)
     drawing.picture(found, start, end).savefig(options.out, dpi=100)
